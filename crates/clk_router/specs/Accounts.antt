@@ -1,4 +1,4 @@
--- What became of the packets of each sender, in totals.
+-- The totals of the packets of each sender.
 use Rattle.std.specs.Prelude.{ℕ, ◌-◌, ◌^◌, List, length, min}
 use Rattle.std.specs.List.{filter_map, sum_by}
 use Rattle.clk_packet.specs.declared.packet.Packet.{Packet}
@@ -8,18 +8,19 @@ use Rattle.clk_router.specs.declared.accounts.Total.{Total}
 use Rattle.clk_router.specs.declared.accounts.Account.{Account}
 use Rattle.clk_router.specs.Events.{Event, accepted_in, refused_in, evicted_in, emitted_in}
 
--- a count, which stays at 2^64 - 1 where there are more
+-- a count, which stops at 2^64 - 1
 abbrev pub capped : ℕ → ℕ
 capped n = min n (2 ^ 64 - 1)
 
+-- the length of a packet, in bytes
 abbrev pub length_of : Packet → ℕ
 length_of p = p.length
 
--- how many packets these are, and how many bytes in all
+-- how many packets these are, and how many bytes in all of them
 abbrev pub total_of : List Packet → Total
 total_of packets = record { packets = capped (length packets); bytes = capped (sum_by length_of packets) }
 
--- what became of a sender's packets in some events
+-- the totals of a sender's packets in some events
 abbrev pub account_after : List Event → SenderSpec → Account
 account_after events s = record {
   sender = s.number;

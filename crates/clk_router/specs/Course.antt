@@ -1,4 +1,4 @@
--- What has happened to a router, what it can do next, and what that comes to.
+-- What has happened to a router, what it can do next, and what its calls do.
 use Rattle.std.specs.Prelude.{◌≡◌, ℕ, ◌+◌, ◌<◌, ◌≤◌, ◌^◌, List, [], ◌∷◌, ◌++◌, length, map, fold, max, Option, Some, None, slice_get}
 use Rattle.std.specs.List.{filter_map, range_with_len}
 use Rattle.std.specs.Option.{option_map}
@@ -19,7 +19,7 @@ use Rattle.clk_router.specs.declared.limits.TheConstants.{END_OF_PACKETS}
 use Rattle.clk_router.specs.declared.queue_state.QueueState.{QueueState}
 use Rattle.clk_router.specs.Events.{Room, Setup, plan_setup, sender_numbers, Event, pulled, events_at, numbers_of, pull_in, moment_in, log_of, accepted_in, evicted_in, history, Closes}
 
--- a router as contracts see it: what it was made over, all events so far, in order, and what its devices keep of them
+-- a router as contracts see it: its setup, all events so far, in order, and what its devices keep of them
 pub record Course : Type 0 where
   pub setup : Setup
   pub events : List Event
@@ -29,7 +29,7 @@ pub record Course : Type 0 where
 abbrev pub after : Course → List Event → Course
 after c more = record { setup = c.setup; events = c.events ++ more; keeps = c.keeps }
 
--- what happened at a device
+-- the events at a device
 abbrev pub events_of : Course → ℕ → List Event
 events_of c device = events_at c.setup device c.events
 
@@ -49,7 +49,7 @@ emitted_at c device = length (emitted (log_of (events_of c device)))
 abbrev pub pulls_at : Course → ℕ → ℕ
 pulls_at c device = length (filter_map pull_in (events_of c device))
 
--- the greatest moment at which a device was pulled, or 0
+-- the latest moment of a device: the greatest at which it was pulled, or 0
 abbrev pub moment_at : Course → ℕ → ℕ
 moment_at c device = fold max 0 (filter_map moment_in (events_of c device))
 
@@ -57,36 +57,37 @@ moment_at c device = fold max 0 (filter_map moment_in (events_of c device))
 abbrev pub sender_at : Setup → ℕ → Option ℕ
 sender_at setup place = slice_get (sender_numbers setup) place
 
--- the number of the device that a queue's packets go to
+-- the number of the device that emits a queue's packets
 abbrev pub room_device : Room → ℕ
 room_device room = room.device
 
--- the number of the device that a sender's packets go to, if there is the sender and its queue
+-- the number of the device that emits a sender's packets, if the sender and its queue exist
 abbrev pub its_device : List Room → Option SenderSpec → Option ℕ
 its_device queues None = None
 its_device queues (Some s) = option_map room_device (slice_get queues s.queue)
 
--- the number of the device that the packets of the sender at a place go to
+-- the number of the device that emits the packets of the sender at a place
 abbrev pub device_at : Setup → ℕ → Option ℕ
 device_at setup place = its_device setup.queues (slice_get setup.senders place)
 
--- a device takes one more packet only if fewer than so many were accepted there and not evicted, those emitted included
+-- A device takes one more packet only if fewer packets than this were accepted there and not evicted, those that it emitted included.
 abbrev pub end_of_packets : ℕ
 end_of_packets = END_OF_PACKETS
 
--- The sender at a place can offer a packet: it is there, has offered fewer than 2^32 - 1 packets, and its device takes one more.
+-- The sender at a place can offer a packet: it exists, has offered fewer than 2^32 - 1 packets, and its device takes one more.
 pub record CanOffer (c : Course) (place : ℕ) : Type 0 where
   pub there : place < length c.setup.senders
   pub numbers : (sender : ℕ) → sender_at c.setup place ≡ Some sender → length (numbers_of sender c.events) + 1 < 2 ^ 32
   pub packets : (device : ℕ) → device_at c.setup place ≡ Some device → accepted_at c device < end_of_packets + evicted_at c device
 
--- A device can be pulled at a moment: it is there, and neither moments nor its pulls are at their end.
+-- A device can be pulled at a moment: it exists, the moment is below 2^44, and it was pulled fewer than 2^63 times.
 pub record CanPull (c : Course) (device moment : ℕ) : Type 0 where
   pub there : device < length c.setup.trees
   pub moments : moment < end_of_moments
   pub pulls : pulls_at c device < end_of_pulls
 
--- A device can be closed from a moment on: not more is left than a drain gives, and neither moments nor its pulls are near their end.
+-- A device can be drained from a moment on: it exists, no more is left than a drain emits at most, and neither moments nor its pulls are
+-- near their end.
 pub record CanClose (c : Course) (device moment : ℕ) : Type 0 where
   pub there : device < length c.setup.trees
   pub left : accepted_at c device ≤ evicted_at c device + emitted_at c device + most_left
@@ -105,7 +106,7 @@ pub record IsPulled (old new : Course) (device moment : ℕ) (got : Option Packe
   pub result : result_of (visits_of 0 visits) ≡ got
   pub goes_on : new ≡ after old (pulled device moment visits ∷ [])
 
--- A device was closed from a moment on, and these packets came out, at these moments.
+-- A device was drained from a moment on. These are the packets that it emitted, with their moments.
 pub record IsClosed (old new : Course) (device moment : ℕ) (departures : List Departure) : Type 0 where
   pub last : List Event
   pub closes : Closes device moment (events_of old device) last
@@ -113,7 +114,7 @@ pub record IsClosed (old new : Course) (device moment : ℕ) (departures : List 
   pub moments : map moment_of closes.closing ≡ range_with_len (max (moment_at old device) moment + 1) (length closes.closing)
   pub goes_on : new ≡ after old last
 
--- A queue is as it is told to be: so it was declared, and so many packets of what happened to it are held.
+-- A queue is in this state: it was declared with this kind, capacity and device, and it holds as many packets as its history leaves in it.
 pub record IsQueueState (c : Course) (number : ℕ) (queue : QueueState) : Type 0 where
   pub declared : slice_get c.setup.queues number ≡ Some (record { kind = queue.kind; capacity = queue.capacity; device = queue.device })
   pub holds : queue.held ≡ length (held (history c.setup number c.events))

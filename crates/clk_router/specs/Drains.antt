@@ -1,4 +1,4 @@
--- What is left for a device, and that a drain of it comes to its end.
+-- What is left for a device, and that a drain of it ends.
 use Rattle.std.specs.Prelude.{ℕ, ◌+◌, ◌<◌, List, length, max}
 use Rattle.clk_sched.specs.declared.visit.Visit.{Visit}
 use Rattle.clk_router.specs.Course.{Course, after, events_of, accepted_at, evicted_at, emitted_at, moment_at, CanPull, CanClose}
@@ -8,12 +8,12 @@ use Rattle.clk_router.specs.Events.{closing_pulls, CanHappen}
 abbrev pub HasLeft : Course → ℕ → Type 0
 HasLeft c device = evicted_at c device + emitted_at c device < accepted_at c device
 
--- the course after some pulls of a device, one tick apart, the first one tick after the greater of this moment and the device's latest
+-- the course after some pulls of a device, one tick apart, the first one tick after the later of this moment and the device's latest
 abbrev pub drained_by : Course → (device moment : ℕ) → List (List Visit) → Course
 drained_by c device moment pulls = after c (closing_pulls device moment (events_of c device) pulls)
 
--- A drain that can be made comes to its end: as long as packets are left after some of its pulls, the device can be pulled once more, one
--- tick later.
+-- A drain that can be made can go on to its end: as long as packets are left after some of its pulls, the device can be pulled once more,
+-- one tick later.
 abbrev pub DrainsEnd : Course → (device moment : ℕ) → Type 0
 DrainsEnd c device moment =
     CanClose c device moment → (pulls : List (List Visit)) → CanHappen c.setup (drained_by c device moment pulls).events → HasLeft (drained_by c device moment pulls) device

@@ -10,12 +10,12 @@ use Rattle.clk_router.specs.Events.{Setup, Event, log_of, history, CanHappen}
 abbrev pub is_backlogged : Setup → List Event → ℕ → Bool
 is_backlogged setup events q = nat_lt 0 (length (held (history setup q events)))
 
--- From a due moment on a pull of the device could emit a packet, and not before.
+-- A pull of the device could emit a packet at the due moment or later, and not before. There is none if no packet is left.
 abbrev pub IsDeviceDue : Course → ℕ → Option ℕ → Type 0
 IsDeviceDue c device due =
     MatchOption (slice_get c.setup.trees device) ⊥ (λ tree. IsDue (tree_could_emit tree (log_of (events_of c device)) (is_backlogged c.setup c.events)) (moment_at c device) due)
 
--- No pull of the device emits a packet before a due moment.
+-- No pull of the device emits a packet before the due moment.
 abbrev pub EmitsNoneBefore : Course → ℕ → Option ℕ → Type 0
 EmitsNoneBefore c device due =
     (new : Course) (moment : ℕ) (got : Option Packet) → IsPulled c new device moment got → CanHappen new.setup new.events → has_come due (max (moment_at c device) moment) ≡ false → got ≡ None

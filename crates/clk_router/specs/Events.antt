@@ -18,7 +18,7 @@ use Rattle.clk_tree.specs.Plan.{Planned}
 use Rattle.clk_tree.specs.PlanParts.{Queued, queues_of, senders_of, number_of}
 use Rattle.clk_packet.specs.Lists.{of_sender}
 
--- what a router knows of a queue: its kind, its capacity in packets, and the number of the device that its packets go to
+-- what a router knows of a queue: its kind, its capacity in packets, and the number of the device that emits its packets
 pub record Room : Type 0 where
   pub kind : Kind
   pub capacity : ℕ
@@ -52,7 +52,7 @@ pub data Event : Type 0 where
   offered : Packet → Offered → Event
   pulled : ℕ → ℕ → List Visit → Event
 
--- whether there is a queue, and its packets go to this device
+-- whether a queue exists, and its packets go to this device
 abbrev pub is_at : ℕ → Option Room → Bool
 is_at d None = false
 is_at d (Some room) = room.device == d
@@ -61,7 +61,7 @@ is_at d (Some room) = room.device == d
 abbrev pub is_of_device : List Room → ℕ → SenderSpec → Bool
 is_of_device queues d s = is_at d (slice_get queues s.queue)
 
--- whether an event happens at a device: it is a pull of it, or an offer of one of its senders
+-- whether an event happens at a device: it is a pull of the device, or an offer of one of its senders
 abbrev pub happens_at : Setup → ℕ → Event → Bool
 happens_at setup d (offered p outcome) = list_any (λ (s : SenderSpec). (s.number == p.sender) && is_of_device setup.queues d s) setup.senders
 happens_at setup d (pulled device moment visits) = device == d
@@ -70,7 +70,7 @@ happens_at setup d (pulled device moment visits) = device == d
 abbrev pub events_at : Setup → ℕ → List Event → List Event
 events_at setup d events = filter (happens_at setup d) events
 
--- the number of the packet that an event offered, if it is of this sender
+-- the number of the packet that an event offered, if the packet is of this sender
 abbrev pub number_from : ℕ → Event → Option ℕ
 number_from s (offered p outcome) = if p.sender == s then Some p.number else None
 number_from s (pulled device moment visits) = None
@@ -79,7 +79,7 @@ number_from s (pulled device moment visits) = None
 abbrev pub numbers_of : ℕ → List Event → List ℕ
 numbers_of s events = filter_map (number_from s) events
 
--- the visits of an event, which are none if it is an offer
+-- the visits of an event; an offer has none
 abbrev pub visits_in : Event → List Visit
 visits_in (offered p outcome) = []
 visits_in (pulled device moment visits) = visits
@@ -98,28 +98,28 @@ moment_in (pulled device moment visits) = Some moment
 abbrev pub log_of : List Event → List Visit
 log_of events = flat_map visits_in events
 
--- the packet that an event accepted, if it did
+-- the packet that an event's queue accepted, if it accepted one
 abbrev pub accepted_in : Event → Option Packet
 accepted_in (offered p (Refused q)) = None
 accepted_in (offered p outcome) = Some p
 accepted_in (pulled device moment visits) = None
 
--- the packet that an event refused, if it did
+-- the packet that an event's queue refused, if it refused one
 abbrev pub refused_in : Event → Option Packet
 refused_in (offered p (Refused q)) = Some p
 refused_in event = None
 
--- the packet that an event evicted, if it did
+-- the packet that an event's queue evicted, if it evicted one
 abbrev pub evicted_in : Event → Option Packet
 evicted_in (offered p (Evicted front)) = Some front
 evicted_in event = None
 
--- the packet that a device emitted in an event, if it did
+-- the packet that a device emitted in an event, if it emitted one
 abbrev pub emitted_in : Event → Option Packet
 emitted_in (offered p outcome) = None
 emitted_in (pulled device moment visits) = result_of (visits_of 0 visits)
 
--- what became of a sender's packets
+-- which packets of a sender were accepted, refused and evicted
 abbrev pub tally_after : List Event → ℕ → Tally
 tally_after events s = record {
   sender = s;
@@ -132,7 +132,7 @@ tally_after events s = record {
 abbrev pub sends_to : List SenderSpec → ℕ → ℕ → Bool
 sends_to senders sender q = list_any (λ (s : SenderSpec). (s.number == sender) && (s.queue == q)) senders
 
--- the visits of a device's pull, as events of a queue: only those that asked it count
+-- the visits of a device's pull, as events of a queue: only visits that asked the queue count
 abbrev pub answers_in : Option Tree → ℕ → List Visit → List QueueEvent
 answers_in None q visits = []
 answers_in (Some tree) q visits = flat_map (λ (v : Visit). if asks_queue tree q v then pull_event v.got ∷ [] else []) visits
@@ -151,7 +151,7 @@ abbrev pub IsOfDevice : ℕ → Event → Type 0
 IsOfDevice count (offered p outcome) = ⊤
 IsOfDevice count (pulled device moment visits) = device < count
 
--- an offer is of a sender of the setup
+-- an offer is by a sender of the setup
 abbrev pub IsOfSender : Setup → Event → Type 0
 IsOfSender setup (offered p outcome) = list_any (λ n. n == p.sender) (sender_numbers setup) ≡ true
 IsOfSender setup (pulled device moment visits) = ⊤
@@ -161,14 +161,14 @@ abbrev pub NamesItsOffer : Event → Type 0
 NamesItsOffer (offered p outcome) = NamesOffer p outcome
 NamesItsOffer (pulled device moment visits) = ⊤
 
--- The pulls among these events of a device are a run of its tree, pull by pull, at the counted moments.
+-- The pulls among these events of a device are a run of its tree, pull by pull. Each is made at the device's latest moment so far.
 pub record RunsTree (tree : Tree) (events : List Event) : Type 0 where
   pub run : IsRun tree (log_of events)
   pub pull_by_pull : pulls (log_of events) ≡ filter_map pull_in events
   pub moments : map moment_of (filter_map pull_in events) ≡ counted 0 (filter_map moment_in events)
 
--- These events can happen one after another: offers are of senders of the setup, each numbering its packets from 0; the pulls of each device
--- are a run of its tree; and what happened to each queue is a history of it. Pulls are of devices that are there, and refusals name the
+-- These events can happen one after another: offers are of senders of the setup, each numbering its packets from 0; the pulls of each
+-- device are a run of its tree; and what happened to each queue is a history of it. Pulls are of devices that exist, and refusals name the
 -- packets that were offered.
 pub record CanHappen (setup : Setup) (events : List Event) : Type 0 where
   pub senders : AllByRecursion (IsOfSender setup) events
@@ -183,13 +183,13 @@ abbrev pub pulls_from : ℕ → ℕ → List (List Visit) → List Event
 pulls_from device moment [] = []
 pulls_from device moment (visits ∷ more) = pulled device moment visits ∷ pulls_from device (moment + 1) more
 
--- The closing pulls of a device after its events, from a moment on: one tick apart, the first one tick after the greater of that moment
--- and the counted one.
+-- The pulls of a drain of a device after its events, from a moment on: one tick apart, the first one tick after the later of that moment
+-- and the device's latest.
 abbrev pub closing_pulls : ℕ → ℕ → List Event → List (List Visit) → List Event
 closing_pulls device moment events closing = pulls_from device (max (fold max 0 (filter_map moment_in events)) moment + 1) closing
 
--- The closing of a device after its events: pulls one tick apart, up to the one that emits the last packet that was accepted there and not
--- evicted. If no packet is left, there are none.
+-- A drain of a device after its events: pulls one tick apart, up to the one that emits the last packet that was accepted there and not
+-- evicted. If no packet is left, there are no pulls.
 pub record Closes (device moment : ℕ) (events closed : List Event) : Type 0 where
   pub closing : List (List Visit)
   pub are : closed ≡ closing_pulls device moment events closing

@@ -14,11 +14,11 @@ use Rattle.clk_tree.specs.declared.plan.parts.SenderSpec.{SenderSpec}
 use Rattle.clk_router.specs.Events.{Room, Setup, sender_numbers, Event, offered, pulled, numbers_of, sends_to, history, emitted_in, CanHappen}
 use Rattle.clk_router.specs.Settled.{offered_of, emitted_by, out_of}
 
--- whether a packet is of a sender of this queue
+-- whether a packet is by a sender to this queue
 abbrev pub is_of_queue : Setup → ℕ → Packet → Bool
 is_of_queue setup q p = sends_to setup.senders p.sender q
 
--- the packet that an event of a queue gave, if it did
+-- the packet that an event of a queue gave, if it gave one
 abbrev pub given_by : QueueEvent → Option Packet
 given_by (give p) = Some p
 given_by event = None
@@ -39,11 +39,11 @@ heads_of setup d q events = drop (length (emitted_of setup d q events)) (given_o
 abbrev pub inside_of : Setup → ℕ → ℕ → List Event → List Packet
 inside_of setup d q events = heads_of setup d q events ++ held (history setup q events)
 
--- the packet of a queue that an event emitted, if it did
+-- the packets of a queue that an event emitted: one, or none
 abbrev pub emitted_from : Setup → ℕ → Event → List Packet
 emitted_from setup q e = filter (is_of_queue setup q) (cons_option (emitted_in e) [])
 
--- A packet is evicted for another: it is the first that the queue holds, so it stands right behind the heads.
+-- A packet is evicted for another. It is the first that the queue holds, so it stands right behind the heads.
 pub record IsEvictedInside (setup : Setup) (d q : ℕ) (events more : List Event) (front p : Packet) : Type 0 where
   pub rest : List Packet
   pub held_are : held (history setup q events) ≡ front ∷ rest
@@ -61,7 +61,7 @@ pub record QueueGoesOn (setup : Setup) (events : List Event) (q : ℕ) (room : R
   pub full : (p : Packet) (outcome : Offered) → is_of_queue setup q p ≡ true → CanHappen setup (events ++ offered p outcome ∷ []) → (outcome ≡ Accepted → ⊥) → length (held (history setup q events)) ≡ room.capacity
   -- a packet that evicts goes to the end, and the first that the queue holds is gone
   pub evicted : (p front : Packet) → is_of_queue setup q p ≡ true → CanHappen setup (events ++ offered p (Evicted front) ∷ []) → IsEvictedInside setup room.device q events (events ++ offered p (Evicted front) ∷ []) front p
-  -- a pull of any device emits the first, or none of this queue
+  -- a pull of any device emits the first packet inside, or none of this queue
   pub pulled_on : (c m : ℕ) (visits : List Visit) → CanHappen setup (events ++ pulled c m visits ∷ [])
       → inside_of setup room.device q events ≡ emitted_from setup q (pulled c m visits) ++ inside_of setup room.device q (events ++ pulled c m visits ∷ [])
   -- the tree holds one head at each DRRSched above the queue at most
@@ -69,8 +69,8 @@ pub record QueueGoesOn (setup : Setup) (events : List Event) (q : ℕ) (room : R
   -- each packet was offered
   pub were_offered : AllByRecursion (λ (p : Packet). p.number < length (numbers_of p.sender events)) (inside_of setup room.device q events)
 
--- How the packets inside each queue of a setup change, in events that can happen. At first there are none. A pull emits a packet of a sender
--- of the setup, or none.
+-- The packets inside each queue of a setup change as `QueueGoesOn` says, in events that can happen. At first there are none. A pull emits a
+-- packet of a sender of the setup, or none.
 pub record QueuesGoOn (setup : Setup) : Type 0 where
   pub start : (d q : ℕ) → inside_of setup d q [] ≡ []
   pub each : (events : List Event) (q : ℕ) (room : Room) → CanHappen setup events → slice_get setup.queues q ≡ Some room → MatchOption (slice_get setup.trees room.device) ⊥ (QueueGoesOn setup events q room)

@@ -1,4 +1,4 @@
--- What happens to a router, and what its calls come to.
+-- What happens to a router, and what its calls do.
 pub mod Events
 pub mod Accounts
 pub mod Setups

@@ -26,8 +26,8 @@ offered_of events s = of_sender s (filter_map offered_in events)
 abbrev pub emitted_by : Setup → ℕ → List Event → List Packet
 emitted_by setup d events = emitted (log_of (events_at setup d events))
 
--- Where each packet of a sender is: refused, evicted, emitted by the device of its queue, held back in that tree, or held by the queue. It
--- sends to the queue `room`, whose device has this tree.
+-- Each packet of a sender was refused, evicted or emitted by the device of its queue, or is held back in that device's tree, or held by the
+-- queue. The sender sends to the queue `room`, whose device has this tree.
 pub record IsSenderAccounted (setup : Setup) (events : List Event) (s : SenderSpec) (room : Room) (tree : Tree) : Type 0 where
   -- the packets of the sender that the queue no longer holds, and those of them that it gave to the tree
   pub gone : List Packet
@@ -42,7 +42,7 @@ pub record IsSenderAccounted (setup : Setup) (events : List Event) (s : SenderSp
   pub given_are : given ≡ of_sender s.number (emitted_by setup room.device events) ++ of_sender s.number (heads tree (log_of (events_at setup room.device events)))
   -- no other device emitted a packet of the sender
   pub elsewhere : (d : ℕ) → (room.device == d) ≡ false → of_sender s.number (emitted_by setup d events) ≡ []
-  -- what all pulls emitted of the sender is what its own device emitted
+  -- the packets of the sender that all pulls emitted are those that its own device emitted
   pub counted : of_sender s.number (filter_map emitted_in events) ≡ of_sender s.number (emitted_by setup room.device events)
   -- only a FrontDropQueue evicts, and only a Queue refuses
   pub tail_drop : room.kind ≡ TailDrop → (tally_after events s.number).evicted ≡ []
@@ -74,7 +74,7 @@ pub record IsCourseSettled (setup : Setup) (events : List Event) : Type 0 where
   pub devices : (d : ℕ) → MatchOption (slice_get setup.trees d) ⊤ (IsTreeSettled setup events d)
   pub senders : AllByRecursion (λ (s : SenderSpec). MatchOption (slice_get setup.queues s.queue) ⊥ (IsSenderSettled setup events s)) setup.senders
 
--- No packet is left for any device: what was accepted there was evicted or emitted.
+-- No packet is left for any device: each packet that was accepted there was evicted or emitted.
 pub record IsDrained (c : Course) : Type 0 where
   pub none_left : (d : ℕ) → d < length c.setup.trees → accepted_at c d ≡ evicted_at c d + emitted_at c d
 
@@ -87,7 +87,7 @@ pub record IsOutOnce (setup : Setup) (events : List Event) (s : SenderSpec) (roo
   pub once : are_distinct (packet_numbers (out_of setup events s room)) ≡ true
   pub was_offered : (n : ℕ) → stands_in n (packet_numbers (out_of setup events s room)) ≡ true → n < length (offered_of events s.number)
 
--- Each packet that a sender offered is out of the router, and no other is.
+-- Each packet that a sender offered is out of the router, and none that it didn't offer is.
 abbrev pub IsAllOut : Setup → List Event → SenderSpec → Room → Type 0
 IsAllOut setup events s room = (n : ℕ) → stands_in n (packet_numbers (out_of setup events s room)) ≡ nat_lt n (length (offered_of events s.number))
 

@@ -13,13 +13,15 @@ use Rattle.clk_sched.specs.Examples.Priority.{p0_0, p1_0}
 use Rattle.clk_router.specs.Course.{Course}
 use Rattle.clk_router.specs.Events.{Setup, Event, offered, pulled}
 
--- more packets, each named by its sender and its number
+-- sender 0's second packet
 abbrev pub p0_1 : Packet
 p0_1 = packet 0 1 100 (lit≤ tt) (lit≤ tt)
 
+-- sender 1's second packet
 abbrev pub p1_1 : Packet
 p1_1 = packet 1 1 50 (lit≤ tt) (lit≤ tt)
 
+-- the first packet of sender 7, which no setup here has
 abbrev pub p7_0 : Packet
 p7_0 = packet 7 0 100 (lit≤ tt) (lit≤ tt)
 
@@ -35,59 +37,67 @@ two_devices = record {
 abbrev pub emits : ℕ → ℕ → Packet → Event
 emits d k p = pulled d 0 (asking k 0 0 0 (Some p) ∷ [])
 
+-- the course of these events over the two devices
 abbrev pub course_of : List Event → Course
 course_of events = record { setup = two_devices; events = events; keeps = keeps_nothing }
 
--- a packet is accepted, and is emitted by the device of its queue, by the other device, or not at all
+-- a packet is accepted, and its queue's device emits it
 abbrev pub emitted_there : List Event
 emitted_there = offered p0_0 Accepted ∷ emits 0 0 p0_0 ∷ []
 
+-- a packet is accepted, and the other device emits it
 abbrev pub emitted_elsewhere : List Event
 emitted_elsewhere = offered p0_0 Accepted ∷ emits 1 0 p0_0 ∷ []
 
+-- a packet is accepted, and no device emits it
 abbrev pub left_inside : List Event
 left_inside = offered p0_0 Accepted ∷ []
 
--- a packet is emitted twice, or was never offered
+-- a packet is emitted twice
 abbrev pub emitted_twice : List Event
 emitted_twice = offered p0_0 Accepted ∷ emits 0 0 p0_0 ∷ emits 0 1 p0_0 ∷ []
 
+-- a packet is emitted that was never offered
 abbrev pub never_offered : List Event
 never_offered = emits 0 0 p0_0 ∷ []
 
--- two packets are emitted in another order than they were accepted, or in one pull
+-- two packets are accepted, and emitted in the other order
 abbrev pub swapped : List Event
 swapped = offered p0_0 Accepted ∷ offered p0_1 Accepted ∷ emits 0 0 p0_1 ∷ emits 0 1 p0_0 ∷ []
 
+-- two packets are emitted in one pull
 abbrev pub two_in_a_pull : List Event
 two_in_a_pull = offered p0_0 Accepted ∷ offered p0_1 Accepted ∷ pulled 0 0 (asking 0 0 0 0 (Some p0_0) ∷ asking 0 0 0 0 (Some p0_1) ∷ []) ∷ []
 
--- a packet that was refused is emitted, or is held
+-- a packet that was refused is emitted
 abbrev pub refused_emitted : List Event
 refused_emitted = offered p0_0 Accepted ∷ offered p0_1 (Refused p0_1) ∷ emits 0 0 p0_0 ∷ emits 0 1 p0_1 ∷ []
 
+-- a packet is held as accepted, and then refused
 abbrev pub refused_held : List Event
 refused_held = offered p0_0 Accepted ∷ offered p0_0 (Refused p0_0) ∷ []
 
--- a packet is evicted that was emitted before
+-- a packet is emitted, and evicted after that
 abbrev pub evicted_emitted : List Event
 evicted_emitted = offered p1_0 Accepted ∷ emits 1 0 p1_0 ∷ offered p1_1 (Evicted p1_0) ∷ []
 
--- a Queue evicts, and a FrontDropQueue refuses
+-- a Queue evicts a packet
 abbrev pub queue_evicts : List Event
 queue_evicts = offered p0_0 Accepted ∷ offered p0_1 (Evicted p0_0) ∷ emits 0 0 p0_1 ∷ []
 
+-- a FrontDropQueue refuses a packet
 abbrev pub front_drop_refuses : List Event
 front_drop_refuses = offered p1_0 Accepted ∷ offered p1_1 (Refused p1_1) ∷ emits 1 0 p1_0 ∷ []
 
--- a packet of an unknown sender is emitted, alone or in place of one that was accepted
+-- a packet of an unknown sender is emitted
 abbrev pub stranger_emitted : List Event
 stranger_emitted = emits 0 0 p7_0 ∷ []
 
+-- a packet of an unknown sender is emitted in place of one that was accepted
 abbrev pub lost : List Event
 lost = offered p0_0 Accepted ∷ emits 0 0 p7_0 ∷ []
 
--- the device gets a packet and does not emit it, which no run has
+-- the device gets a packet and does not emit it, which no run allows
 abbrev pub got_not_emitted : List Event
 got_not_emitted = pulled 0 0 (look 0 0 0 0 true (Some p7_0) false ∷ []) ∷ []
 
@@ -99,14 +109,15 @@ one_drr = record {
   senders = record { number = 0; queue = 0 } ∷ [];
 }
 
--- it holds the first of two packets as a head, or one of an unknown sender
+-- the DRRSched holds the first of two packets as a head
 abbrev pub head_held : List Event
 head_held = offered p0_0 Accepted ∷ offered p0_1 Accepted ∷ pulled 0 0 (look 0 0 1 0 true (Some p0_0) false ∷ asking 0 0 0 0 None ∷ []) ∷ []
 
+-- the DRRSched holds a packet of an unknown sender as a head
 abbrev pub stranger_held : List Event
 stranger_held = pulled 0 0 (look 0 0 1 0 true (Some p7_0) false ∷ asking 0 0 0 0 None ∷ []) ∷ []
 
--- the queue of device 0 stands in the tree of device 1, and the other way round
+-- the queue of each device stands in the tree of the other
 abbrev pub crossed : Setup
 crossed = record { trees = queue 1 ∷ queue 0 ∷ []; queues = two_devices.queues; senders = two_devices.senders }
 
@@ -114,6 +125,6 @@ crossed = record { trees = queue 1 ∷ queue 0 ∷ []; queues = two_devices.queu
 abbrev pub without_tree : Setup
 without_tree = record { trees = []; queues = record { kind = TailDrop; capacity = 2; device = 0 } ∷ []; senders = [] }
 
--- a tree over a queue that is not there
+-- a tree over a queue that does not exist
 abbrev pub without_queue : Setup
 without_queue = record { trees = queue 0 ∷ []; queues = []; senders = [] }

@@ -1,4 +1,4 @@
-//! What became of the packets of each sender of a router, in totals.
+//! The totals of the packets of each sender of a router.
 
 ghost use Rattle.std.specs.Prelude.{◌≡◌, Some, map, slice_get, IfOk, IsOkUnless};
 ghost use Rattle.clk_packet.specs.Lists.{AreRising};
@@ -9,7 +9,7 @@ use clk_packet::{Fault, Offered, Packet};
 use clk_tree::SenderSpec;
 use std::alloc::Global;
 
-/// How many packets, and how many bytes in all of them. Each stays at 2^64 - 1 where there are more.
+/// How many packets, and how many bytes in all of them. Each count stops at 2^64 - 1.
 #[derive(Clone, Copy, Debug)]
 pub struct Total {
     /// How many packets.
@@ -18,7 +18,7 @@ pub struct Total {
     pub bytes: u64,
 }
 
-/// What became of the packets of a sender so far.
+/// The totals of a sender's packets so far.
 #[derive(Clone, Copy, Debug)]
 pub struct Account {
     /// The number of the sender.
@@ -29,9 +29,9 @@ pub struct Account {
     pub accepted: Total,
     /// What its queue refused.
     pub refused: Total,
-    /// What its queue accepted, and evicted for a later one.
+    /// What its queue accepted, and later evicted.
     pub evicted: Total,
-    /// What was emitted at a device.
+    /// What a device emitted.
     pub emitted: Total,
 }
 
@@ -40,7 +40,7 @@ impl Total {
     ghost use Rattle.clk_router.specs.Accounts.{total_of};
     ghost use Rattle.clk_router.specs.inside.Accounts.{with_packet};
 
-    /// That of no packets.
+    /// The total of no packets.
     fn none() -> Total
         ensures { result ≡ total_of [] }
     {
@@ -50,7 +50,7 @@ impl Total {
         }
     }
 
-    /// Counts a packet more.
+    /// Adds a packet to the total.
     fn add(&mut self, packet: Packet)
         ensures { self.new ≡ with_packet packet self.old }
     {
@@ -59,7 +59,7 @@ impl Total {
     }
 }
 
-/// The accounts of these senders, before they have sent anything. Fault 1 where an allocation fails.
+/// The accounts of these senders, before they have sent anything. Fault 1 if an allocation fails.
 pub fn accounts_of(alloc: Global, specs: &[SenderSpec]) -> Result<Vec<Account>, Fault>
     ensures made { IfOk result (λ accounts. accounts.items ≡ map account_made specs.now) }
     ensures fault { IsOkUnless result Fault.Memory }
@@ -78,7 +78,8 @@ pub fn accounts_of(alloc: Global, specs: &[SenderSpec]) -> Result<Vec<Account>, 
     Ok(accounts)
 }
 
-/// Counts what became of a packet that the sender whose account stands at this place offered, among those of senders of these numbers.
+/// Counts the outcome of a packet. The account of the sender that offered it stands at this place, and `numbers` has the senders of the
+/// accounts.
 pub fn count_offered(
     accounts: &mut Vec<Account>,
     numbers: &[u16],
@@ -102,7 +103,7 @@ pub fn count_offered(
     }
 }
 
-/// Counts that a packet was evicted from its queue for a later one, in the accounts of senders of these numbers.
+/// Counts that a packet was evicted from its queue for a later one. `numbers` has the senders of the accounts.
 fn count_evicted(accounts: &mut Vec<Account>, numbers: &[u16], front: Packet)
     requires alike { map account_sender accounts.old.items ≡ numbers.now }
     requires rising { AreRising numbers.now }
@@ -114,7 +115,7 @@ fn count_evicted(accounts: &mut Vec<Account>, numbers: &[u16], front: Packet)
     }
 }
 
-/// Counts the packet that was emitted at a device in a pull, if one was, in the accounts of senders of these numbers.
+/// Counts the packet that a pull emitted, if it emitted one. `numbers` has the senders of the accounts.
 pub fn count_given(accounts: &mut Vec<Account>, numbers: &[u16], got: Option<Packet>)
     requires alike { map account_sender accounts.old.items ≡ numbers.now }
     requires rising { AreRising numbers.now }
@@ -126,7 +127,7 @@ pub fn count_given(accounts: &mut Vec<Account>, numbers: &[u16], got: Option<Pac
     }
 }
 
-/// Counts that a packet was emitted at a device, in the accounts of senders of these numbers.
+/// Counts that a device emitted a packet. `numbers` has the senders of the accounts.
 fn count_emitted(accounts: &mut Vec<Account>, numbers: &[u16], packet: Packet)
     requires alike { map account_sender accounts.old.items ≡ numbers.now }
     requires rising { AreRising numbers.now }

@@ -1,4 +1,4 @@
-//! A router that keeps totals alone.
+//! A router that keeps only totals.
 
 use crate::accounts::{Account, accounts_of, count_given, count_offered};
 use crate::queue_state::QueueState;
@@ -10,9 +10,8 @@ use clk_tree::Plan;
 use std::alloc::Global;
 use std::marker::Model;
 
-/// A router that keeps nothing of the past but totals for each sender: no call allocates but the one that opens it, so that it can go on
-/// until a sender has offered 4,294,967,295 packets, or a device is at the end of its pulls or moments. What is said of it is said of all
-/// events so far.
+/// A router that keeps nothing of the past but totals for each sender. Only `open` allocates. So it can go on until a sender has offered
+/// 4,294,967,295 packets, or a device is at the end of its pulls or moments. Contracts speak of all its events so far.
 #[derive(Drop)]
 pub struct CountingRouter {
     router: Router,
@@ -50,11 +49,11 @@ impl CountingRouter {
     ghost use Rattle.clk_router.specs.Drains.{DrainsEnd};
     ghost use Rattle.clk_router.specs.Settled.{IsCourseAccounted, IsCourseSettled, AreOutOnce, AreAllOut, IsDrained};
 
-    /// The router of a plan, before anything has happened.
+    /// Opens the router of a plan, before anything has happened.
     ///
     /// # Errors
     ///
-    /// Fault 1 where an allocation fails.
+    /// Fault 1 if an allocation fails.
     pub fn open(alloc: Global, plan: &Plan) -> Result<CountingRouter, Fault>
         ensures opened { IfOk result (IsOpened plan.now keeps_nothing) }
         ensures fault { IsOkUnless result Fault.Memory }
@@ -70,7 +69,7 @@ impl CountingRouter {
         })
     }
 
-    /// The numbers of its senders, which rise. What is said of a sender by its place speaks of its place here.
+    /// The numbers of its senders, in rising order. The place of a sender is its place here.
     pub fn senders(&self) -> &[u16]
         ensures numbers { result.now ≡ sender_numbers self.now.setup }
         ensures rising { AreRising result.now }
@@ -86,14 +85,14 @@ impl CountingRouter {
         place_of(self.router.senders(), sender)
     }
 
-    /// All that has happened can happen over what it was made over: a law, which does nothing.
+    /// All that has happened can happen over its setup. A law, which does nothing.
     pub fn has_happened(&self)
         ensures { CanHappen self.now.setup self.now.events }
     {
         self.router.has_happened();
     }
 
-    /// Where each offered packet is: refused, evicted, emitted, held as a head in its device's tree, or held in its queue. It is in one of
+    /// Each offered packet was refused, evicted or emitted, or is held as a head in its device's tree, or held in its queue: in one of
     /// these places, once. If no packet is left for any device, all are settled. A law, which does nothing.
     pub fn has_account(&self)
         ensures accounted { IsCourseAccounted self.now.setup self.now.events }
@@ -112,16 +111,16 @@ impl CountingRouter {
         self.router.queues_go_on();
     }
 
-    /// A drain of a device comes to its end before moments or pulls do. If a device can be closed from a moment on, and is pulled as that
-    /// closing would pull it, it can be pulled once more as long as packets are left for it. A law, which does nothing.
+    /// A drain of a device ends before moments or pulls do. Take a device that can be drained from a moment on, and that is pulled as the
+    /// drain would pull it. It can be pulled once more as long as packets are left for it. A law, which does nothing.
     pub fn drains_end(&self)
         ensures { (device moment : ℕ) → DrainsEnd self.now device moment }
     {
         self.router.drains_end();
     }
 
-    /// Whether the sender at this place can offer a packet: it is there, has offered fewer than 4,294,967,295 packets, and its device takes
-    /// one more.
+    /// Whether the sender at this place can offer a packet: it exists, it has offered fewer than 4,294,967,295 packets, and its device
+    /// takes one more.
     pub fn can_offer(&self, place: usize) -> bool
         ensures yes { result ≡ true → CanOffer self.now place }
         ensures no { result ≡ false → CanOffer self.now place → ⊥ }
@@ -137,7 +136,7 @@ impl CountingRouter {
         self.router.sent(place)
     }
 
-    /// The sender at this place offers its next packet, of this length in bytes, to its queue. Returns the packet, and what became of it.
+    /// The sender at this place offers its next packet, of this length in bytes, to its queue. Returns the packet and the outcome.
     pub fn offer(&mut self, place: usize, length: u16) -> (Packet, Offered)
         requires can { CanOffer self.old place }
         requires has_length { 1 ≤ length }
@@ -151,7 +150,7 @@ impl CountingRouter {
         (packet, outcome)
     }
 
-    /// How many devices it has.
+    /// How many devices it has, one at least.
     pub fn devices(&self) -> usize
         ensures count { result ≡ length self.now.setup.trees }
         ensures some { 1 ≤ result }
@@ -160,7 +159,8 @@ impl CountingRouter {
         self.router.devices()
     }
 
-    /// Whether a device can be pulled at this moment: it is there, and neither moments nor its pulls are at their end.
+    /// Whether a device can be pulled at this moment, in ticks: it exists, the moment is below 2^44, and it was pulled fewer than 2^63
+    /// times.
     pub fn can_pull(&self, device: u16, moment: u64) -> bool
         ensures yes { result ≡ true → CanPull self.now device moment }
         ensures no { result ≡ false → CanPull self.now device moment → ⊥ }
@@ -168,7 +168,7 @@ impl CountingRouter {
         self.router.can_pull(device, moment)
     }
 
-    /// Pulls a device once, at this moment in ticks or, where that is later, at the greatest so far.
+    /// Pulls a device once, at this moment in ticks, or at the device's latest moment if that is later.
     pub fn pull(&mut self, device: u16, moment: u64) -> Option<Packet>
         requires can { CanPull self.old device moment }
         ensures pulled { IsPulled self.old self.new device moment result }
@@ -179,9 +179,9 @@ impl CountingRouter {
         got
     }
 
-    /// The earliest moment, in ticks, at which a pull of a device could emit a packet, as things stand: the greatest moment at which the device
-    /// was pulled, or a later one if every packet is below a Shaper that has no room for it yet. `None` if no packet is left for the device. No
-    /// pull before that moment emits a packet. A pull at that moment may still emit none, while a DRRSched saves up for the packet.
+    /// The earliest moment, in ticks, at which a pull of a device could emit a packet, as things stand: the device's latest moment, or the
+    /// next tick if every packet is below a Shaper that has no token for it yet. `None` if no packet is left for the device. No pull before
+    /// that moment emits a packet. A pull at that moment may still emit none, while a DRRSched saves up for the packet.
     pub fn due(&self, device: u16) -> Option<u64>
         requires { device < length self.now.setup.trees }
         ensures due { IsDeviceDue self.now device result }
@@ -190,7 +190,7 @@ impl CountingRouter {
         self.router.due(device)
     }
 
-    /// The greatest moment at which a device was pulled, in ticks, and 0 before its first pull.
+    /// The device's latest moment, in ticks: the greatest at which it was pulled, and 0 before its first pull.
     pub fn moment(&self, device: u16) -> u64
         requires { device < length self.now.setup.trees }
         ensures moment { result ≡ moment_at self.now device }
@@ -207,7 +207,7 @@ impl CountingRouter {
         self.router.left(device)
     }
 
-    /// Whether no packet is left for any device. Then all that was offered is settled.
+    /// Whether no packet is left for any device. Then all packets that were offered are settled.
     pub fn is_drained(&self) -> bool
         ensures yes { result ≡ true → IsDrained self.now }
         ensures no { result ≡ false → IsDrained self.now → ⊥ }
@@ -225,7 +225,7 @@ impl CountingRouter {
         self.router.queues()
     }
 
-    /// A queue, as it is now.
+    /// The queue with this number, as it is now.
     pub fn queue(&self, number: u16) -> QueueState
         requires { number < length self.now.setup.queues }
         ensures state { IsQueueState self.now number result }
@@ -235,7 +235,7 @@ impl CountingRouter {
         self.router.queue(number)
     }
 
-    /// What became of the packets of each sender so far, by its place.
+    /// The totals of the packets of each sender so far, by its place.
     pub fn accounts(&self) -> &[Account]
         ensures { result.now ≡ map (account_after self.now.events) self.now.setup.senders }
     {

@@ -8,16 +8,16 @@ use clk_packet::Fault;
 use clk_sched::{Keeps, Kernel, Tree};
 use std::alloc::Global;
 
-/// A device, and what was done at it.
+/// A device, with the log of its pulls.
 #[derive(Drop)]
 pub struct Device {
-    /// Its tree, with the log of its pulls and the packets that were emitted, as far as these are kept.
+    /// Its tree, with the log of its pulls and the packets that it emitted, as far as these are kept.
     pub session: Kernel,
     /// How many packets its queues accepted and didn't evict for later ones.
     pub kept: u64,
 }
 
-/// A device for each of these trees, before it is pulled, which keeps this of the past. Fault 1 where an allocation fails.
+/// A device for each of these trees, before its first pull. `keeps` says what it keeps of the past. Fault 1 if an allocation fails.
 pub fn devices_of(alloc: Global, trees: Vec<Tree>, keeps: Keeps) -> Result<Vec<Device>, Fault>
     requires each { AllByRecursion CanStand trees.items }
     ensures made { IfOk result (λ devices. devices.items ≡ map (device_made keeps) trees.items) }

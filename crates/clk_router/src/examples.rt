@@ -15,9 +15,9 @@ pub fn event_examples()
     ensures not_stranger_offers { ¬ (CanHappen one_queue stranger_offers) }
 {}
 
-/// A course is settled whose one packet is emitted by the device of its queue. It is not settled where the packet is emitted elsewhere or
-/// not at all, where a refused packet is emitted, where packets are swapped, where a queue of either kind does what the other does, where
-/// a stranger's packet is emitted or held, and where a log is no run.
+/// A course is settled if its one packet is emitted by the device of its queue. It is not settled if the packet is emitted elsewhere or not
+/// at all, a refused packet is emitted, packets are swapped, a queue of either kind does what only the other kind does, a packet of an
+/// unknown sender is emitted or held, or a log is no run.
 pub fn settled_examples()
     ensures emitted_there { IsCourseSettled two_devices emitted_there }
     ensures not_emitted_elsewhere { ¬ (IsCourseSettled two_devices emitted_elsewhere) }
@@ -33,9 +33,9 @@ pub fn settled_examples()
     ensures not_drained { ¬ (IsDrained (course_of left_inside)) }
 {}
 
-/// A course is accounted for that has one packet as a head and one in the queue. It is not where a packet is emitted elsewhere, was never
-/// accepted, is emitted in another order, in one pull with another, or after it was evicted, and where a queue of either kind does what
-/// the other does.
+/// A course is accounted for if one packet is held as a head and one in the queue. It is not accounted for if a packet is emitted
+/// elsewhere, was never accepted, is emitted out of order, together with another in one pull, or after it was evicted, or if a queue of
+/// either kind does what only the other kind does.
 pub fn accounted_examples()
     ensures head_held { IsCourseAccounted one_drr head_held }
     ensures not_emitted_elsewhere { ¬ (IsCourseAccounted two_devices emitted_elsewhere) }
@@ -47,9 +47,9 @@ pub fn accounted_examples()
     ensures not_front_drop_refuses { ¬ (IsCourseAccounted two_devices front_drop_refuses) }
 {}
 
-/// Which packets are out of a router, and which are inside: the head of a queue, and then what the queue holds. No packet is out twice, is
-/// out and was never offered, is out and inside, or is neither. Queues do not go on over a setup where a queue stands in the tree of
-/// another device, where its device has no tree, or where a tree stands over a queue that is not there.
+/// Which packets are out of a router, and which are inside: first the head of a queue, then what the queue holds. No packet is out twice,
+/// is out though it was never offered, is both out and inside, or is neither. `QueuesGoOn` doesn't hold if a queue stands in the tree of
+/// another device, its device has no tree, or a tree stands over a queue that doesn't exist.
 pub fn out_examples()
     ensures head_is_inside { inside_of one_drr 0 0 head_held ≡ p0_0 ∷ p0_1 ∷ [] }
     ensures head_is_first { heads_of one_drr 0 0 head_held ≡ p0_0 ∷ [] }

@@ -1,4 +1,4 @@
-//! The parts of a router, and how they go on.
+//! The parts of a router, and their steps.
 
 ghost use Rattle.std.specs.Prelude.{◌≡◌, map, IfOk, IsOkUnless};
 ghost use Rattle.clk_tree.specs.PlanParts.{queued};
@@ -20,11 +20,11 @@ pub struct Parts {
     pub devices: Vec<Device>,
     /// The queues, by number.
     pub queues: Queues,
-    /// The device that the packets of each queue go to.
+    /// The device that emits the packets of each queue.
     pub paths: Vec<u16>,
     /// The senders, by rising numbers.
     pub senders: Vec<Sender>,
-    /// The number of each.
+    /// The number of each sender.
     pub numbers: Vec<u16>,
     /// What the devices keep.
     keeps: Keeps,
@@ -40,7 +40,7 @@ impl Parts {
     ghost use Rattle.clk_router.specs.Events.{Setup, Event, offered, setup_of};
     ghost use Rattle.clk_router.specs.inside.Parts.{CanStand, CanOfferAt, CanPullAt, CanCloseAt, CanCount, Counts, CountsLeft, IsAt, IsWhole, KeepsAs, LeadsOnByPull, LeadsOnByPulls, ClosesBy, Stand, device_log, device_emitted, IsSessionDue};
 
-    /// The parts of a router before anything has happened, whose devices keep this of the past. Fault 1 where an allocation fails.
+    /// The parts of a router before anything has happened. `keeps` says what its devices keep of the past. Fault 1 if an allocation fails.
     pub fn new(
         alloc: Global,
         trees: Vec<Tree>,
@@ -68,7 +68,7 @@ impl Parts {
         })
     }
 
-    /// The sender at this place offers its next packet, of this length in bytes, to its queue.
+    /// The sender at this place offers its next packet, of this length in bytes, to its queue. Returns the packet and the outcome.
     pub fn offer(&mut self, place: usize, length: u16) -> (Packet, Offered)
         requires can { CanOfferAt self.old place }
         requires has_length { 1 ≤ length }
@@ -77,7 +77,7 @@ impl Parts {
         ensures leads { (setup : Setup) (events : _) → IsAt setup events self.old → IsAt setup (events ++ offered result.0 result.1 ∷ []) self.new }
         ensures keeps { self.new.keeps ≡ self.old.keeps }
     {
-        // What happened to the queue stays a history of it by this law, which does nothing.
+        // The history of the queue goes on by this event, by this law, which does nothing.
         calls_are_history();
         let sender = &mut self.senders[place];
         let queue = sender.queue;
@@ -87,7 +87,7 @@ impl Parts {
         (packet, outcome)
     }
 
-    /// Counts what became of a packet at a queue.
+    /// Counts an offer with this outcome at the device of a queue.
     fn count(&mut self, queue: u16, outcome: Offered)
         requires there { queue < length self.old.paths.items }
         requires counts { (device : _) → slice_get self.old.paths.items queue ≡ Some device → CanCount (slice_get self.old.devices.items device) }
@@ -99,8 +99,8 @@ impl Parts {
         }
     }
 
-    /// Pulls a device once, at this moment in ticks or, where that is later, at the greatest so far. Fault 1 where an allocation for
-    /// what it keeps fails.
+    /// Pulls a device once, at this moment in ticks, or at the device's latest moment if that is later. Fault 1 if an allocation for what
+    /// it keeps fails.
     pub fn pull(&mut self, device: u16, moment: u64) -> Result<Option<Packet>, Fault>
         requires can { CanPullAt self.old.keeps (slice_get self.old.devices.items device) }
         requires moment { moment < end_of_moments }
@@ -110,7 +110,7 @@ impl Parts {
         ensures unkept { self.old.keeps ≡ keeps_nothing → IsOk result }
         ensures stays { OnErr result ((setup : Setup) (events : _) → IsAt setup events self.old → IsAt setup events self.new) }
     {
-        // What happened to the queues stays a history of each by this law, which does nothing.
+        // The histories of the queues go on by this pull, by this law, which does nothing.
         calls_are_history();
         let session = &mut self.devices[usize::from(device)].session;
         session.pull(&mut self.queues, moment)
@@ -133,8 +133,8 @@ impl Parts {
         self.devices[usize::from(device)].session.due(&self.queues)
     }
 
-    /// Pulls a device, one tick apart and the first time one tick after the greater of this moment and the greatest so far, until all
-    /// packets that are left for it in queues and heads were emitted. Returns these. Fault 1 where an allocation fails.
+    /// Drains a device: pulls it one tick apart, the first time one tick after the later of this moment and the device's latest, until all
+    /// packets that are left for it are emitted. Returns these packets, each with its moment. Fault 1 if an allocation fails.
     pub fn close(
         &mut self,
         alloc: Global,
@@ -149,8 +149,8 @@ impl Parts {
         ensures keeps { self.new.keeps ≡ self.old.keeps }
         ensures fault { IsOkUnless result Fault.Memory }
     {
-        // What happened to the queues stays a history of each, and what they hold and the heads is what is left, by these laws, which
-        // do nothing.
+        // The histories of the queues go on by these pulls, and the queues and the heads hold what is left, by these laws, which do
+        // nothing.
         calls_are_history();
         runs_go_on();
         runs_conserve_packets();
@@ -159,7 +159,7 @@ impl Parts {
         session.close(alloc, &mut self.queues, left, moment)
     }
 
-    /// What the devices kept: their visits and the packets that each emitted. Fault 1 where an allocation for the two lists fails.
+    /// What the devices kept: the visits of each, and the packets that each emitted. Fault 1 if an allocation for the two lists fails.
     pub fn into_kept(self, alloc: Global) -> Result<(Vec<Vec<Visit>>, Vec<Vec<Packet>>), Fault>
         requires { AllByRecursion (KeepsAs self.keeps) self.devices.items }
         ensures visits { IfOk result (λ kept. self.keeps.visits ≡ true → map (λ l. l.items) kept.0.items ≡ map device_log self.devices.items) }
@@ -177,7 +177,7 @@ impl Parts {
     }
 }
 
-/// The devices that the packets of these queues go to. Fault 1 where an allocation fails.
+/// The devices that emit the packets of these queues. Fault 1 if an allocation fails.
 fn paths_of(alloc: Global, specs: &[QueueSpec]) -> Result<Vec<u16>, Fault>
     ensures made { IfOk result (λ paths. paths.items ≡ map path_made (map queued specs.now)) }
     ensures fault { IsOkUnless result Fault.Memory }

@@ -12,7 +12,7 @@ use clk_packet::{Offered, Packet};
 use clk_tree::Plan;
 use std::marker::Model;
 
-/// All that has happened to a router, and over what, which contracts alone read: ghost state, which costs no memory.
+/// The setup of a router and all its events: ghost state, which only contracts read and which takes no memory.
 #[derive(Drop)]
 pub struct Past {
     /// What the router was made over.
@@ -28,14 +28,14 @@ impl Model for Past {
 unsafe impl Send for Past {}
 
 impl Past {
-    /// Nothing, over nothing.
+    /// No events, over an empty setup.
     pub fn none() -> Past
         ensures { result ≡ record { setup = nothing; events = [] } }
     {
         Past {}
     }
 
-    /// Nothing has happened yet over a plan, of which these are the parts.
+    /// Begins over a plan, whose parts these are: nothing has happened yet.
     pub fn begin(&mut self, plan: &Plan, parts: &Parts)
         ensures { self.new ≡ record { setup = plan_setup (trees_in parts.now) plan.now; events = [] } }
     {}
@@ -45,12 +45,12 @@ impl Past {
         ensures { self.new ≡ record { setup = self.old.setup; events = self.old.events ++ offered packet.now outcome.now ∷ [] } }
     {}
 
-    /// The device of this number, which is as it is now, was pulled once, at this moment.
+    /// The device with this number was pulled once, at this moment. `device` is its state now.
     pub fn pulled(&mut self, number: &u16, moment: &u64, device: &Device)
         ensures { self.new ≡ record { setup = self.old.setup; events = self.old.events ++ pull_shown self.old.setup self.old.events number.now moment.now device.now.session } }
     {}
 
-    /// The device of this number, which is as it is now, was closed, from this moment on.
+    /// The device with this number was drained, from this moment on. `device` is its state now.
     pub fn closed(&mut self, number: &u16, moment: &u64, device: &Device)
         ensures { self.new ≡ record { setup = self.old.setup; events = self.old.events ++ pulls_shown self.old.setup self.old.events number.now moment.now device.now.session } }
     {}

@@ -13,22 +13,23 @@ use clk_tree::QueueSpec;
 use memchr::memchr;
 use std::alloc::Global;
 
-/// The mark of a queue that may hold a packet, and that of one that holds none.
+/// The mark of a queue that may hold a packet.
 const FILLED: u8 = 1;
 
+/// The mark of a queue that holds no packet.
 const IDLE: u8 = 0;
 
 /// The queues, by number.
 #[derive(Drop)]
 pub struct Queues {
     pub rings: Vec<Ring>,
-    // A mark for each, by which queues that hold nothing are skipped.
+    // A mark for each queue. Queues that hold nothing are skipped by their marks.
     marks: Vec<u8>,
     ghost marked: { AreMarked rings.items marks.items },
 }
 
 impl Queues {
-    /// Empty queues of the kinds and capacities of these. Fault 1 where an allocation fails.
+    /// Empty queues, with the kinds and capacities of these. Fault 1 if an allocation fails.
     pub fn new(alloc: Global, specs: &[QueueSpec]) -> Result<Queues, Fault>
         requires capacities { AllByRecursion HasCapacity (map queued specs.now) }
         ensures made { IfOk result (λ queues. queues.rings.items ≡ map queue_made (map queued specs.now)) }
@@ -43,7 +44,7 @@ impl Queues {
         Ok(Queues { rings, marks })
     }
 
-    /// Offers a packet to a queue that is there.
+    /// Offers a packet to a queue that exists.
     pub fn offer(&mut self, queue: u16, packet: Packet) -> Offered
         requires is_there { queue < length self.old.rings.items }
         ensures { OffersAt self.old.rings.items queue packet result self.new.rings.items }
@@ -75,7 +76,7 @@ impl Ask for Queues {
 
     fn idle_from(&self, leaf: u16, count: u16) -> u16 {
         let number = usize::from(leaf);
-        // Most often the first may hold a packet, and to see that its mark says so takes less time than a search.
+        // Most often the first queue may hold a packet, and to read its mark takes less time than a search.
         if number >= self.marks.len() || self.marks[number] == FILLED {
             return 0;
         }
@@ -95,7 +96,7 @@ impl Backlog for Queues {
     }
 }
 
-/// How many of these marks stand before the first of a queue that may hold a packet.
+/// How many of these marks stand before the first mark of a queue that may hold a packet.
 fn count_idle(marks: &[u8]) -> usize
     ensures within { result ≤ length marks.now }
     ensures idle { (k : ℕ) → k < result → slice_index marks.now k ≢ FILLED }

@@ -20,8 +20,8 @@ use clk_tree::Plan;
 use std::alloc::Global;
 use std::marker::Model;
 
-/// The senders, the queues and the devices of a plan, and what they hold. What is said of it is said of all events so far: packets that
-/// were offered, and pulls of devices.
+/// The senders, the queues and the devices of a plan, and what they hold. Contracts speak of all its events so far: offers of packets, and
+/// pulls of devices.
 #[derive(Drop)]
 pub struct Router {
     parts: Parts,
@@ -57,12 +57,12 @@ impl Router {
     ghost use Rattle.clk_router.specs.Drains.{DrainsEnd};
     ghost use Rattle.clk_router.specs.Settled.{IsCourseAccounted, IsCourseSettled, AreOutOnce, AreAllOut, IsDrained};
 
-    /// The router of a plan, before anything has happened, whose devices keep this of the past. Visits that they keep packed can't be had
-    /// from it.
+    /// Opens the router of a plan, before anything has happened. `keeps` says what its devices keep of the past. Visits that they keep
+    /// packed can't be taken out of it.
     ///
     /// # Errors
     ///
-    /// Fault 1 where an allocation fails.
+    /// Fault 1 if an allocation fails.
     pub fn open(alloc: Global, plan: &Plan, keeps: Keeps) -> Result<Router, Fault>
         ensures opened { IfOk result (IsOpened plan.now keeps) }
         ensures fault { IsOkUnless result Fault.Memory }
@@ -77,7 +77,7 @@ impl Router {
         Ok(Router { parts, past })
     }
 
-    /// The numbers of its senders, which rise. What is said of a sender by its place speaks of its place here.
+    /// The numbers of its senders, in rising order. The place of a sender is its place here.
     pub fn senders(&self) -> &[u16]
         ensures numbers { result.now ≡ sender_numbers self.now.setup }
         ensures rising { AreRising result.now }
@@ -85,7 +85,7 @@ impl Router {
         self.parts.numbers.as_slice()
     }
 
-    /// How many devices it has.
+    /// How many devices it has, one at least.
     pub fn devices(&self) -> usize
         ensures count { result ≡ length self.now.setup.trees }
         ensures some { 1 ≤ result }
@@ -94,14 +94,14 @@ impl Router {
         self.parts.devices.len()
     }
 
-    /// All that has happened can happen over what it was made over: a law, which does nothing.
+    /// All that has happened can happen over its setup. A law, which does nothing.
     pub fn has_happened(&self)
         ensures { CanHappen self.now.setup self.now.events }
     {
         let _ = &self.parts;
     }
 
-    /// Where each offered packet is: refused, evicted, emitted, held as a head in its device's tree, or held in its queue. It is in one of
+    /// Each offered packet was refused, evicted or emitted, or is held as a head in its device's tree, or held in its queue: in one of
     /// these places, once. If no packet is left for any device, all are settled. A law, which does nothing.
     pub fn has_account(&self)
         ensures accounted { IsCourseAccounted self.now.setup self.now.events }
@@ -125,8 +125,8 @@ impl Router {
         let _ = &self.parts;
     }
 
-    /// A drain of a device comes to its end before moments or pulls do. If a device can be closed from a moment on, and is pulled as that
-    /// closing would pull it, it can be pulled once more as long as packets are left for it. A law, which does nothing.
+    /// A drain of a device ends before moments or pulls do. Take a device that can be drained from a moment on, and that is pulled as the
+    /// drain would pull it. It can be pulled once more as long as packets are left for it. A law, which does nothing.
     pub fn drains_end(&self)
         ensures { (device moment : ℕ) → DrainsEnd self.now device moment }
     {
@@ -137,8 +137,8 @@ impl Router {
         let _ = &self.parts;
     }
 
-    /// Whether the sender at this place can offer a packet: it is there, has offered fewer than 4,294,967,295 packets, and its device takes
-    /// one more.
+    /// Whether the sender at this place can offer a packet: it exists, it has offered fewer than 4,294,967,295 packets, and its device
+    /// takes one more.
     pub fn can_offer(&self, place: usize) -> bool
         ensures yes { result ≡ true → CanOffer self.now place }
         ensures no { result ≡ false → CanOffer self.now place → ⊥ }
@@ -161,7 +161,7 @@ impl Router {
         self.parts.senders[place].sent
     }
 
-    /// The sender at this place offers its next packet, of this length in bytes, to its queue. Returns the packet, and what became of it.
+    /// The sender at this place offers its next packet, of this length in bytes, to its queue. Returns the packet and the outcome.
     pub fn offer(&mut self, place: usize, length: u16) -> (Packet, Offered)
         requires can { CanOffer self.old place }
         requires has_length { 1 ≤ length }
@@ -174,7 +174,8 @@ impl Router {
         (packet, outcome)
     }
 
-    /// Whether a device can be pulled at this moment: it is there, and neither moments nor its pulls are at their end.
+    /// Whether a device can be pulled at this moment, in ticks: it exists, the moment is below 2^44, and it was pulled fewer than 2^63
+    /// times.
     pub fn can_pull(&self, device: u16, moment: u64) -> bool
         ensures yes { result ≡ true → CanPull self.now device moment }
         ensures no { result ≡ false → CanPull self.now device moment → ⊥ }
@@ -188,11 +189,11 @@ impl Router {
         its.session.pulls() < END_OF_PULLS
     }
 
-    /// Pulls a device once, at this moment in ticks or, where that is later, at the greatest so far.
+    /// Pulls a device once, at this moment in ticks, or at the device's latest moment if that is later.
     ///
     /// # Errors
     ///
-    /// Fault 1 where an allocation for what the devices keep fails, which never happens where they keep nothing. Then nothing has happened.
+    /// Fault 1 if an allocation for what the devices keep fails. Then nothing has happened. It never fails if they keep nothing.
     pub fn pull(&mut self, device: u16, moment: u64) -> Result<Option<Packet>, Fault>
         requires can { CanPull self.old device moment }
         ensures pulled { IfOk result (IsPulled self.old self.new device moment) }
@@ -206,9 +207,9 @@ impl Router {
         Ok(got)
     }
 
-    /// The earliest moment, in ticks, at which a pull of a device could emit a packet, as things stand: the greatest moment at which the device
-    /// was pulled, or a later one if every packet is below a Shaper that has no room for it yet. `None` if no packet is left for the device. No
-    /// pull before that moment emits a packet. A pull at that moment may still emit none, while a DRRSched saves up for the packet.
+    /// The earliest moment, in ticks, at which a pull of a device could emit a packet, as things stand: the device's latest moment, or the
+    /// next tick if every packet is below a Shaper that has no token for it yet. `None` if no packet is left for the device. No pull before
+    /// that moment emits a packet. A pull at that moment may still emit none, while a DRRSched saves up for the packet.
     pub fn due(&self, device: u16) -> Option<u64>
         requires { device < length self.now.setup.trees }
         ensures due { IsDeviceDue self.now device result }
@@ -219,12 +220,12 @@ impl Router {
         self.parts.due(device)
     }
 
-    /// Closes a device: pulls it one tick apart and the first time one tick after the greater of this moment and the greatest so far,
-    /// until all that was accepted at it was evicted or emitted. Returns what was emitted in the closing.
+    /// Drains a device: pulls it one tick apart, the first time one tick after the later of this moment and the device's latest, until all
+    /// packets that were accepted at it are evicted or emitted. Returns the packets that these pulls emitted, each with its moment.
     ///
     /// # Errors
     ///
-    /// Fault 1 where an allocation fails. Then it holds the pulls that were made.
+    /// Fault 1 if an allocation fails. Then it holds the pulls that were made.
     pub fn close(
         &mut self,
         alloc: Global,
@@ -245,7 +246,7 @@ impl Router {
         departures
     }
 
-    /// The greatest moment at which a device was pulled, in ticks, and 0 before its first pull.
+    /// The device's latest moment, in ticks: the greatest at which it was pulled, and 0 before its first pull.
     pub fn moment(&self, device: u16) -> u64
         requires { device < length self.now.setup.trees }
         ensures moment { result ≡ moment_at self.now device }
@@ -262,7 +263,7 @@ impl Router {
         self.parts.paths.len()
     }
 
-    /// A queue, as it is now.
+    /// The queue with this number, as it is now.
     pub fn queue(&self, number: u16) -> QueueState
         requires { number < length self.now.setup.queues }
         ensures state { IsQueueState self.now number result }
@@ -290,14 +291,14 @@ impl Router {
         self.parts.left(device)
     }
 
-    /// Whether no packet is left for any device. Then all that was offered is settled.
+    /// Whether no packet is left for any device. Then all packets that were offered are settled.
     pub fn is_drained(&self) -> bool
         ensures yes { result ≡ true → IsDrained self.now }
         ensures no { result ≡ false → IsDrained self.now → ⊥ }
         ensures settled { result ≡ true → IsCourseSettled self.now.setup self.now.events }
         ensures all_out { result ≡ true → AreAllOut self.now.setup self.now.events }
     {
-        // Where nothing is left all is settled, by this law, which does nothing.
+        // If nothing is left, all packets are settled, by this law, which does nothing.
         self.has_account();
         for device in 0..self.devices() {
             if self.left(device as u16) > 0 {
@@ -307,12 +308,12 @@ impl Router {
         true
     }
 
-    /// What its devices kept: the visits of each, and the packets that it emitted, in order. Allocates two lists of as many members as
-    /// there are devices.
+    /// What its devices kept: the visits of each, and the packets that each emitted, in order. Allocates two lists with a member for each
+    /// device.
     ///
     /// # Errors
     ///
-    /// Fault 1 where an allocation fails.
+    /// Fault 1 if an allocation fails.
     pub fn into_kept(self, alloc: Global) -> Result<(Vec<Vec<Visit>>, Vec<Vec<Packet>>), Fault>
         ensures visits { IfOk result (λ kept. self.keeps.visits ≡ true → map (λ l. l.items) kept.0.items ≡ logs_of self.setup self.events) }
         ensures packets { IfOk result (λ kept. self.keeps.packets ≡ true → map (λ l. l.items) kept.1.items ≡ map emitted (logs_of self.setup self.events)) }
@@ -322,7 +323,7 @@ impl Router {
     }
 }
 
-/// The tree of each device of a plan. Fault 1 where an allocation fails.
+/// The tree of each device of a plan. Fault 1 if an allocation fails.
 fn trees_of(alloc: Global, plan: &Plan) -> Result<Vec<Tree>, Fault>
     ensures trees { IfOk result (λ trees. AreTreesOf plan.now trees.items) }
     ensures each { IfOk result (λ trees. AllByRecursion CanStand trees.items) }

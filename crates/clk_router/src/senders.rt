@@ -25,7 +25,7 @@ impl Sender {
     ghost use Rattle.std.specs.Prelude.{◌≡◌, ◌≤◌, ◌+◌, ◌<◌, ◌^◌};
     ghost use Rattle.clk_router.specs.inside.Parts.{sent_one_more};
 
-    /// Its next packet, of this length in bytes, which is counted.
+    /// Its next packet, of this length in bytes. Counts it.
     pub fn next_packet(&mut self, length: u16) -> Packet
         requires has_length { 1 ≤ length }
         requires room { self.old.sent + 1 < 2 ^ 32 }
@@ -44,7 +44,7 @@ impl Sender {
     }
 }
 
-/// These senders, before they have sent anything. Fault 1 where an allocation fails.
+/// These senders, before they have sent anything. Fault 1 if an allocation fails.
 pub fn senders_of(alloc: Global, specs: &[SenderSpec]) -> Result<Vec<Sender>, Fault>
     ensures made { IfOk result (λ senders. senders.items ≡ map sender_made specs.now) }
     ensures fault { IsOkUnless result Fault.Memory }
@@ -60,7 +60,7 @@ pub fn senders_of(alloc: Global, specs: &[SenderSpec]) -> Result<Vec<Sender>, Fa
     Ok(senders)
 }
 
-/// The numbers of these senders. Fault 1 where an allocation fails.
+/// The numbers of these senders. Fault 1 if an allocation fails.
 pub fn numbers_of(alloc: Global, specs: &[SenderSpec]) -> Result<Vec<u16>, Fault>
     ensures made { IfOk result (λ numbers. numbers.items ≡ map number_of specs.now) }
     ensures fault { IsOkUnless result Fault.Memory }
@@ -72,19 +72,19 @@ pub fn numbers_of(alloc: Global, specs: &[SenderSpec]) -> Result<Vec<u16>, Fault
     Ok(numbers)
 }
 
-/// The place of a number among these, which rise, if it is one of them.
+/// The place of a number in this rising list, if it is there.
 pub fn place_of(numbers: &[u16], number: u16) -> Option<u16>
     requires rising { AreRising numbers.now }
     ensures found { IfSome result (λ place. slice_get numbers.now place ≡ Some number) }
     ensures missing { result ≡ None → list_any (λ n. n == number) numbers.now ≡ false }
 {
-    // Numbers without gaps are places.
+    // If numbers have no gaps, each is its own place.
     if let Some(here) = numbers.get(usize::from(number)) {
         if *here == number {
             return Some(number);
         }
     }
     let place = numbers.binary_search(&number).ok()?;
-    // It fits, since numbers that rise are no less than their places.
+    // It fits, since rising numbers are no less than their places.
     Some(place as u16)
 }

@@ -1,4 +1,4 @@
--- A setup over which each closing comes to its end.
+-- A setup over which each drain comes to its end.
 use Rattle.std.specs.Prelude.{◌≡◌, ℕ, ◌<◌, ◌≤◌, ◌^◌, true, slice_get, Some}
 use Rattle.clk_packet.specs.Lists.{stands_in, are_distinct, AreRising}
 use Rattle.clk_sched.specs.Bound.{closing_bound}
@@ -7,19 +7,18 @@ use Rattle.clk_sched.specs.Tree.{Tree, root, leaves, IsSound}
 use Rattle.clk_router.specs.Events.{Setup, sender_numbers, is_at}
 use Rattle.clk_router.specs.Setups.{IsApart}
 
--- The queues of a device over a setup are the leaves of its tree, in which none stands twice.
+-- The queues of a device over a setup are the leaves of its tree, and none of them is there twice.
 pub record AreQueuesOf (setup : Setup) (d : ℕ) (tree : Tree) : Type 0 where
   pub its : slice_get setup.trees d ≡ Some tree
   pub senders : AreRising (sender_numbers setup)
   pub distinct : are_distinct (leaves (root tree)) ≡ true
   pub leaves_are : (q : ℕ) → stands_in q (leaves (root tree)) ≡ is_at d (slice_get setup.queues q)
 
--- The closing of a tree is given fewer than 2^42 pulls, where no more packets are left than a drain is given.
+-- A drain of a tree needs fewer than 2^42 pulls, if at most `most_left` packets are left.
 abbrev pub HasLowBound : Tree → Type 0
 HasLowBound tree = (left : ℕ) → left ≤ most_left → closing_bound tree left < 2 ^ 42
 
--- A setup over which each closing comes to its end; that of a plan is one. Queues and heads of a device hold what its events leave: what was
--- accepted there, less what was evicted and emitted.
+-- A setup over which each drain of a device comes to its end. The setup of a plan is one.
 pub record IsClosable (setup : Setup) : Type 0 where
   pub apart : IsApart setup
   pub queues : (d : ℕ) (tree : Tree) → slice_get setup.trees d ≡ Some tree → AreQueuesOf setup d tree

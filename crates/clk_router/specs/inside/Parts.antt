@@ -31,17 +31,18 @@ use Rattle.clk_router.specs.inside.Queues.{packets_at}
 use Rattle.clk_router.specs.inside.Past.{visits_shown, pull_shown, pulls_shown}
 use Rattle.clk_router.specs.Events.{Room, Setup, Event, CanHappen, numbers_of, moment_in, accepted_in, evicted_in, history, log_of, events_at, sender_numbers, Closes}
 
--- the device that a queue's packets go to
+-- the number of the device that emits a queue's packets
 abbrev pub path_made : Queued → ℕ
 path_made q = q.device
 
--- a tree over which a device can stand, and the device before it is pulled
+-- a tree over which a device can stand
 pub record CanStand (tree : Tree) : Type 0 where
   pub distinct : leaves_distinct tree ≡ true
   pub fits : 1 + elements (root tree) ≤ most_elements
   pub sound : AreSchedulersSound (root tree)
   pub bound : HasLowBound tree
 
+-- a device over a tree, before its first pull
 abbrev pub device_made : Keeps → Tree → Device
 device_made keeps tree = record { session = record { tree = tree; log = []; keeps = keeps; gone = 0 }; kept = 0 }
 
@@ -53,15 +54,17 @@ sender_made spec = record { number = spec.number; queue = spec.queue; sent = 0 }
 abbrev pub sent_one_more : Sender → Sender
 sent_one_more s = record { number = s.number; queue = s.queue; sent = s.sent + 1 }
 
+-- the number of a sender
 abbrev pub sender_number : Sender → ℕ
 sender_number s = s.number
 
--- These events lead to this queue, which is as it was asked for.
+-- These events lead to this queue, which has the kind and the capacity of `room`.
 pub record IsQueueAt (events : List QueueEvent) (room : Room) (q : Queue) : Type 0 where
   pub leads : LeadsTo events q
   pub kind : q.kind ≡ room.kind
   pub capacity : q.capacity ≡ room.capacity
 
+-- If a queue is declared, these events lead to it; if none is declared, there is none.
 abbrev pub AreQueuesAt : List QueueEvent → Option Room → Option Queue → Type 0
 AreQueuesAt events None None = ⊤
 AreQueuesAt events None (Some q) = ⊥
@@ -76,22 +79,24 @@ sender_after events spec = record {
   sent = length (numbers_of spec.number events);
 }
 
--- These events of a device lead to this one, over its tree. Of the packets that its queues took, so many were not put out.
+-- These events of a device lead to its state over its tree. `kept` is how many packets its queues accepted and didn't evict.
 pub record IsDeviceAt (events : List Event) (tree : Tree) (device : Device) : Type 0 where
   pub tree_is : device.session.tree ≡ tree
   pub log : device.session.log ≡ log_of events
   pub kept : device.kept + length (filter_map evicted_in events) ≡ length (filter_map accepted_in events)
 
+-- If a device has a tree, these events lead to its state; if it has none, there is no device.
 abbrev pub AreDevicesAt : List Event → Option Tree → Option Device → Type 0
 AreDevicesAt events None None = ⊤
 AreDevicesAt events None (Some device) = ⊥
 AreDevicesAt events (Some tree) None = ⊥
 AreDevicesAt events (Some tree) (Some device) = IsDeviceAt events tree device
 
--- A device keeps what it was asked to.
+-- A device keeps what it was told to keep, and no visit is gone from its log.
 abbrev pub KeepsAs : Keeps → Device → Type 0
 KeepsAs keeps device = (device.session.keeps ≡ keeps) × (device.session.gone ≡ 0)
 
+-- A device keeps what it was told to keep, if it exists.
 abbrev pub KeepsAsAt : Keeps → Option Device → Type 0
 KeepsAsAt keeps None = ⊤
 KeepsAsAt keeps (Some device) = KeepsAs keeps device
@@ -108,15 +113,16 @@ pub record IsAt (setup : Setup) (events : List Event) (parts : Parts) : Type 0 w
   pub paths : parts.paths.items ≡ map room_device setup.queues
   pub kinds : (d : ℕ) → KeepsAsAt parts.keeps (slice_get parts.devices.items d)
 
--- what a device logged, and what came out at it
+-- the log of a device
 abbrev pub device_log : Device → List Visit
 device_log device = device.session.log
 
+-- the packets that a device emitted
 abbrev pub device_emitted : Device → List Packet
 device_emitted device = emitted device.session.log
 
--- A setup over which a router can run: it has a device, and not too many, its senders stand by rising numbers and send to queues that are there, whose packets
--- go to devices that are there, and it has not too many queues, nor any that holds too much.
+-- A setup over which a router can run. It has a device, and no more than `most_elements` devices and queues. Its senders stand by rising
+-- numbers, and send to queues that exist. Its queues send to devices that exist, and no capacity is above `most_capacity`.
 pub record IsWhole (setup : Setup) : Type 0 where
   pub some : 1 ≤ length setup.trees
   pub few : length setup.trees ≤ most_elements
@@ -126,7 +132,7 @@ pub record IsWhole (setup : Setup) : Type 0 where
   pub queue_count : length setup.queues ≤ most_elements
   pub capacities : AllByRecursion (λ (room : Room). room.capacity ≤ most_capacity) setup.queues
 
--- a sender's queue is one of so many, and it can send a packet more
+-- a sender exists, its queue is one of `count`, and it can send one packet more
 abbrev pub CanSendOn : ℕ → Option Sender → Type 0
 CanSendOn count None = ⊥
 CanSendOn count (Some s) = (s.queue < count) × (s.sent + 1 < 2 ^ 32)
@@ -136,7 +142,8 @@ abbrev pub CanCount : Option Device → Type 0
 CanCount None = ⊥
 CanCount (Some device) = device.kept < end_of_packets
 
--- the sender at a place can offer a packet: its number stands there too, its queue is there with a path, and its device counts one more
+-- The sender at a place can offer a packet: its number stands there too, its queue exists and has a path, and its device can count one
+-- more.
 pub record CanOfferAt (parts : Parts) (place : ℕ) : Type 0 where
   pub alike : map sender_number parts.senders.items ≡ parts.numbers.items
   pub rising : AreRising parts.numbers.items
@@ -144,45 +151,45 @@ pub record CanOfferAt (parts : Parts) (place : ℕ) : Type 0 where
   pub path_count : length parts.paths.items ≡ length parts.queues.rings.items
   pub counts : (device : ℕ) (s : Sender) → slice_get parts.senders.items place ≡ Some s → slice_get parts.paths.items s.queue ≡ Some device → CanCount (slice_get parts.devices.items device)
 
--- a device can be pulled, whatever the moment
+-- a device exists and can be pulled, whatever the moment
 abbrev pub CanPullAt : Keeps → Option Device → Type 0
 CanPullAt keeps None = ⊥
 CanPullAt keeps (Some device) = KeepsAs keeps device × (pulls_made (progress_of device.session) < end_of_pulls)
 
--- not more packets came out of a device than it kept
+-- a device emitted no more packets than it counts as kept
 abbrev pub CountsLeft : Option Device → Type 0
 CountsLeft None = ⊥
 CountsLeft (Some device) = length (emitted device.session.log) ≤ device.kept
 
--- a device can be closed from a moment on
+-- a device can be drained from a moment on
 abbrev pub CanCloseAt : ℕ → Option Device → Type 0
 CanCloseAt moment None = ⊥
 CanCloseAt moment (Some device) =
     (length (emitted device.session.log) ≤ device.kept) × (device.kept ≤ length (emitted device.session.log) + most_left)
     × (max (counted_moment (progress_of device.session)) moment < end_of_drains) × (pulls_made (progress_of device.session) < end_of_drained_pulls)
 
--- Of some devices only that of this number may have changed.
+-- Of these devices only the one with this number may have changed.
 pub record ChangesDevice (old : List Device) (number : ℕ) (new : List Device) : Type 0 where
   pub count : length new ≡ length old
   pub others : (k : ℕ) → (number == k) ≡ false → slice_get new k ≡ slice_get old k
 
--- one more packet is kept, where it was accepted and no other was put out for it
+-- how many more packets are kept by an offer: one, if the packet was accepted and no other was evicted for it
 abbrev pub kept_by : Offered → ℕ
 kept_by Accepted = 1
 kept_by outcome = 0
 
--- What became of a packet is counted at a device.
+-- An offer with this outcome is counted at a device.
 abbrev pub CountsHere : Offered → Option Device → Option Device → Type 0
 CountsHere outcome None new = ⊥
 CountsHere outcome (Some old) None = ⊥
 CountsHere outcome (Some old) (Some new) = (new.session ≡ old.session) × (new.kept ≡ old.kept + kept_by outcome)
 
--- Of some devices only that of this number may have changed, by what became of a packet.
+-- An offer with this outcome is counted at the device with this number, and no other device changes.
 pub record CountsAt (old : List Device) (number : ℕ) (outcome : Offered) (new : List Device) : Type 0 where
   pub here : CountsHere outcome (slice_get old number) (slice_get new number)
   pub only : ChangesDevice old number new
 
--- What became of a packet at a queue is counted at its device. Nothing else changes.
+-- An offer with this outcome to a queue is counted at the queue's device. Nothing else changes.
 pub record Counts (old : Parts) (queue : ℕ) (outcome : Offered) (new : Parts) : Type 0 where
   pub devices : (device : ℕ) → slice_get old.paths.items queue ≡ Some device → CountsAt old.devices.items device outcome new.devices.items
   pub queues : new.queues ≡ old.queues
@@ -191,20 +198,20 @@ pub record Counts (old : Parts) (queue : ℕ) (outcome : Offered) (new : Parts) 
   pub paths : new.paths ≡ old.paths
   pub keeps : new.keeps ≡ old.keeps
 
--- One more pull of a device, at a moment that was handed in, led on from these events to this result, as its session shows.
+-- One more pull of a device, at this moment, led on from these events to this result, as its session shows.
 pub record LeadsOnByPull (setup : Setup) (new : Parts) (device moment : ℕ) (got : Option Packet) (events : List Event) : Type 0 where
   pub its : Device
   pub here : slice_get new.devices.items device ≡ Some its
   pub result : result_of (visits_of 0 (visits_shown setup events device its.session)) ≡ got
   pub leads : IsAt setup (events ++ pull_shown setup events device moment its.session) new
 
--- Closing pulls of a device, from a moment on, led on from these events, as its session shows.
+-- The pulls of a drain of a device, from a moment on, led on from these events, as its session shows.
 pub record LeadsOnByPulls (setup : Setup) (new : Parts) (device moment : ℕ) (events : List Event) : Type 0 where
   pub its : Device
   pub here : slice_get new.devices.items device ≡ Some its
   pub leads : IsAt setup (events ++ pulls_shown setup events device moment its.session) new
 
--- These were its whole closing, in which these packets came out, at these moments.
+-- The pulls that the session shows are a whole drain of the device from a moment on. It emitted these packets, at these moments.
 pub record ClosesBy (setup : Setup) (events : List Event) (device moment : ℕ) (session : AnySession) (departures : List Departure) : Type 0 where
   pub closes : Closes device moment (events_at setup device events) (pulls_shown setup events device moment session)
   pub emitted : departures ≡ departures_in closes.closing
@@ -216,6 +223,6 @@ pub record Stand (setup : Setup) (events : List Event) (parts : Parts) : Type 0 
   pub whole : IsWhole setup
   pub closable : IsClosable setup
 
--- A session is due at a moment, over queues of which some hold packets.
+-- A session is due at this moment, over these queues.
 abbrev pub IsSessionDue : AnySession → List Queue → Option ℕ → Type 0
 IsSessionDue session queues due = IsDue (tree_could_emit session.tree session.log (λ q. nat_lt 0 (length (packets_at queues q)))) (counted_moment (progress_of session)) due

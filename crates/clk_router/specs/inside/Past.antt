@@ -8,25 +8,27 @@ use Rattle.clk_router.specs.declared.devices.Device.{Device}
 use Rattle.clk_router.specs.declared.parts.Parts.{Parts}
 use Rattle.clk_router.specs.Events.{Setup, Event, pulled, events_at, log_of, closing_pulls}
 
--- a router over nothing
+-- the setup of nothing
 abbrev pub nothing : Setup
 nothing = record { trees = []; queues = []; senders = [] }
 
--- the trees of the devices
+-- the tree of a device
 abbrev pub device_tree : Device → Tree
 device_tree device = device.session.tree
 
+-- the trees of the devices of a router
 abbrev pub trees_in : Parts → List Tree
 trees_in parts = map device_tree parts.devices.items
 
--- the visits of a device since these events, and the one pull that these are
+-- the visits of a device after these events
 abbrev pub visits_shown : Setup → List Event → ℕ → AnySession → List Visit
 visits_shown setup events device session = drop (length (log_of (events_at setup device events))) session.log
 
+-- the one pull of a device after these events
 abbrev pub pull_shown : Setup → List Event → ℕ → ℕ → AnySession → List Event
 pull_shown setup events device moment session = pulled device moment (visits_shown setup events device session) ∷ []
 
--- the closing pulls of a device since these events
+-- the pulls of a drain of a device after these events
 abbrev pub pulls_shown : Setup → List Event → ℕ → ℕ → AnySession → List Event
 pulls_shown setup events device moment session =
     closing_pulls device moment (events_at setup device events) (drop (length (pulls (log_of (events_at setup device events)))) (pulls session.log))

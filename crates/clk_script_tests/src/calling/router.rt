@@ -6,8 +6,8 @@ ghost use Rattle.clk_router.specs.Events.{CanHappen};
 use clk_packet::Packet;
 use clk_router::CountingRouter;
 
-/// The sender at the first place offers a packet of this length in bytes, where it can, and the first device is pulled at this moment in
-/// ticks, where it can be. All that has happened then, at all senders, queues and devices, can happen over what the router was made over.
+/// The sender at the first place offers a packet of this length in bytes, if it can. Then the first device is pulled at this moment in
+/// ticks, if it can be. All events at all senders, queues and devices can happen over the router's setup.
 pub fn offer_and_pull(router: &mut CountingRouter, length: u16, moment: u64) -> Option<Packet>
     requires has_length { 1 ≤ length }
     ensures happened { CanHappen router.new.setup router.new.events }
