@@ -1,5 +1,5 @@
--- When calls are refused, and what they return then. The contract of a call that is refused says that the router and all that was to be
--- filled in are as before, but for a count, which is 0.
+-- When calls are refused, and what they return then. The contract of a call that is refused says that nothing changed: neither the router
+-- nor what was to be filled in, except a count, which is 0.
 use Rattle.std.specs.Prelude.{◌≡◌, ℕ, ◌<◌, ◌≤◌, Some}
 use Rattle.clk_packet.specs.Limits.{most_length}
 use Rattle.clk_router.specs.Course.{Course, sender_at, CanOffer, CanPull}

@@ -15,7 +15,7 @@ use Rattle.clickpull_c.specs.Answers.{RefusesOffer}
 use Rattle.clk_router.specs.Chains.{IsChain}
 use Rattle.clickpull_c.specs.Values.{packet_in_c, offered_in_c}
 
--- A sender offered its next packet, of this length, and what became of it was filled in.
+-- A sender offered its next packet, of this length. The packet and its outcome were filled in.
 pub record IsOffered (old new : Course) (sender length : ℕ) (filled : COffered) : Type 0 where
   pub packet : Packet
   pub outcome : Offered
@@ -24,27 +24,28 @@ pub record IsOffered (old new : Course) (sender length : ℕ) (filled : COffered
   pub filled_is : filled ≡ offered_in_c packet outcome
   pub goes_on : new ≡ after old (offered packet outcome ∷ [])
 
--- what a pull with this result returns, and what it leaves where the packet is filled in
+-- what a pull with this result returns
 abbrev pub pull_status : Option Packet → ℕ
 pull_status None = NONE
 pull_status (Some p) = OK
 
+-- what the place for a packet holds after a pull with this result
 abbrev pub pull_fills : CPacket → Option Packet → CPacket
 pull_fills before None = before
 pull_fills before (Some p) = packet_in_c p
 
--- A device was pulled once, the packet that it emitted was filled in, if it emitted one, and this status was returned.
+-- A device was pulled once. If it emitted a packet, that was filled in. This status was returned.
 pub record AnswersPull (old new : Course) (device moment : ℕ) (before filled : CPacket) (status : ℕ) : Type 0 where
   pub got : Option Packet
   pub pulled : IsPulled old new device moment got
   pub filled_is : filled ≡ pull_fills before got
   pub status_is : status ≡ pull_status got
 
--- an offer was made as its caller wanted it, and what became of it was filled in
+-- an offer was made with this sender and length, and its packet and outcome were filled in
 abbrev pub OffersOne : Course → COffer × COffered → Course → Type 0
 OffersOne c both next = IsOffered c next both.0.sender both.0.length both.1
 
--- Of these offers so many were made, in order, what became of each was filled in, and the others' places are as they were.
+-- The first `done` of these offers were made, in order. Each packet and outcome was filled in, and the other places are unchanged.
 pub record IsOfferedSoFar (old new : Course) (offers : List COffer) (before filled : List COffered) (done : ℕ) : Type 0 where
   pub within : done ≤ length offers
   pub made : IsChain OffersOne old (zip (take done offers) (take done filled)) new
@@ -61,14 +62,14 @@ pub record GivesOne (device moment : ℕ) (c : Course) (filled : CPacket) (next 
   pub pulled : IsPulled c next device moment (Some packet)
   pub filled_is : filled ≡ packet_in_c packet
 
--- Pulls at a moment ended: as many packets as wanted were emitted; or fewer were, and the last pull gave none; or at least one was, and
--- no more pulls can be made.
+-- Pulls at a moment ended: as many packets were emitted as there are places; or fewer were, and the last pull emitted none; or at least one
+-- was, and no more pulls can be made.
 pub data EndsPulls (device moment count : ℕ) (last new : Course) (given : ℕ) : Type 0 where
   full : given ≡ count → new ≡ last → EndsPulls device moment count last new given
   gave_none : given < count → IsPulled last new device moment None → EndsPulls device moment count last new given
   at_end : 1 ≤ given → (CanPull new device moment → ⊥) → new ≡ last → EndsPulls device moment count last new given
 
--- A device was pulled again and again at a moment. So many packets were emitted, and filled in, and the others' places are as they were.
+-- A device was pulled again and again at a moment. `given` packets were emitted, and filled in. The other places are unchanged.
 pub record IsPulledOften (old new : Course) (device moment : ℕ) (before filled : List CPacket) (given : ℕ) : Type 0 where
   pub last : Course
   pub within : given ≤ length before
@@ -76,11 +77,11 @@ pub record IsPulledOften (old new : Course) (device moment : ℕ) (before filled
   pub others : drop given filled ≡ drop given before
   pub ends : EndsPulls device moment (length before) last new given
 
--- what pulls return that gave so many of so many packets
+-- what pulls return that emitted `given` packets, with `count` places
 abbrev pub pulls_status : ℕ → ℕ → ℕ
 pulls_status given count = if (given == 0) && nat_lt 0 count then NONE else OK
 
--- a pull of a drain: its moment, and what it gave
+-- a pull of a drain: its moment, and the packet that it emitted, if it emitted one
 pub record DrainPull : Type 0 where
   pub moment : ℕ
   pub got : Option Packet
@@ -89,17 +90,18 @@ pub record DrainPull : Type 0 where
 abbrev pub IsEmptied : Course → ℕ → Type 0
 IsEmptied c device = accepted_at c device ≡ evicted_at c device + emitted_at c device
 
--- a device for which something was left was pulled one tick after its counted moment
+-- a device for which packets were left was pulled one tick after its latest moment
 pub record PullsNext (device : ℕ) (c : Course) (pull : DrainPull) (next : Course) : Type 0 where
   pub left : HasLeft c device
   pub moment : pull.moment ≡ moment_at c device + 1
   pub pulled : IsPulled c next device pull.moment pull.got
 
--- what pulls gave, each with its moment, before others
+-- these departures, after the packet that a pull emitted at this moment, if it emitted one
 abbrev pub with_departure : ℕ → Option Packet → List CDeparture → List CDeparture
 with_departure moment None others = others
 with_departure moment (Some p) others = record { moment = moment; packet = packet_in_c p } ∷ others
 
+-- the packets that these pulls emitted, each with its moment
 abbrev pub departures_of : List DrainPull → List CDeparture
 departures_of [] = []
 departures_of (pull ∷ pulls) = with_departure pull.moment pull.got (departures_of pulls)
@@ -108,14 +110,15 @@ departures_of (pull ∷ pulls) = with_departure pull.moment pull.got (departures
 abbrev pub HasRoom : ℕ → List DrainPull → Type 0
 HasRoom places pulls = (made : ℕ) → made < length pulls → length (departures_of (take made pulls)) < places
 
--- A drain ended: nothing is left; or as many pulls were made or packets emitted as were wanted; or the next moment is at its end.
+-- A drain ended: nothing is left; or packets are left, and all places are filled or all pulls made; or packets are left, and the device
+-- can't be pulled one tick later.
 pub data EndsDrain (new : Course) (device count most made given status : ℕ) : Type 0 where
   empty : status ≡ OK → IsEmptied new device → EndsDrain new device count most made given status
   full : status ≡ NONE → HasLeft new device → (given ≡ count) ⊎ (made ≡ most) → EndsDrain new device count most made given status
   at_end : status ≡ AT_END → HasLeft new device → (CanPull new device (moment_at new device + 1) → ⊥) → EndsDrain new device count most made given status
 
--- A device was pulled one tick apart, at most so often, each time with something left and a place free. So many packets were emitted, and
--- filled in with their moments, and the others' places are as they were.
+-- A device was pulled one tick apart, at most `most` times, each time with packets left for it and a place free. `given` packets were
+-- emitted, and filled in with their moments. The other places are unchanged.
 pub record IsDrained (old new : Course) (device most : ℕ) (before filled : List CDeparture) (given status : ℕ) : Type 0 where
   pub pulls : List DrainPull
   pub made : IsChain (PullsNext device) old pulls new

@@ -1,4 +1,4 @@
--- What pulls and drains do to a router, and what they do not: each of the latter makes one pull too many. And items for an inlet.
+-- Courses after pulls and drains, and courses after one pull too many. And items for an inlet.
 use Rattle.std.specs.Prelude.{List, [], ◌∷◌, Some, None, true, false}
 use Rattle.std.proofs.Common.{lit≤}
 use Rattle.clk_packet.specs.Packets.{packet}
@@ -16,13 +16,15 @@ use Rattle.clickpull_c.specs.declared.values.CDeparture.{CDeparture}
 use Rattle.clickpull_c.specs.declared.values.CItem.{CItem}
 use Rattle.clickpull_c.specs.Values.{no_packet, packet_in_c}
 
+-- the first packet of sender 0
 abbrev pub p0_0 : Packet
 p0_0 = packet 0 0 100 (lit≤ tt) (lit≤ tt)
 
+-- the second packet of sender 0, which is longer
 abbrev p0_1 : Packet
 p0_1 = packet 0 1 200 (lit≤ tt) (lit≤ tt)
 
--- a queue of two packets with one sender, alone and below a DRRSched of quantum 100
+-- one device with a queue of two packets, which has one sender
 abbrev pub alone : Setup
 alone = record {
   trees = queue 0 ∷ [];
@@ -30,47 +32,55 @@ alone = record {
   senders = record { number = 0; queue = 0 } ∷ [];
 }
 
+-- the device with a DRRSched of quantum 100 over its queue
 abbrev pub scheduled : Setup
 scheduled = record { trees = scheduler (drr (100 ∷ [])) (leaf 0 end) ∷ []; queues = alone.queues; senders = alone.senders }
 
--- a router to which nothing has happened
+-- a router before anything has happened
 abbrev pub fresh : Course
 fresh = record { setup = alone; events = []; keeps = keeps_nothing }
 
--- the router after one pull of the queue, which emitted none
+-- the router after a pull that emitted none
 abbrev pub fresh_pulled : Course
 fresh_pulled = after fresh (pulled 0 1 (asking 0 1 0 0 None ∷ []) ∷ [])
 
--- one packet waits in the queue; it is emitted; and a further pull gives none
+-- one packet waits in the queue
 abbrev pub one_waits : Course
 one_waits = record { setup = alone; events = offered p0_0 Accepted ∷ []; keeps = keeps_nothing }
 
+-- the packet was emitted
 abbrev pub one_out : Course
 one_out = after one_waits (pulled 0 1 (asking 0 1 0 0 (Some p0_0) ∷ []) ∷ [])
 
+-- the packet was emitted, and a further pull emitted none
 abbrev pub one_out_pulled : Course
 one_out_pulled = after one_out (pulled 0 1 (asking 1 1 0 0 None ∷ []) ∷ [])
 
--- two packets wait below the DRRSched; the first is emitted; and a further pull gives none, since the second is longer than its deficit
+-- two packets wait below the DRRSched
 abbrev pub two_wait : Course
 two_wait = record { setup = scheduled; events = offered p0_0 Accepted ∷ offered p0_1 Accepted ∷ []; keeps = keeps_nothing }
 
+-- the first packet was emitted
 abbrev pub first_out : Course
 first_out = after two_wait (pulled 0 1 (look 0 1 1 0 true (Some p0_0) true ∷ asking 0 1 0 0 (Some p0_0) ∷ []) ∷ [])
 
+-- the first packet was emitted, and a further pull emitted none, since the second is longer than its deficit
 abbrev pub first_out_pulled : Course
 first_out_pulled = after first_out (pulled 0 2 (look 1 2 1 0 true (Some p0_1) false ∷ asking 1 2 0 0 None ∷ []) ∷ [])
 
--- one place, before and after the first packet is filled in
+-- one place for a packet, which is free
 abbrev pub packet_before : List CPacket
 packet_before = no_packet ∷ []
 
+-- the place with the first packet
 abbrev pub packet_filled : List CPacket
 packet_filled = packet_in_c p0_0 ∷ []
 
+-- one place for a departure, which is free
 abbrev pub departure_before : List CDeparture
 departure_before = record { moment = 0; packet = no_packet } ∷ []
 
+-- the place with the first packet's departure
 abbrev pub departure_filled : List CDeparture
 departure_filled = record { moment = 1; packet = packet_in_c p0_0 } ∷ []
 
@@ -78,5 +88,6 @@ departure_filled = record { moment = 1; packet = packet_in_c p0_0 } ∷ []
 abbrev pub one_item : List CItem
 one_item = record { token = 7; length = 100 } ∷ []
 
+-- one item for an inlet, which is too long
 abbrev pub too_long : List CItem
 too_long = record { token = 7; length = 65536 } ∷ []

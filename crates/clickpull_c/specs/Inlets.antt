@@ -15,17 +15,17 @@ pub record Accepts (old new : Inlet) (length token number : ℕ) : Type 0 where
   pub pushes : pushed new ≡ pushed old ++ packet_item length token ∷ []
   pub offers : offered new ≡ offered old ++ packet_item length token ∷ []
 
--- The inlet refuses a packet: its length is out of range; or else the inlet takes no more packets; or else none is sure to fit now.
+-- The inlet refuses a packet: its length is out of range; or else the inlet accepts no more packets; or else none is sure to fit now.
 pub data RefusesPacket (i : Inlet) (length status : ℕ) : Type 0 where
   bad_length : status ≡ BAD_LENGTH → (IsLength length → ⊥) → RefusesPacket i length status
   ended : status ≡ AT_END → IsLength length → at_end i ≡ true → RefusesPacket i length status
   full : status ≡ FULL → IsLength length → at_end i ≡ false → fits i ≡ 0 → RefusesPacket i length status
 
--- an item of C's, as it goes through the ring
+-- an item that C hands over, as it goes through the ring
 abbrev pub ring_item : CItem → Item
 ring_item i = packet_item i.length i.token
 
--- The inlet accepted so many of these items, from the first on, in order.
+-- The inlet accepted the first `done` of these items, in order.
 pub record AcceptsMany (old new : Inlet) (items : List CItem) (done : ℕ) : Type 0 where
   pub within : done ≤ length items
   pub pushes : pushed new ≡ pushed old ++ map ring_item (take done items)

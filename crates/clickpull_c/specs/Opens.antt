@@ -1,4 +1,4 @@
--- What comes of a text.
+-- What opening a router over a text does.
 use Rattle.std.specs.Prelude.{◌≡◌, ℕ, List, ◌⊎◌, Option, Some}
 use Rattle.clk_packet.specs.declared.fault.Fault.{Fault}
 use Rattle.clk_packet.specs.declared.fault.Fault.TheVariants.{Memory}
@@ -10,19 +10,19 @@ use Rattle.clickpull_c.specs.declared.values.CFault.{CFault}
 use Rattle.clickpull_c.specs.declared.statuses.TheConstants.{FAULT}
 use Rattle.clickpull_c.specs.Values.{fault_in_c}
 
--- A router was made over the plan that a text denotes, and nothing has happened.
+-- A router was opened over the plan that a text denotes, and nothing has happened.
 pub record Opens (text : List ℕ) (c : Course) : Type 0 where
   pub plan : List Planned
   pub denotes : Denotes text plan
   pub opened : IsOpened plan keeps_nothing c
 
--- A place was given such a router.
+-- A place was given a router that was opened over this text.
 pub record IsGiven (text : List ℕ) (place : Option Course) : Type 0 where
   pub router : Course
   pub has : place ≡ Some router
   pub opens : Opens text router
 
--- Memory was refused, or the text has this fault, which was filled in.
+-- An allocation failed, or the text has this fault. It was filled in.
 pub record IsFaulty (text : List ℕ) (filled : CFault) (status : ℕ) : Type 0 where
   pub answers : status ≡ FAULT
   pub fault : Fault

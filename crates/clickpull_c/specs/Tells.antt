@@ -11,7 +11,7 @@ use Rattle.clickpull_c.specs.declared.statuses.TheConstants.{OK, NONE}
 use Rattle.clickpull_c.specs.Counts.{device_count}
 use Rattle.clickpull_c.specs.Values.{account_in_c, queue_in_c}
 
--- the counted moment of a device was filled in
+-- the latest moment of a device was filled in
 pub record TellsMoment (c : Course) (device filled status : ℕ) : Type 0 where
   pub answers : status ≡ OK
   pub there : device < device_count c
@@ -23,12 +23,12 @@ pub record TellsLeft (c : Course) (device filled status : ℕ) : Type 0 where
   pub there : device < device_count c
   pub filled_is : accepted_at c device ≡ evicted_at c device + emitted_at c device + filled
 
--- what a call fills in and returns of a due moment, which there may be
+-- what a call fills in and returns for this due moment: nothing and NONE, if there is none
 abbrev pub FillsDue : (before filled status : ℕ) → Option ℕ → Type 0
 FillsDue before filled status None = (status ≡ NONE) × (filled ≡ before)
 FillsDue before filled status (Some moment) = (status ≡ OK) × (filled ≡ moment)
 
--- the earliest moment at which a device could emit a packet was filled in, if one is left for it
+-- the earliest moment at which a device could emit a packet was filled in, if a packet is left for it
 pub record TellsDue (c : Course) (device before filled status : ℕ) : Type 0 where
   pub there : device < device_count c
   pub due : Option ℕ
@@ -36,14 +36,14 @@ pub record TellsDue (c : Course) (device before filled status : ℕ) : Type 0 wh
   pub before_is : EmitsNoneBefore c device due
   pub fills : FillsDue before filled status due
 
--- what became of the packets of the sender at a place was filled in
+-- the totals of the packets of the sender at a place were filled in
 pub record TellsAccount (c : Course) (place : ℕ) (filled : CAccount) (status : ℕ) : Type 0 where
   pub answers : status ≡ OK
   pub sender : SenderSpec
   pub is : slice_get c.setup.senders place ≡ Some sender
   pub filled_is : filled ≡ account_in_c (account_after c.events sender)
 
--- what a queue is like was filled in
+-- the state of a queue was filled in
 pub record TellsQueue (c : Course) (number : ℕ) (filled : CQueue) (status : ℕ) : Type 0 where
   pub answers : status ≡ OK
   pub queue : QueueState

@@ -19,12 +19,15 @@ use Rattle.clickpull_c.specs.declared.values.CQueue.{CQueue}
 use Rattle.clickpull_c.specs.declared.values.CFault.{CFault}
 use Rattle.clickpull_c.specs.declared.statuses.TheConstants.{ACCEPTED, REFUSED, EVICTED}
 
+-- the packet that stands where none is filled in: all zero
 abbrev pub no_packet : CPacket
 no_packet = record { number = 0; sender = 0; length = 0 }
 
+-- a packet, as C sees it
 abbrev pub packet_in_c : Packet → CPacket
 packet_in_c p = record { number = p.number; sender = p.sender; length = p.length }
 
+-- a packet that was offered, with its outcome, as C sees them
 abbrev pub offered_in_c : Packet → Offered → COffered
 offered_in_c p Accepted = record { packet = packet_in_c p; evicted = no_packet; outcome = ACCEPTED }
 offered_in_c p (Refused same) = record { packet = packet_in_c p; evicted = no_packet; outcome = REFUSED }
@@ -45,19 +48,23 @@ offset_of (ManyDevices offset) = offset
 offset_of (NotATree offset) = offset
 offset_of fault = 0
 
+-- a fault, as C sees it
 abbrev pub fault_in_c : Fault → CFault
 fault_in_c fault = record { number = number_of fault; offset = offset_of fault }
 
+-- a total, as C sees it
 abbrev pub total_in_c : Total → CTotal
 total_in_c t = record { packets = t.packets; bytes = t.bytes }
 
+-- an account, as C sees it
 abbrev pub account_in_c : Account → CAccount
 account_in_c a = record { accepted = total_in_c a.accepted; refused = total_in_c a.refused; evicted = total_in_c a.evicted; emitted = total_in_c a.emitted; sender = a.sender; queue = a.queue }
 
--- whether a queue puts packets out for later ones, as a number
+-- whether a queue evicts packets for later ones, as a number
 abbrev pub front_drop_of : Kind → ℕ
 front_drop_of TailDrop = 0
 front_drop_of FrontDrop = 1
 
+-- the state of a queue, as C sees it
 abbrev pub queue_in_c : QueueState → CQueue
 queue_in_c q = record { capacity = q.capacity; held = q.held; device = q.device; front_drop = front_drop_of q.kind }

@@ -1,4 +1,4 @@
--- What the code's own parts say to one another.
+-- What the code's own parts say to one another: no contract of an export stands on it.
 pub mod Follows
 pub mod Handle
 pub mod Place

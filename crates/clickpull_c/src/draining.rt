@@ -10,8 +10,8 @@ use crate::statuses::{AT_END, NONE, OK, UNKNOWN_DEVICE};
 use crate::values::{CDeparture, packet_for_c};
 use clk_router::CountingRouter;
 
-/// Pulls the device with this number one tick apart, the first time one tick after its counted moment, until nothing is left for it, so
-/// many pulls were made, or all places for departures are filled. How many packets were emitted is filled in.
+/// Drains the device with this number: pulls it one tick apart, the first time one tick after its latest moment, until nothing is left for
+/// it, `pulls` pulls were made, or all places for departures are filled. Fills in how many packets were emitted.
 #[unsafe(no_mangle)]
 pub extern "C" fn clk_router_drain(
     router: &mut Handle,

@@ -9,8 +9,8 @@ ghost use Rattle.clickpull_c.specs.Inlets.{Accepts, AcceptsMany, EndsBatch, Refu
 ghost use Rattle.clickpull_c.specs.Examples.{fresh, fresh_pulled, one_waits, one_out, one_out_pulled, two_wait, first_out, first_out_pulled, packet_before, packet_filled, departure_before, departure_filled, one_item, too_long};
 ghost use Rattle.clickpull_c.specs.declared.statuses.TheConstants.{OK, NONE, BAD_LENGTH, UNKNOWN_SENDER, FULL};
 
-/// A drain pulls neither where nothing is left nor once its one place is filled, though it may pull five times; and pulls at one moment
-/// end once their one place is filled.
+/// A drain makes no pull if nothing is left, and none once its one place is filled, though it may make five pulls. Pulls at one moment end
+/// once their one place is filled.
 pub fn call_examples()
     ensures drains_nothing { IsDrained fresh fresh 0 5 departure_before departure_before 0 OK }
     ensures not_pulled_with_none_left { ¬ (IsDrained fresh fresh_pulled 0 5 departure_before departure_before 0 OK) }
@@ -31,7 +31,7 @@ pub fn refusal_examples()
     ensures not_known { ¬ (RefusesOffer fresh 0 1 UNKNOWN_SENDER) }
 {}
 
-/// What an inlet accepts and refuses: its length is tested first, what was not pushed is not accepted, and a batch ends with its last item
+/// What an inlet accepts and refuses. It tests the length first, it hasn't accepted what wasn't pushed, and a batch ends with its last item
 /// or with one that is refused.
 pub fn inlet_examples()
     ensures too_long { (i : Inlet) → RefusesPacket i 65536 BAD_LENGTH }

@@ -42,7 +42,7 @@ impl Handle {
         self.into_parts().into_box()
     }
 
-    /// The router. Calls that only read it take it so too, since no export takes a struct that lends what it owns.
+    /// The router. Calls that only read take it this way too, since no export takes a struct that lends what it owns.
     pub(crate) fn get_mut(&mut self) -> &mut CountingRouter
         ensures* writes_back { sem 𝓛 (handle_follows self.entry result) }
         ensures value { result.now ≡ self.old.router }
@@ -73,5 +73,5 @@ impl Handle {
 
 unsafe impl Send for Handle {}
 
-/// Demands that a value may go to another thread. It does nothing.
+/// Demands that a value may go to another thread. Does nothing.
 pub(crate) fn demand_send<T: Send>(_value: &T) {}

@@ -1,5 +1,5 @@
 //! A router of pull schedulers, and the inlets of its senders, for C: a static library of one export a call.
-// What C users call are the functions of include/clickpull.h, which test their pointers, and hand on to these.
+// C callers use the functions of include/clickpull.h, which test their pointers and call these.
 #![tactic(auto)]
 
 mod draining;

@@ -11,7 +11,7 @@ use crate::statuses::{AT_END, BAD_LENGTH, OK, UNKNOWN_SENDER};
 use crate::values::{COffer, COffered, length_of, offered_for_c};
 use clk_router::CountingRouter;
 
-/// The sender with this number offers its next packet, of this length in bytes, to its queue. What became of it is filled in.
+/// The sender with this number offers its next packet, of this length in bytes, to its queue. Fills in the packet and its outcome.
 #[unsafe(no_mangle)]
 pub extern "C" fn clk_router_offer(
     router: &mut Handle,
@@ -30,8 +30,8 @@ pub extern "C" fn clk_router_offer(
     }
 }
 
-/// Offers packets in the order of these offers, up to the first that can't be made. How many were made is filled in, and what became of
-/// each.
+/// Offers packets in the order of these offers, up to the first that can't be made. Fills in how many were made, and each packet with its
+/// outcome.
 #[unsafe(no_mangle)]
 pub extern "C" fn clk_router_offer_many(
     router: &mut Handle,
@@ -72,7 +72,7 @@ fn offer_each(
     (done, OK)
 }
 
-/// Makes one offer to this router. Returns what became of it, or the status that says why it can't be made.
+/// Makes one offer to this router. Returns the packet with its outcome, or the status that says why the offer can't be made.
 fn offer(router: &mut CountingRouter, sender: u32, length: u32) -> Result<COffered, u32>
     ensures offered { IfOk result (IsOffered router.old router.new sender length) }
     ensures refused { IfErr result (RefusesOffer router.old sender length) }
@@ -106,7 +106,7 @@ pub(crate) fn place_of(router: &CountingRouter, sender: u32) -> Option<u16>
     }
 }
 
-/// No number of 16 bits is above 65,535: a law, which does nothing.
+/// No number of 16 bits is above 65,535. A law, which does nothing.
 fn are_small(numbers: &[u16])
     ensures { (place number : _) → slice_get numbers.now place ≡ Some number → number < 2 ^ 16 }
 {}

@@ -1,4 +1,4 @@
-//! Routers are opened and closed.
+//! Opening and closing routers.
 
 ghost use Rattle.std.specs.Prelude.{◌≡◌, ◌⊎◌, None, IfOk, IfErr};
 ghost use Rattle.clickpull_c.specs.Opens.{IsFaulty, IsGiven, Opens};
@@ -14,8 +14,8 @@ use clk_router::CountingRouter;
 use clk_tree::Plan;
 use std::alloc::Global;
 
-/// Makes the router of the plan that a text in Click's language denotes, before anything has happened, and puts it into an empty place.
-/// Where the text makes none, or an allocation fails, the fault is filled in.
+/// Opens the router of the plan that a text in Click's language denotes, before anything has happened, and puts it into an empty place. If
+/// the text denotes no plan, or an allocation fails, it fills in the fault.
 #[unsafe(no_mangle)]
 pub extern "C" fn clk_router_open(
     alloc: Global,
@@ -38,7 +38,7 @@ pub extern "C" fn clk_router_open(
     }
 }
 
-/// Makes the router of the plan that this text denotes, as a handle.
+/// Opens the router of the plan that this text denotes, as a handle.
 fn open(alloc: Global, text: &[u8]) -> Result<Handle, Fault>
     ensures opened { IfOk result (λ handle. Opens text.now handle.router) }
     ensures fault { IfErr result (λ fault. (fault ≡ Memory) ⊎ HasFault text.now fault) }
@@ -48,7 +48,7 @@ fn open(alloc: Global, text: &[u8]) -> Result<Handle, Fault>
     Ok(Handle::of(Box::new(alloc, router)?))
 }
 
-/// Frees all that a router has, packets in its queues too.
+/// Frees all that a router has, with the packets in its queues.
 #[unsafe(no_mangle)]
 pub extern "C" fn clk_router_close(router: Handle) {
     demand_send(&router);

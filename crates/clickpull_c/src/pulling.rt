@@ -11,8 +11,8 @@ use crate::values::{CPacket, packet_for_c};
 use clk_packet::Packet;
 use clk_router::CountingRouter;
 
-/// Pulls the device with this number once, at this moment in ticks or, where that is later, at the greatest so far. The packet that is
-/// emitted is filled in.
+/// Pulls the device with this number once, at this moment in ticks, or at the device's latest moment if that is later. Fills in the packet,
+/// if one is emitted.
 #[unsafe(no_mangle)]
 pub extern "C" fn clk_router_pull(
     router: &mut Handle,
@@ -32,8 +32,8 @@ pub extern "C" fn clk_router_pull(
     }
 }
 
-/// Pulls the device with this number at this moment in ticks until a pull gives none, or all places for packets are filled. How many were
-/// emitted is filled in.
+/// Pulls the device with this number at this moment, in ticks, until a pull emits none, all places for packets are filled, or no more pulls
+/// can be made. Fills in how many packets were emitted.
 #[unsafe(no_mangle)]
 pub extern "C" fn clk_router_pull_many(
     router: &mut Handle,
@@ -57,7 +57,8 @@ pub extern "C" fn clk_router_pull_many(
     }
 }
 
-/// Pulls a device of this router again and again at this moment, if it can be pulled. Returns how many packets were emitted.
+/// Pulls a device of this router again and again at this moment, if it can be pulled. Returns how many packets were emitted, or the status
+/// that says why it can't be pulled.
 fn pull_often(
     router: &mut CountingRouter,
     device: u16,
@@ -96,7 +97,8 @@ fn pull_on(router: &mut CountingRouter, device: u16, moment: u64, packets: &mut 
     given
 }
 
-/// Pulls a device of this router once, if it can be pulled. Returns the packet, if one was emitted.
+/// Pulls a device of this router once, if it can be pulled. Returns the packet, if one was emitted, or the status that says why it can't be
+/// pulled.
 fn pull(router: &mut CountingRouter, device: u16, moment: u64) -> Result<Option<Packet>, u32>
     ensures pulled { IfOk result (IsPulled router.old router.new device moment) }
     ensures refused { IfErr result (RefusesPull router.old device moment) }

@@ -1,11 +1,11 @@
-//! What there is in a router: calls that change nothing.
+//! Calls that tell the state of a router and change nothing.
 
 ghost use Rattle.std.specs.Prelude.{◌≡◌, ◌⊎◌};
 ghost use Rattle.clickpull_c.specs.Answers.{HasNoDevice, HasNoPlace, HasNoQueue};
 ghost use Rattle.clickpull_c.specs.Counts.{device_count, queue_count, sender_count};
 ghost use Rattle.clickpull_c.specs.Tells.{TellsAccount, TellsDue, TellsLeft, TellsMoment, TellsQueue};
 
-// These calls too take a router as one that changes, since no export takes a struct that lends what it owns.
+// These calls take a router mutably too, since no export takes a struct that lends what it owns.
 use crate::handle::Handle;
 use crate::statuses::{NONE, OK, UNKNOWN_DEVICE, UNKNOWN_QUEUE, UNKNOWN_SENDER};
 use crate::values::{CAccount, CQueue, account_for_c, queue_for_c};
@@ -37,7 +37,7 @@ pub extern "C" fn clk_router_devices(router: &mut Handle) -> usize
     router.get_mut().devices()
 }
 
-/// The greatest moment in ticks that was handed in at the device with this number so far, 0 before the first pull, is filled in.
+/// Fills in the latest moment, in ticks, of the device with this number: the greatest at which it was pulled, or 0 before its first pull.
 #[unsafe(no_mangle)]
 pub extern "C" fn clk_router_moment(router: &mut Handle, device: u16, moment: &mut u64) -> u32
     ensures answer { TellsMoment router.old.router device moment.new result ⊎ (HasNoDevice router.old.router device result × (moment.new ≡ moment.old)) }
@@ -51,8 +51,8 @@ pub extern "C" fn clk_router_moment(router: &mut Handle, device: u16, moment: &m
     OK
 }
 
-/// The earliest moment in ticks at which a pull of the device with this number could emit a packet, as things stand, is filled in. If no packet
-/// is left for the device there is none.
+/// Fills in the earliest moment, in ticks, at which a pull of the device with this number could emit a packet, as things stand. If no
+/// packet is left for the device, it fills in nothing.
 #[unsafe(no_mangle)]
 pub extern "C" fn clk_router_due(router: &mut Handle, device: u16, moment: &mut u64) -> u32
     ensures answer { TellsDue router.old.router device moment.old moment.new result ⊎ (HasNoDevice router.old.router device result × (moment.new ≡ moment.old)) }
@@ -71,7 +71,7 @@ pub extern "C" fn clk_router_due(router: &mut Handle, device: u16, moment: &mut 
     }
 }
 
-/// How many packets are left for the device with this number, accepted there and neither evicted for later ones nor emitted, is filled in.
+/// Fills in how many packets are left for the device with this number: accepted there, and neither evicted nor emitted.
 #[unsafe(no_mangle)]
 pub extern "C" fn clk_router_left(router: &mut Handle, device: u16, packets: &mut u64) -> u32
     ensures answer { TellsLeft router.old.router device packets.new result ⊎ (HasNoDevice router.old.router device result × (packets.new ≡ packets.old)) }
@@ -85,7 +85,7 @@ pub extern "C" fn clk_router_left(router: &mut Handle, device: u16, packets: &mu
     OK
 }
 
-/// What became of all that the sender at this place offered is filled in. Places go from 0 on, by rising numbers of senders.
+/// Fills in the totals of the packets that the sender at this place offered. Places go from 0 on, in the order of the senders' numbers.
 #[unsafe(no_mangle)]
 pub extern "C" fn clk_router_account(
     router: &mut Handle,
@@ -104,7 +104,7 @@ pub extern "C" fn clk_router_account(
     }
 }
 
-/// What the queue with this number is like is filled in.
+/// Fills in the state of the queue with this number.
 #[unsafe(no_mangle)]
 pub extern "C" fn clk_router_queue(router: &mut Handle, number: u16, queue: &mut CQueue) -> u32
     ensures answer { TellsQueue router.old.router number queue.new result ⊎ (HasNoQueue router.old.router number result × (queue.new ≡ queue.old)) }

@@ -1,4 +1,4 @@
-//! The values that C hands in and is given.
+//! The values that C hands over and receives.
 
 ghost use Rattle.std.specs.Prelude.{◌≡◌, None, IfSome};
 ghost use Rattle.clickpull_c.specs.Answers.{IsLength};
@@ -12,7 +12,7 @@ use clk_router::{Account, QueueState, Total};
 #[repr(C)]
 #[derive(Clone, Copy)]
 pub struct CPacket {
-    /// Its place among all that its sender offered, from 0.
+    /// Its place among all packets that its sender offered, from 0.
     pub number: u32,
     /// Its sender's number.
     pub sender: u16,
@@ -20,19 +20,19 @@ pub struct CPacket {
     pub length: u16,
 }
 
-/// What became of an offer. In C it is the struct `clk_offered`.
+/// What an offer returns. In C it is the struct `clk_offered`.
 #[repr(C)]
 #[derive(Clone, Copy)]
 pub struct COffered {
     /// The packet, with its number.
     pub packet: CPacket,
-    /// The packet that was evicted for it, all zero unless one was.
+    /// The packet that was evicted for it. All zero unless the outcome is 2.
     pub evicted: CPacket,
-    /// 0 for a packet that was accepted, 1 for one that was refused, 2 for one for which another was evicted.
+    /// 0 if the packet was accepted, 1 if it was refused, 2 if it was accepted and another was evicted for it.
     pub outcome: u32,
 }
 
-/// An offer. In C it is the struct `clk_offer_of`.
+/// One of several offers. In C it is the struct `clk_offer_of`.
 #[repr(C)]
 #[derive(Clone, Copy)]
 pub struct COffer {
@@ -52,7 +52,7 @@ pub struct CItem {
     pub length: u32,
 }
 
-/// A packet that was emitted in a drain. In C it is the struct `clk_departure`.
+/// A packet that a drain emitted. In C it is the struct `clk_departure`.
 #[repr(C)]
 #[derive(Clone, Copy)]
 pub struct CDeparture {
@@ -72,21 +72,21 @@ pub struct CTotal {
     pub bytes: u64,
 }
 
-/// What became of all that a sender offered. In C it is the struct `clk_account`.
+/// The totals of the packets that a sender offered. In C it is the struct `clk_account`.
 #[repr(C)]
 #[derive(Clone, Copy)]
 pub struct CAccount {
     /// What its queue accepted.
     pub accepted: CTotal,
-    /// What its queue was too full to take.
+    /// What its full queue refused.
     pub refused: CTotal,
-    /// What of the accepted was evicted for later packets.
+    /// The part of the accepted that was evicted for later packets.
     pub evicted: CTotal,
-    /// What of the accepted was emitted at the device.
+    /// The part of the accepted that the device emitted.
     pub emitted: CTotal,
     /// The sender's number.
     pub sender: u16,
-    /// The number of the queue that it pushes to.
+    /// The number of the queue to which it offers.
     pub queue: u16,
 }
 
@@ -98,19 +98,19 @@ pub struct CQueue {
     pub capacity: u64,
     /// How many it holds.
     pub held: u64,
-    /// The number of the device that its packets go to.
+    /// The number of the device that emits its packets.
     pub device: u16,
     /// 1 for a FrontDropQueue, 0 for a Queue.
     pub front_drop: u16,
 }
 
-/// Why a text makes no router. In C it is the struct `clk_fault`.
+/// Why no router was opened. In C it is the struct `clk_fault`.
 #[repr(C)]
 #[derive(Clone, Copy)]
 pub struct CFault {
     /// The fault's number.
     pub number: u32,
-    /// At which byte of the text, from 0; 0 where the fault has no place.
+    /// At which byte of the text, from 0. 0 if the fault has no place.
     pub offset: u32,
 }
 
@@ -136,7 +136,7 @@ pub fn packet_for_c(packet: Packet) -> CPacket
     }
 }
 
-/// A packet that was offered and what became of it, as C sees them.
+/// A packet that was offered, with its outcome, as C sees them.
 pub fn offered_for_c(packet: Packet, outcome: Offered) -> COffered
     ensures { result ≡ offered_in_c packet outcome }
 {

@@ -1,4 +1,4 @@
--- What drains give.
+-- What drains of a live router do.
 use Rattle.std.specs.Prelude.{◌≡◌, ℕ, ◌+◌, ◌<◌, ◌≤◌, List, [], ◌∷◌, length, take, drop, ◌⊎◌, Option, Some, None}
 use Rattle.clk_router.specs.Chains.{IsChain}
 use Rattle.clk_router.specs.Course.{Course, accepted_at, evicted_at, emitted_at, moment_at, CanPull}
@@ -25,11 +25,12 @@ pub record PullsNext (device : ℕ) (old : Seen) (pull : DrainPull) (new : Seen)
   pub moment : pull.moment ≡ moment_at old.course device + 1
   pub pulled : IsPulledLive device pull.moment old pull.got new
 
--- what pulls emitted, each with its moment
+-- these departures, after the packet that a pull emitted at this moment, if it emitted one
 abbrev pub with_departed : ℕ → Option Emitted → List Departed → List Departed
 with_departed moment None others = others
 with_departed moment (Some e) others = record { moment = moment; packet = e.packet; token = e.token } ∷ others
 
+-- the packets that these pulls emitted, each with its moment
 abbrev pub departed_of : List DrainPull → List Departed
 departed_of [] = []
 departed_of (pull ∷ pulls) = with_departed pull.moment pull.got (departed_of pulls)
@@ -40,8 +41,8 @@ EndsDrain ends.Empty now device count most made given = IsEmptied now device
 EndsDrain ends.MoreLeft now device count most made given = HasLeft now device × ((given ≡ count) ⊎ (made ≡ most))
 EndsDrain ends.AtEnd now device count most made given = HasLeft now device × (CanPull now device (moment_at now device + 1) → ⊥)
 
--- A device was pulled one tick apart while packets were left for it and a place was free, so often at most. So many packets were emitted, and
--- filled in with their moments. The others' places are as they were.
+-- A device was pulled one tick apart, at most `most` times, each time with packets left for it and a place free. `given` packets were
+-- emitted, and filled in with their moments. The other places are unchanged.
 pub record AreDrained (device most : ℕ) (old new : Seen) (before filled : List Departed) (given : ℕ) (end : DrainEnd) : Type 0 where
   pub pulls : List DrainPull
   pub made : IsChain (PullsNext device) old pulls new

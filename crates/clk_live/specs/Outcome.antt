@@ -1,4 +1,4 @@
--- What a live router came to, once no packet is left.
+-- The outcome of a live router, once no packet is left.
 use Rattle.std.specs.Prelude.{◌≡◌, ℕ, true, List, map}
 use Rattle.std.specs.List.{AllByRecursion, AllZip}
 use Rattle.clk_packet.specs.declared.packet.Packet.{Packet}
@@ -34,8 +34,8 @@ AreAllEnded outlets = AllByRecursion (λ (o : Outlet). has_end (popped o) ≡ tr
 abbrev pub AreAllWhole : List Outlet → Type 0
 AreAllWhole outlets = AllByRecursion (λ (o : Outlet). IsWhole (popped o)) outlets
 
--- The outcome of a live router whose senders sent these items, by place: what happened can happen, each sender offered its items in order,
--- and all packets are settled. Each packet was refused, evicted or emitted, once.
+-- The outcome of a live router whose senders sent these items, by place: the events can happen, each sender offered its items in order, and
+-- all packets are settled. Each packet was refused, evicted or emitted, once.
 pub record IsLiveOutcome (c : Course) (items : List (List Item)) : Type 0 where
   pub happened : CanHappen c.setup c.events
   pub offered : AreAllOffered c items

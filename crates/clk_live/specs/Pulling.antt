@@ -1,4 +1,4 @@
--- What pulls give.
+-- What pulls of a live router do.
 use Rattle.std.specs.Prelude.{◌≡◌, ℕ, ◌<◌, ◌≤◌, List, length, take, drop, ⊤, Option, Some, None, MatchOption}
 use Rattle.std.specs.Option.{option_map}
 use Rattle.clk_packet.specs.declared.packet.Packet.{Packet}
@@ -21,14 +21,14 @@ pub record IsPulledLive (device moment : ℕ) (old : Seen) (got : Option Emitted
 abbrev pub Emits : (device moment : ℕ) → Seen → Emitted → Seen → Type 0
 Emits device moment old e new = IsPulledLive device moment old (Some e) new
 
--- Pulls at a moment ended: as many packets were emitted as there are places; or the last pull emitted none; or one packet was emitted at
--- least, and no more pulls can be made.
+-- Pulls at a moment ended: as many packets were emitted as there are places; or the last pull emitted none; or at least one packet was
+-- emitted, and no more pulls can be made.
 pub data EndsPulls (device moment count : ℕ) (last new : Seen) (given : ℕ) : Type 0 where
   full : given ≡ count → new ≡ last → EndsPulls device moment count last new given
   gave_none : given < count → IsPulledLive device moment last None new → EndsPulls device moment count last new given
   at_end : 1 ≤ given → (CanPull new.course device moment → ⊥) → new ≡ last → EndsPulls device moment count last new given
 
--- A device was pulled again and again at a moment. So many packets were emitted, and filled in. The others' places are as they were.
+-- A device was pulled again and again at a moment. `given` packets were emitted, and filled in. The other places are unchanged.
 pub record ArePulled (device moment : ℕ) (old new : Seen) (before filled : List Emitted) (given : ℕ) : Type 0 where
   pub last : Seen
   pub within : given ≤ length before

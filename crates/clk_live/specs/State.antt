@@ -22,6 +22,7 @@ pub record LiveState : Type 0 where
   pub outlets : List Outlet
   pub turn : ℕ
 
+-- how the logic stores what is seen of a live router
 abbrev pub live_code : Coded LiveState
 live_code =
     code_by (Course × (List Outlet × ℕ)) (coded× course_code (coded× (coded_list outlet_row.coded) coded_ℕ)) (λ l. (l.course, (l.outlets, l.turn)))
@@ -48,13 +49,14 @@ pub record IsTokenOf (setup : Setup) (items : List (List Item)) (p : Packet) (to
 abbrev pub starts_at : LiveState → ℕ
 starts_at l = if nat_lt l.turn (length l.outlets) then l.turn else 0
 
--- How an outlet goes on: it stays the other half of its inlet, what was popped stays and stays in order, and what was seen in the ring stays
--- next.
+-- An outlet went on: it is still the other half of its inlet; what was popped is kept, and is still in order; what was seen in the ring
+-- still comes next.
 pub record GoesOn (old new : Outlet) : Type 0 where
   pub halves : (i : Inlet) → AreHalves i old → AreHalves i new
   pub in_order : Allowed MayFollow [] (popped old) → Allowed MayFollow [] (popped new)
   pub keeps : IsPrefix (popped old) (popped new)
   pub grows : IsPrefix (popped old ++ waiting old) (popped new ++ waiting new)
 
+-- Each outlet went on (`GoesOn`).
 abbrev pub AllGoOn : List Outlet → List Outlet → Type 0
 AllGoOn old new = AllZip GoesOn old new

@@ -1,4 +1,4 @@
--- What takes packets from inlets.
+-- What takes of packets from inlets do.
 use Rattle.std.specs.Prelude.{◌≡◌, ℕ, ◌⊎◌, filter, ◌==◌, ◌≤◌, false, List, [], ◌∷◌, ◌++◌, length, slice_set as set, take, drop, ⊤, Some, slice_get, ◌+◌, ◌<◌, nat_lt, if◌then◌else◌, Option, MatchOption}
 use Rattle.std.specs.List.{AllByRecursion}
 use mathlib.Core.List.{IsPrefix}
@@ -30,7 +30,7 @@ abbrev pub HasToken : Seen → Outcome → Type 0
 HasToken s (Evicted front token) = IsTokenOf s.course.setup s.items front token
 HasToken s outcome = ⊤
 
--- The next packet of the sender at a place was taken and offered to its queue.
+-- The next packet of the sender at a place was taken and offered to its queue. `t` has it, with its token and outcome.
 pub record IsTaken (place : ℕ) (old : Seen) (t : Taken) (new : Seen) : Type 0 where
   pub before : List Item
   pub was : slice_get old.items place ≡ Some before
@@ -44,7 +44,7 @@ pub record IsTaken (place : ℕ) (old : Seen) (t : Taken) (new : Seen) : Type 0 
 abbrev pub TakesOne : Seen → Taken → Seen → Type 0
 TakesOne old t new = (place : ℕ) × IsTaken place old t new
 
--- So many packets were taken, of any senders, and filled in. The others' places are as they were.
+-- `count` packets were taken, of any senders, and filled in. The other places are unchanged.
 pub record AreTaken (old new : Seen) (before filled : List Taken) (count : ℕ) : Type 0 where
   pub within : count ≤ length before
   pub many : length filled ≡ length before
@@ -80,24 +80,24 @@ AreOf setup place taken = AllByRecursion (λ (t : Taken). sender_at setup place 
 abbrev pub count_of : ℕ → List Taken → ℕ
 count_of s taken = length (filter (λ (t : Taken). t.packet.sender == s) taken)
 
--- at most so many of these packets are of each sender
+-- at most `most` of these packets are of each sender
 abbrev pub AreAtMost : ℕ → List Taken → Type 0
 AreAtMost most taken = (s : ℕ) → count_of s taken ≤ most
 
--- Each sender gave so many of these packets, or this holds of its place.
+-- Each sender gave `each` of these packets, or `Otherwise` holds of its place.
 abbrev pub AreSharesOr : (ℕ → Type 0) → Setup → ℕ → List Taken → Type 0
 AreSharesOr Otherwise setup each taken = (place s : ℕ) → sender_at setup place ≡ Some s → (count_of s taken ≡ each) ⊎ Otherwise place
 
--- the place after this one among so many, the first after the last
+-- the place after this one, of `many` places; the first comes after the last
 abbrev pub after_place : ℕ → ℕ → ℕ
 after_place place many = if nat_lt (place + 1) many then place + 1 else 0
 
--- After a round that filled `places` slots, the last with `last`, the next one starts at the sender after the last packet's. After one that
--- left slots free it starts where this one did.
+-- After a round that filled all `places` slots, the last with `last`, the next round starts at the sender after the last packet's. After a
+-- round that left slots free, the next starts where this one did.
 pub record StartsNext (old new : LiveState) (places count : ℕ) (last : Option Taken) : Type 0 where
   pub same : count < places → starts_at new ≡ starts_at old
   pub next : count ≡ places → MatchOption last (starts_at new ≡ starts_at old) (λ t. (place : ℕ) → sender_at old.course.setup place ≡ Some t.packet.sender → starts_at new ≡ after_place place (length old.outlets))
 
--- each of these packets was accepted, and no other was evicted for it
+-- each of these packets was accepted without evicting another
 abbrev pub AllAccepted : List Taken → Type 0
 AllAccepted taken = AllByRecursion (λ (t : Taken). t.outcome ≡ Accepted) taken

@@ -24,7 +24,7 @@ pub enum DrainEnd {
     Empty,
     /// Packets are left, but no place for them is free, or no pull is left.
     MoreLeft,
-    /// Packets are left, but moments or pulls are at their end.
+    /// Packets are left, but the moments or the pulls of the device are at their end.
     AtEnd,
 }
 
@@ -33,8 +33,8 @@ impl Live {
     ghost use Rattle.clk_live.specs.State.{seen};
     ghost use Rattle.clk_live.specs.Draining.{AreDrained};
 
-    /// Pulls a device one tick apart, from one tick after its latest moment, while packets are left for it. It makes `pulls` pulls at most,
-    /// and stops once `departed` is full. Returns how many packets were emitted, and why the drain ended.
+    /// Drains a device: pulls it one tick apart, the first time one tick after its latest moment, while packets are left for it. Makes at
+    /// most `pulls` pulls, and stops once `departed` is full. Returns how many packets were emitted, and why the drain ended.
     pub fn drain(&mut self, device: u16, departed: &mut [Departed], pulls: u64) -> (usize, DrainEnd)
         requires device { device < length self.old.course.setup.trees }
         ensures drained { AreDrained device pulls (seen self.old) (seen self.new) departed.old departed.new result.0 result.1 }
@@ -61,7 +61,7 @@ impl Live {
 impl Departed {
     ghost use Rattle.clk_live.specs.Draining.{with_departed};
 
-    // Fills in what a pull emitted at a moment, if it emitted a packet, and returns how many are filled in then.
+    // Fills in what a pull emitted at a moment, if it emitted a packet. Returns how many places are filled then.
     fn note(departed: &mut [Departed], given: usize, moment: u64, got: Option<Emitted>) -> usize
         requires low { given < length departed.old }
         ensures filled { take result departed.new ≡ take given departed.old ++ with_departed moment got [] }

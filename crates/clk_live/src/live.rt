@@ -43,7 +43,7 @@ impl Live {
     ghost use Rattle.std.specs.List.{AllByRecursion};
     ghost use Rattle.clk_live.specs.Outcome.{AreAllOffered, AreAllEnded, AreAllWhole, IsLiveOutcome};
 
-    /// The router, for calls that only look: its senders, devices, queues, moments, and the account of each sender.
+    /// The router, for calls that only read: its senders, devices, queues and moments, and the account of each sender.
     pub fn router(&self) -> &CountingRouter
         ensures course { result.now ≡ self.now.course }
         ensures places { length self.now.outlets ≡ length self.now.course.setup.senders }

@@ -29,7 +29,7 @@ pub(crate) fn offer_next(
     ensures offered { (items : List (List Item)) (before : List Item) → CanRun router.old tokens.old.items items place before 1 → IsOffered place (record { course = router.old; items = items }) before item result router.new tokens.new.items }
     ensures full { StayFull router.old router.new }
 {
-    // What is inside each queue changes by these laws, which do nothing.
+    // These laws, which do nothing, say how the packets inside each queue change.
     router.queues_go_on();
     router.has_happened();
     let _ = router.senders();
@@ -46,8 +46,8 @@ pub(crate) fn offer_next(
     }
 }
 
-// Offers a run of packets that come next from the inlet of the sender at a place, in order. Fills in what became of each, from place `from` of
-// `taken` on.
+// Offers a run of packets that come next from the inlet of the sender at a place, in order. Fills in each with its token and outcome, from
+// place `from` of `taken` on.
 pub(crate) fn offer_run(
     router: &mut CountingRouter,
     tokens: &mut Vec<HeapCircularBuffer<u64>>,

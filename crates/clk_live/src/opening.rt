@@ -22,7 +22,7 @@ use std::alloc::Global;
 impl Live {
     ghost use Rattle.clk_live.specs.Opening.{IsLiveOpened};
 
-    /// Opens a router over a plan, with an inlet for each sender that has room for `room` packets, from 1 to
+    /// Opens a router over a plan, with an inlet for each sender. Each inlet has room for `room` packets, from 1 to
     /// [`MAX_ROOM`](clk_inlet::MAX_ROOM). The inlets stand by the places of their senders.
     ///
     /// It allocates all memory: the queues, the rings of the inlets, and 8 bytes for the token of each packet that may be inside. No other
@@ -38,7 +38,7 @@ impl Live {
     {
         let router = CountingRouter::open(alloc, plan)?;
         let (inlets, outlets) = halves_of(alloc, router.senders(), room)?;
-        // Each sender's queue is there, and each queue's tree, by these laws, which do nothing.
+        // The queue of each sender and the tree of each queue exist, by these laws, which do nothing.
         let _ = plan.senders();
         router.queues_go_on();
         router.has_happened();

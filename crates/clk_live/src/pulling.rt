@@ -18,14 +18,14 @@ impl Live {
     ghost use Rattle.clk_live.specs.State.{seen};
     ghost use Rattle.clk_live.specs.Pulling.{IsPulledLive, ArePulled};
 
-    /// Pulls a device once, at this moment in ticks or, if that is earlier than its latest moment, at its latest.
+    /// Pulls a device once, at this moment in ticks, or at the device's latest moment if that is later.
     #[inline]
     pub fn pull(&mut self, device: u16, moment: u64) -> Option<Emitted>
         requires can { CanPull self.old.course device moment }
         ensures pulled { IsPulledLive device moment (seen self.old) result (seen self.new) }
         ensures unchanged { (self.new.outlets ≡ self.old.outlets) × (self.new.turn ≡ self.old.turn) }
     {
-        // What is inside each queue changes by these laws, which do nothing.
+        // These laws, which do nothing, say how the packets inside each queue change.
         self.router.queues_go_on();
         self.router.has_happened();
         let _ = self.router.senders();
@@ -38,8 +38,8 @@ impl Live {
         Some(Emitted { packet, token })
     }
 
-    /// Pulls a device at this moment until a pull emits no packet, or `emitted` is full. Returns how many packets were emitted. It also stops
-    /// if no more pulls can be made.
+    /// Pulls a device at this moment, in ticks, until a pull emits no packet, `emitted` is full, or no more pulls can be made. Returns how
+    /// many packets were emitted.
     pub fn pull_many(&mut self, device: u16, moment: u64, emitted: &mut [Emitted]) -> usize
         requires can { CanPull self.old.course device moment }
         ensures pulled { ArePulled device moment (seen self.old) (seen self.new) emitted.old emitted.new result }

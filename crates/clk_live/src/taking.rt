@@ -7,16 +7,16 @@ use crate::offering::{offer_next, offer_run};
 use clk_inlet::Item;
 use clk_packet::Packet;
 
-// How many packets are taken from an inlet at once, at most.
+// How many packets are taken from an inlet at once at most.
 const RUN: usize = 16;
 
-// What a place of a run has before a packet stands there.
+// What a place of a run has before a packet is filled in.
 const NO_ITEM: Item = Item {
     token: 0,
     length: 0,
 };
 
-/// What became of a packet that was taken from its inlet and offered to its queue.
+/// The outcome of a packet that was taken from its inlet and offered to its queue.
 #[derive(Clone, Copy, Debug, PartialEq, Eq)]
 pub enum Outcome {
     /// The queue accepted it.
@@ -39,7 +39,7 @@ pub struct Taken {
     pub packet: Packet,
     /// The token that came with it.
     pub token: u64,
-    /// What became of it.
+    /// The outcome of its offer.
     pub outcome: Outcome,
 }
 
@@ -77,7 +77,7 @@ impl Live {
         state.held == state.capacity
     }
 
-    // Takes the next packet of the sender at a place, if it fits: if the queue is full, it takes none.
+    // Takes the next packet of the sender at a place if it fits: if the queue is full, takes none.
     fn take_fitting(&mut self, place: usize) -> Option<Taken>
         requires there { place < length self.old.outlets }
         ensures taken { IfSome result (λ t. IsTaken place (seen self.old) t (seen self.new)) }
@@ -113,8 +113,8 @@ impl Live {
         taken
     }
 
-    // Takes packets of the sender at a place into `taken`, from its place `from` on, up to `most`: all that come, or those that fit. Runs go
-    // through `items`, whose contents don't matter.
+    // Takes packets of the sender at a place into `taken`, from its place `from` on, up to `most`. With `only_fitting` it takes only those
+    // that fit. Runs go through `items`, whose contents don't matter. Returns how many places of `taken` are filled then.
     fn fill(
         &mut self,
         place: usize,
@@ -143,6 +143,7 @@ impl Live {
     }
 
     // Takes packets of the sender at a place into `taken`, from its place `from` on, up to `most`, while its queue has room for them.
+    // Returns how many places of `taken` are filled then.
     fn fill_fitting(&mut self, place: usize, taken: &mut [Taken], from: usize, most: usize) -> usize
         requires there { place < length self.old.outlets }
         requires within { (from ≤ most) × (most ≤ length taken.old) }
@@ -167,7 +168,8 @@ impl Live {
         count
     }
 
-    // Takes packets of the sender at a place into `taken`, from its place `from` on, up to `most`, one run after another.
+    // Takes packets of the sender at a place into `taken`, from its place `from` on, up to `most`, one run after another. Returns how many
+    // places of `taken` are filled then.
     fn fill_all(
         &mut self,
         place: usize,
@@ -199,7 +201,8 @@ impl Live {
         count
     }
 
-    // Takes a run of packets of the sender at a place into `taken`, from its place `from` on, up to `most`. The ring is looked at once.
+    // Takes a run of packets of the sender at a place into `taken`, from its place `from` on, up to `most`. Reads the ring once. Returns
+    // how many places of `taken` are filled then.
     fn take_run(
         &mut self,
         place: usize,
@@ -227,8 +230,8 @@ impl Live {
         from + count
     }
 
-    /// Takes packets from the inlet of the sender at this place into the start of `taken`, as many as wait there and fit. Offers each to the
-    /// sender's queue, in order. Returns how many.
+    /// Takes packets that wait in the inlet of the sender at this place into the start of `taken`, as many as it has places for. Offers
+    /// each to the sender's queue, in order. Returns how many.
     pub fn take_many(&mut self, place: usize, taken: &mut [Taken]) -> usize
         requires there { place < length self.old.outlets }
         ensures taken { AreTaken (seen self.old) (seen self.new) taken.old taken.new result }
@@ -267,7 +270,7 @@ impl Live {
         self.round(true, each, taken)
     }
 
-    // Takes packets from all inlets in one round, of those that fit if only these are wanted.
+    // Takes packets from all inlets in one round. With `only_fitting` it takes only those that fit. Returns how many.
     fn round(&mut self, only_fitting: bool, each: usize, taken: &mut [Taken]) -> usize
         ensures taken { AreTaken (seen self.old) (seen self.new) taken.old taken.new result }
         ensures each { AreAtMost each (take result taken.new) }
@@ -276,7 +279,7 @@ impl Live {
         ensures turn { StartsNext self.old self.new (length taken.old) result (slice_get taken.new (result - 1)) }
         ensures outlets { AllGoOn self.old.outlets self.new.outlets }
     {
-        // The numbers of senders rise, so that each stands at one place.
+        // The numbers of senders rise, so each stands at one place.
         let _ = self.router.senders();
         let places = self.outlets.len();
         let start = self.starts_at();
@@ -299,8 +302,8 @@ impl Live {
         }
     }
 
-    // Takes packets of the senders from place `first` up to `end` into `taken`, from its place `from` on, at most `each` from each. Returns how
-    // many are filled in then, and the place after the last one visited.
+    // Takes packets of the senders from place `first` up to `end` into `taken`, from its place `from` on, at most `each` from each. Returns
+    // how many places of `taken` are filled then, and the place after the last sender visited.
     fn sweep(
         &mut self,
         first: usize,
@@ -325,7 +328,7 @@ impl Live {
         ensures outlets { AllGoOn self.old.outlets self.new.outlets }
         ensures setup { self.new.course.setup ≡ self.old.course.setup }
     {
-        // The numbers of senders rise, so that each stands at one place.
+        // The numbers of senders rise, so each stands at one place.
         let _ = self.router.senders();
         let mut count = from;
         let mut place = first;

@@ -8,7 +8,7 @@ use crate::taking::Outcome;
 use circular_buffer::HeapCircularBuffer;
 use clk_packet::Offered;
 
-// Notes that a packet with this token was offered to a queue, which holds `capacity` packets at most, with this outcome.
+// Notes the outcome of an offer to a queue of `capacity` packets: of a packet with this token.
 pub(crate) fn note_offer(
     tokens: &mut HeapCircularBuffer<u64>,
     capacity: usize,
@@ -25,7 +25,7 @@ pub(crate) fn note_offer(
         }
         Offered::Refused(_) => Outcome::Refused,
         Offered::Evicted(packet) => {
-            // The evicted packet stands behind the heads, which are as many as are inside beyond the full queue.
+            // The evicted packet stands right behind the heads. Its queue is full, so all tokens inside beyond `capacity` are of heads.
             let heads = tokens.len() - capacity;
             let evicted = take_out(tokens, heads);
             tokens.push_back(token);

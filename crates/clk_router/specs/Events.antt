@@ -46,8 +46,8 @@ plan_setup trees plan = setup_of trees (queues_of plan) (senders_of plan)
 abbrev pub sender_numbers : Setup → List ℕ
 sender_numbers setup = map number_of setup.senders
 
--- What happened to a router: a packet was offered, with this outcome; or the device of this number was pulled, at the moment that was handed
--- in, with these visits.
+-- What happened to a router: a packet was offered, with this outcome; or the device with this number was pulled, with these visits, at the
+-- moment that was handed in.
 pub data Event : Type 0 where
   offered : Packet → Offered → Event
   pulled : ℕ → ℕ → List Visit → Event

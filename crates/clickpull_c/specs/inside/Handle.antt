@@ -1,4 +1,4 @@
--- What a handle owns, lends and follows: what a box of a router does.
+-- What the handle of a router owns: what a box of the router does.
 use base.Fml.{Fml}
 use base.Stored.{Coded}
 use denote.RawPtr.{Ptr}
@@ -11,5 +11,6 @@ use Rattle.clk_router.specs.contracts.counting.CountingRouter.{the_row}
 abbrev pub handle_owns : Global → Ptr → the_row.Denot → Fml
 handle_owns alloc = box_owns (ghosts.dealloc_token alloc) the_row
 
+-- how the logic stores a router
 abbrev pub router_coded : Coded the_row.Denot
 router_coded = the_row.coded

@@ -13,13 +13,13 @@ use Rattle.clickpull_c.specs.Filled.{IsFilled}
 use Rattle.clickpull_c.specs.live.State.{Answers}
 use Rattle.clickpull_c.specs.live.Values.{departed_in_c}
 
--- what a drain returns that ended so
+-- what a drain with this end returns
 abbrev pub drain_status : DrainEnd → ℕ
 drain_status ends.Empty = OK
 drain_status ends.MoreLeft = NONE
 drain_status ends.AtEnd = AT_END
 
--- A device was drained into slots. So many packets were emitted, and filled in as C sees them.
+-- A device was drained. `given` packets were emitted, and filled in as C sees them.
 pub record Drains (device most : ℕ) (old new : LiveState) (before filled : List CDeparted) (given status : ℕ) : Type 0 where
   pub slots : List Departed
   pub gave : List Departed
@@ -30,7 +30,7 @@ pub record Drains (device most : ℕ) (old new : LiveState) (before filled : Lis
   pub status_is : status ≡ drain_status end
   pub unchanged : (new.outlets ≡ old.outlets) × (new.turn ≡ old.turn)
 
--- what a call does that drains a device
+-- A call drained a device, or was refused.
 abbrev pub AnswersDrain : (old new : LiveRouter) (device most : ℕ) (before filled : List CDeparted) (given status : ℕ) → Type 0
 AnswersDrain old new device most before filled given status =
     Answers old new status (λ a b. Drains device most a b before filled given status) (λ s. HasNoDevice s.course device status) ((filled ≡ before) × (given ≡ 0))

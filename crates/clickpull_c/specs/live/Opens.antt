@@ -1,4 +1,4 @@
--- What comes of a text that a live router is opened with.
+-- What opening a live router over a text does.
 use Rattle.std.specs.Prelude.{◌≡◌, ℕ, List, [], ◌<◌, ◌≤◌, ◌⊎◌, map, Option, Some}
 use Rattle.clk_tree.specs.Plan.{Planned, Denotes}
 use Rattle.clk_inlet.specs.Limits.{most_room}
@@ -11,7 +11,7 @@ use Rattle.clickpull_c.specs.declared.statuses.TheConstants.{BAD_ROOM}
 use Rattle.clickpull_c.specs.Opens.{IsFaulty}
 use Rattle.clickpull_c.specs.live.State.{inlets_of}
 
--- A live router was opened over the plan that a text denotes, with inlets that have room for so many packets, of which none was handed out.
+-- A live router was opened over the plan that a text denotes. Its inlets have room for `room` packets each, and none was handed out.
 pub record OpensLive (text : List ℕ) (room : ℕ) (l : LiveRouter) : Type 0 where
   pub plan : List Planned
   pub denotes : Denotes text plan
@@ -22,13 +22,14 @@ pub record OpensLive (text : List ℕ) (room : ℕ) (l : LiveRouter) : Type 0 wh
   pub has_inlets : inlets_of l ≡ map Some inlets
   pub reclaimed : l.reclaimed ≡ []
 
--- A place was given such a router.
+-- A place was given a live router that was opened over this text.
 pub record IsGivenLive (text : List ℕ) (room : ℕ) (place : Option LiveRouter) : Type 0 where
   pub router : LiveRouter
   pub has : place ≡ Some router
   pub opens : OpensLive text room router
 
--- No router was opened: inlets can't have such room, and then no fault is filled in; or the text or memory has a fault.
+-- No router was opened: inlets can't have such room, and then no fault is filled in; or an allocation failed, or the text has a fault,
+-- which is filled in.
 pub data RefusesOpen (text : List ℕ) (room : ℕ) (before filled : CFault) (status : ℕ) : Type 0 where
   bad_room : status ≡ BAD_ROOM → (room ≡ 0) ⊎ (most_room < room) → filled ≡ before → RefusesOpen text room before filled status
   faulty : (1 ≤ room) × (room ≤ most_room) → IsFaulty text filled status → RefusesOpen text room before filled status

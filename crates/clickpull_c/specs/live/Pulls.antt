@@ -12,12 +12,12 @@ use Rattle.clickpull_c.specs.Filled.{IsFilled}
 use Rattle.clickpull_c.specs.live.State.{Answers}
 use Rattle.clickpull_c.specs.live.Values.{emitted_in_c}
 
--- what a pull leaves where the packet is filled in
+-- what the place for a packet holds after a pull with this result
 abbrev pub emitted_fills : CEmitted → Option Emitted → CEmitted
 emitted_fills before None = before
 emitted_fills before (Some e) = emitted_in_c e
 
--- A device was pulled once. The packet that it emitted was filled in with its token, if it emitted one, and this status was returned.
+-- A device was pulled once. If it emitted a packet, that was filled in with its token. This status was returned.
 pub record PullsOnce (device moment : ℕ) (old new : LiveState) (before filled : CEmitted) (status : ℕ) : Type 0 where
   pub got : Option Emitted
   pub pulled : IsPulledLive device moment (seen old) got (seen new)
@@ -25,7 +25,7 @@ pub record PullsOnce (device moment : ℕ) (old new : LiveState) (before filled 
   pub status_is : status ≡ pull_status (option_map packet_of got)
   pub unchanged : (new.outlets ≡ old.outlets) × (new.turn ≡ old.turn)
 
--- A device was pulled again and again into slots. So many packets were emitted, and filled in as C sees them.
+-- A device was pulled again and again. `given` packets were emitted, and filled in as C sees them.
 pub record PullsMany (device moment : ℕ) (old new : LiveState) (before filled : List CEmitted) (given : ℕ) : Type 0 where
   pub slots : List Emitted
   pub gave : List Emitted
@@ -34,12 +34,12 @@ pub record PullsMany (device moment : ℕ) (old new : LiveState) (before filled 
   pub are_filled : IsFilled before filled (map emitted_in_c (take given gave))
   pub unchanged : (new.outlets ≡ old.outlets) × (new.turn ≡ old.turn)
 
--- what a call does that pulls a device once
+-- A call pulled a device once, or was refused.
 abbrev pub AnswersOnePull : (old new : LiveRouter) (device moment : ℕ) (before filled : CEmitted) (status : ℕ) → Type 0
 AnswersOnePull old new device moment before filled status =
     Answers old new status (λ a b. PullsOnce device moment a b before filled status) (λ s. RefusesPull s.course device moment status) (filled ≡ before)
 
--- what a call does that pulls a device again and again
+-- A call pulled a device again and again, or was refused.
 abbrev pub AnswersPulls : (old new : LiveRouter) (device moment : ℕ) (before filled : List CEmitted) (given status : ℕ) → Type 0
 AnswersPulls old new device moment before filled given status =
     Answers old new status (λ a b. PullsMany device moment a b before filled given × (status ≡ pulls_status given (length before))) (λ s. RefusesPull s.course device moment status) ((filled ≡ before) × (given ≡ 0))

@@ -11,12 +11,12 @@ use Rattle.clickpull_c.specs.live.State.{inlets_of}
 abbrev pub AreLeft : LiveRouter → List ℕ → Type 0
 AreLeft l tokens = MatchOption l.live (tokens ≡ l.reclaimed) (λ s. AreTokensInside (seen s) tokens)
 
--- A call that fills in all that is left returns OK, and then a place is free. Otherwise all places are filled.
+-- A reclaim ended: no token is left, and a place is free; or all places are filled.
 pub data EndsReclaim (places given status : ℕ) (rest : List ℕ) : Type 0 where
   all : status ≡ OK → given < places → rest ≡ [] → EndsReclaim places given status rest
   full : status ≡ NONE → given ≡ places → EndsReclaim places given status rest
 
--- The router was given up, if it was there. So many of the tokens that were left were filled in, and the rest is left.
+-- The router was given up, if it existed. The first `given` of the tokens that were left were filled in, and the rest is left.
 pub record Reclaims (old new : LiveRouter) (before filled : List ℕ) (given status : ℕ) : Type 0 where
   pub tokens : List ℕ
   pub left : AreLeft old tokens

@@ -23,7 +23,7 @@ pub record IsUnchanged (old new : LiveRouter) : Type 0 where
   pub inlets : inlets_of new ≡ inlets_of old
   pub reclaimed : new.reclaimed ≡ old.reclaimed
 
--- A call made this step. Or it was refused for this reason, or since there is no router any more; then nothing changed.
+-- A call made this step. Or it was refused for this reason, or since the router was reclaimed; then nothing changed.
 pub data Answers (old new : LiveRouter) (status : ℕ) (Step : LiveState → LiveState → Type 0) (Refused : LiveState → Type 0) (Unfilled : Type 0) : Type 0 where
   done : (before after : LiveState) → Goes old new before after → Step before after → Answers old new status Step Refused Unfilled
   refused : (state : LiveState) → old.live ≡ Some state → Refused state → IsUnchanged old new → Unfilled → Answers old new status Step Refused Unfilled

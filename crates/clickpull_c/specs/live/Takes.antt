@@ -1,4 +1,4 @@
--- What takes of packets do, and what they fill in.
+-- What takes of packets from inlets do, and what they fill in.
 use Rattle.std.specs.Prelude.{◌≡◌, ℕ, ◌-◌, ◌<◌, List, length, map, take, min, Some, slice_get}
 use Rattle.clk_router.specs.Course.{Course, sender_at}
 use Rattle.clk_live.specs.State.{LiveState, seen, AllGoOn}
@@ -14,11 +14,11 @@ use Rattle.clickpull_c.specs.Filled.{IsFilled}
 use Rattle.clickpull_c.specs.live.State.{Answers}
 use Rattle.clickpull_c.specs.live.Values.{taken_in_c}
 
--- how many packets one call takes at most into these places
+-- how many packets one call takes at most, with these places
 abbrev pub most_into : List CTaken → ℕ
 most_into places = min (length places) MOST_TAKEN
 
--- So many packets were taken into slots, and filled in as C sees them.
+-- `given` packets were taken, and filled in as C sees them.
 pub record Takes (old new : LiveState) (before filled : List CTaken) (given : ℕ) (gave : List Taken) : Type 0 where
   pub slots : List Taken
   pub many : length slots ≡ most_into before
@@ -26,7 +26,7 @@ pub record Takes (old new : LiveState) (before filled : List CTaken) (given : �
   pub are_filled : IsFilled before filled (map taken_in_c (take given gave))
   pub outlets : AllGoOn old.outlets new.outlets
 
--- Packets of one sender were taken: as many as wait in its inlet, if fewer than a call takes at most.
+-- Packets of one sender were taken: all that were seen in its inlet, unless the call took as many as it may.
 pub record TakesOf (sender : ℕ) (old new : LiveState) (before filled : List CTaken) (given : ℕ) : Type 0 where
   pub gave : List Taken
   pub takes : Takes old new before filled given gave
@@ -36,20 +36,20 @@ pub record TakesOf (sender : ℕ) (old new : LiveState) (before filled : List CT
   pub gave_all : given < most_into before → GaveAll old.outlets new.outlets place
   pub turn : new.turn ≡ old.turn
 
--- Packets were taken in one round over the senders, so many of each at most.
+-- Packets were taken in one round over the senders, at most `each` from each.
 pub record TakesRound (each : ℕ) (old new : LiveState) (before filled : List CTaken) (given : ℕ) (gave : List Taken) : Type 0 where
   pub takes : Takes old new before filled given gave
   pub at_most : AreAtMost each (take given gave)
   pub turn : StartsNext old new (most_into before) given (slice_get gave (given - 1))
 
--- Of each sender so many were taken, or all that wait in its inlet, unless the call took as many as it takes at most.
+-- Of each sender `each` packets were taken, or all that were seen in its inlet, unless the call took as many as it may.
 pub record TakesIn (each : ℕ) (old new : LiveState) (before filled : List CTaken) (given : ℕ) : Type 0 where
   pub gave : List Taken
   pub round : TakesRound each old new before filled given gave
   pub shares : given < most_into before → AreSharesOr (GaveAll old.outlets new.outlets) old.course.setup each (take given gave)
 
--- Each of them was accepted, and no other was evicted for it. Of each sender so many were taken, or all that wait in its inlet, or its queue is
--- full now, unless the call took as many as it takes at most.
+-- Each packet was accepted without evicting another. Of each sender `each` packets were taken, or all that were seen in its inlet, or its
+-- queue is full now, unless the call took as many as it may.
 pub record TakesWhatFits (each : ℕ) (old new : LiveState) (before filled : List CTaken) (given : ℕ) : Type 0 where
   pub gave : List Taken
   pub round : TakesRound each old new before filled given gave
@@ -61,7 +61,7 @@ pub record HasNoSender (c : Course) (sender status : ℕ) : Type 0 where
   pub answers : status ≡ UNKNOWN_SENDER
   pub missing : IsUnknown c sender
 
--- what a call that takes packets does
+-- A call took packets, or was refused.
 abbrev pub AnswersTake : (old new : LiveRouter) (Step : LiveState → LiveState → Type 0) (Refused : LiveState → Type 0) (before filled : List CTaken) (given status : ℕ) → Type 0
 AnswersTake old new Step Refused before filled given status =
     Answers old new status (λ a b. Step a b × (status ≡ pulls_status given (length before))) Refused ((filled ≡ before) × (given ≡ 0))

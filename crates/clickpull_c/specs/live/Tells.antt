@@ -9,15 +9,15 @@ use Rattle.clickpull_c.specs.declared.live.router.LiveRouter.{LiveRouter}
 use Rattle.clickpull_c.specs.declared.statuses.TheConstants.{OK, NONE}
 use Rattle.clickpull_c.specs.live.State.{Answers}
 
--- What a call does that tells something of the router and changes nothing.
+-- A call told something of the router and changed nothing, or was refused.
 abbrev pub AnswersTold : (old new : LiveRouter) (status : ℕ) (Told Refused : LiveState → Type 0) (Unfilled : Type 0) → Type 0
 AnswersTold old new status Told Refused Unfilled = Answers old new status (λ a b. (b ≡ a) × Told a) Refused Unfilled
 
--- how many there are of something, and none once there is no router
+-- what a call returns that tells how many there are of something: 0, if the router was reclaimed
 abbrev pub IsCount : LiveRouter → (Course → ℕ) → ℕ → Type 0
 IsCount l count told = MatchOption l.live (told ≡ 0) (λ s. told ≡ count s.course)
 
--- Whether every inlet has ended, and every packet that was ever sent through it was taken.
+-- Whether every inlet has ended. If so, every packet that was ever sent through them was taken.
 pub data TellsEnded (s : LiveState) (status : ℕ) : Type 0 where
   ended : status ≡ OK → AreAllEnded s.outlets → AreAllWhole s.outlets → TellsEnded s status
   not_ended : status ≡ NONE → (AreAllEnded s.outlets → ⊥) → TellsEnded s status

@@ -8,9 +8,9 @@ use super::Handle;
 use std::alloc::Global;
 use std::marker::Model;
 
-/// A place that C has for a router: it is empty, or it has one. In C it is the struct `clk_router` too. Where it has a router it is that
-/// router's `Handle`; where it is empty, it may be anything.
-// A drop forgets a router that it has. None is dropped here but empty ones.
+/// A place that C has for a router: it is empty, or it has one. In C it is the struct `clk_router` too. If it has a router, it is that
+/// router's `Handle`. If it is empty, its bytes may be anything.
+// A drop forgets the router. Only empty places are dropped here.
 #[repr(C)]
 #[derive(Drop)]
 pub struct Place {

@@ -1,4 +1,4 @@
-//! What a sender does with its inlet: it offers packets, asks for the room, and ends.
+//! What a sender does with its inlet: it offers packets, asks for the room, and ends it.
 
 ghost use Rattle.std.specs.Prelude.{◌≡◌, ◌⊎◌, ◌+◌, ◌<◌, ◌≤◌, true, false, length, map, take, IsOk, IfOk, IfErr, OnErr};
 ghost use Rattle.clk_inlet.specs.Items.{has_end};
@@ -18,8 +18,8 @@ use clk_inlet::{Inlet, Item, Refusal};
 // How many packets of a batch are converted at a time.
 const PIECE: usize = 64;
 
-/// Offers a packet of this length in bytes, with a token of the caller's. The packet's number is filled in: how many packets the inlet
-/// accepted before it.
+/// Offers a packet of this length in bytes, with a token of the caller's. Fills in the packet's number: how many packets the inlet accepted
+/// before it.
 #[unsafe(no_mangle)]
 pub extern "C" fn clk_raw_inlet_offer(
     inlet: &mut InletHandle,
@@ -41,7 +41,7 @@ pub extern "C" fn clk_raw_inlet_offer(
     }
 }
 
-/// Offers a batch of packets, in order, up to the first that is refused. How many were accepted is filled in.
+/// Offers a batch of packets, in order, up to the first that is refused. Fills in how many were accepted.
 #[unsafe(no_mangle)]
 pub extern "C" fn clk_raw_inlet_offer_many(
     inlet: &mut InletHandle,
@@ -58,7 +58,7 @@ pub extern "C" fn clk_raw_inlet_offer_many(
     status
 }
 
-/// Looks at the ring, and returns how many packets are sure to fit now. At the end that is 0.
+/// Reads the ring, and returns how many packets are sure to fit now. That is 0 once the inlet accepts no more packets.
 #[unsafe(no_mangle)]
 pub extern "C" fn clk_raw_inlet_room(inlet: &mut InletHandle) -> usize
     ensures room { result ≡ fits inlet.new.inlet }
@@ -69,7 +69,7 @@ pub extern "C" fn clk_raw_inlet_room(inlet: &mut InletHandle) -> usize
     inlet.get_mut().room()
 }
 
-/// Ends an inlet, so that no packet follows, and frees its handle. It never fails, and never waits.
+/// Ends an inlet, so that no packet follows, and frees its handle. Never fails, and never waits.
 #[unsafe(no_mangle)]
 pub extern "C" fn clk_raw_inlet_close(inlet: InletHandle) {
     demand_send(&inlet);
@@ -78,7 +78,7 @@ pub extern "C" fn clk_raw_inlet_close(inlet: InletHandle) {
     free(inlet);
 }
 
-// Frees the sender's half of a ring, in which the end is.
+// Frees the sender's half of a ring whose end was pushed.
 fn free(inlet: Box<Inlet>)
     requires ended { has_end (pushed inlet.value) ≡ true }
 {
@@ -122,7 +122,7 @@ fn offer_each(inlet: &mut Inlet, items: &[CItem]) -> (usize, u32)
         if done == items.len() {
             return (done, OK);
         }
-        // The next one is offered alone: if it is refused, this says why.
+        // The next item is offered alone: if it is refused, this says why.
         match offer(inlet, items[done].length, items[done].token) {
             Ok(_) => done += 1,
             Err(status) => return (done, status),
@@ -131,7 +131,8 @@ fn offer_each(inlet: &mut Inlet, items: &[CItem]) -> (usize, u32)
     (done, OK)
 }
 
-// Offers the first of these items as one batch, as many as fit into `piece`. Returns how many were accepted.
+// Offers the first of these items as one batch: at most as many as fit into `piece`, up to one whose length is out of range. Returns how
+// many were accepted.
 fn offer_piece(inlet: &mut Inlet, items: &[CItem], piece: &mut [Item]) -> usize
     ensures accepted { AcceptsMany inlet.old inlet.new items.now result }
     ensures stops { result < length piece.old → MayStop inlet.new items.now result }
@@ -143,7 +144,7 @@ fn offer_piece(inlet: &mut Inlet, items: &[CItem], piece: &mut [Item]) -> usize
     inlet.offer_many(front)
 }
 
-// Converts the first of these items, up to one whose length is out of range, and as many as fit into `piece`. Returns how many.
+// Converts the first of these items into `piece`: as many as fit, up to one whose length is out of range. Returns how many.
 fn convert(items: &[CItem], piece: &mut [Item]) -> usize
     ensures count { (result ≤ length items.now) × (result ≤ length piece.new) }
     ensures room { length piece.new ≡ length piece.old }

@@ -4,7 +4,7 @@ ghost use Rattle.std.specs.Prelude.{[]};
 ghost use Rattle.clickpull_c.specs.Filled.{IsFilled};
 ghost use Rattle.clickpull_c.specs.live.Examples.{places, one_value, one_filled, filled_behind, two_filled, four_values};
 
-/// What is filled in stands at the front, and all other places are as they were.
+/// Values are filled in at the front, and all other places are unchanged.
 pub fn filled_examples()
     ensures one { IsFilled places one_filled one_value }
     ensures none { IsFilled places places [] }

@@ -1,4 +1,4 @@
-//! Inlets are handed out.
+//! Handing out inlets.
 
 ghost use Rattle.std.specs.Prelude.{◌≡◌, ◌⊎◌, Some, None, IfOk, IfErr, OnErr, IfSome};
 ghost use Rattle.clk_router.specs.Course.{sender_at};

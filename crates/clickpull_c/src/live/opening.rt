@@ -1,4 +1,4 @@
-//! Live routers are opened and closed.
+//! Opening and closing live routers.
 
 ghost use Rattle.std.specs.Prelude.{◌≡◌, ◌≤◌, ◌⊎◌, None, Some, map, IfOk, IfErr, IsOkUnless};
 ghost use Rattle.std.specs.Option.{option_map};
@@ -20,7 +20,7 @@ use clk_tree::Plan;
 use std::alloc::Global;
 
 /// Opens a live router over the plan that a text in Click's language denotes, and puts it into an empty place. It has an inlet for each
-/// sender, with room for `room` packets. If the text denotes no plan, or an allocation fails, the fault is filled in.
+/// sender, with room for `room` packets. If the text denotes no plan, or an allocation fails, it fills in the fault.
 #[unsafe(no_mangle)]
 pub extern "C" fn clk_raw_live_open(
     alloc: Global,
@@ -76,7 +76,7 @@ fn box_each(alloc: Global, inlets: Vec<Inlet>) -> Result<Vec<Option<Box<Inlet>>>
     Ok(boxed)
 }
 
-/// Frees all that a live router has. Inlets that were not handed out end.
+/// Frees all that a live router has. Ends the inlets that were not handed out.
 #[unsafe(no_mangle)]
 pub extern "C" fn clk_raw_live_close(live: LiveHandle) {
     demand_send(&live);

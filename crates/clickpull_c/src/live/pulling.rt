@@ -12,8 +12,8 @@ use crate::statuses::{AT_END, NONE, OK, RECLAIMED, UNKNOWN_DEVICE, given_status}
 use clk_live::Live;
 use clk_router::CountingRouter;
 
-/// Pulls the device with this number once, at this moment in ticks or, if that is earlier than its latest moment, at its latest. The packet
-/// that is emitted is filled in, with its token.
+/// Pulls the device with this number once, at this moment in ticks, or at the device's latest moment if that is later. Fills in the packet
+/// with its token, if one is emitted.
 #[unsafe(no_mangle)]
 pub extern "C" fn clk_raw_live_pull(
     live: &mut LiveHandle,
@@ -26,8 +26,8 @@ pub extern "C" fn clk_raw_live_pull(
     pull(live.get_mut(), device, moment, packet)
 }
 
-/// Pulls the device with this number at this moment in ticks until a pull emits no packet, or all places are filled. How many packets were
-/// emitted is filled in.
+/// Pulls the device with this number at this moment, in ticks, until a pull emits none, all places are filled, or no more pulls can be
+/// made. Fills in how many packets were emitted.
 #[unsafe(no_mangle)]
 pub extern "C" fn clk_raw_live_pull_many(
     live: &mut LiveHandle,

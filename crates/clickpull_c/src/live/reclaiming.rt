@@ -1,4 +1,4 @@
-//! The tokens of packets inside a live router are reclaimed.
+//! Reclaiming the tokens of packets inside a live router.
 
 ghost use Rattle.std.specs.Prelude.{◌≡◌, None};
 ghost use Rattle.clickpull_c.specs.live.Reclaims.{AreLeft, Reclaims};
@@ -8,7 +8,8 @@ use super::router::LiveRouter;
 use crate::statuses::{NONE, OK};
 
 /// Gives up the router, and fills in the tokens of all packets that are inside it, as many as find a place: queue by queue, and in each
-/// queue the packet first that would have been emitted first. Called again it goes on. What waits in the inlets is not among them.
+/// queue the packet first that would have been emitted first. A further call goes on from there. Tokens that wait in the inlets are not
+/// among them.
 #[unsafe(no_mangle)]
 pub extern "C" fn clk_raw_live_reclaim(
     live: &mut LiveHandle,
@@ -38,7 +39,7 @@ fn reclaim(router: &mut LiveRouter, tokens: &mut [u64]) -> (usize, u32)
     (given, NONE)
 }
 
-// Gives up the router, if it is there. Then its tokens are left to reclaim.
+// Gives up the router, if it exists. Then the tokens of the packets inside are left to reclaim.
 fn give_up(router: &mut LiveRouter)
     ensures left { AreLeft router.old router.new.reclaimed }
     ensures given_up { router.new.live ≡ None }

@@ -1,4 +1,4 @@
-//! A live router with what belongs to it.
+//! A live router with its inlets and tokens.
 
 use clk_inlet::Inlet;
 use clk_live::{Live, Reclaimed};

@@ -1,4 +1,4 @@
-//! Packets are taken from inlets.
+//! Taking packets from inlets.
 
 ghost use Rattle.std.specs.Prelude.{◌≡◌, ◌≤◌, ◌<◌, length, map, take, Some};
 ghost use Rattle.clk_live.specs.State.{LiveState};
@@ -18,7 +18,7 @@ use clk_packet::Packet;
 /// How many packets one call takes at most.
 pub const MOST_TAKEN: usize = 64;
 
-// What a slot has that no packet was taken into.
+// The value of a slot that no packet was taken into.
 const FREE: Taken = Taken {
     packet: Packet {
         number: 0,
@@ -29,8 +29,8 @@ const FREE: Taken = Taken {
     outcome: Outcome::Accepted,
 };
 
-/// Takes packets of the sender with this number, as many as wait in its inlet and find a place, 64 at most. Offers each to the sender's
-/// queue. How many were taken is filled in, and what became of each.
+/// Takes packets that wait in the inlet of the sender with this number, as many as find a place, 64 at most. Offers each to the sender's
+/// queue. Fills in how many were taken, and each with its token and outcome.
 #[unsafe(no_mangle)]
 pub extern "C" fn clk_raw_live_take(
     live: &mut LiveHandle,
@@ -46,7 +46,8 @@ pub extern "C" fn clk_raw_live_take(
 }
 
 /// Takes packets in one round over the senders, at most `each` from each, as many as find a place, 64 at most. Offers each to its sender's
-/// queue. How many were taken is filled in, and what became of each. If all places are filled, the next round starts at the next sender.
+/// queue. Fills in how many were taken, and each with its token and outcome. If the call takes as many as it may, the next round starts at
+/// the next sender.
 #[unsafe(no_mangle)]
 pub extern "C" fn clk_raw_live_take_in(
     live: &mut LiveHandle,
@@ -104,7 +105,7 @@ fn take_in(router: &mut LiveRouter, each: usize, taken: &mut [CTaken]) -> (usize
     (count, given_status(count, places))
 }
 
-// Takes packets that fit in one round. Returns how many, and the status.
+// Takes packets that fit, in one round. Returns how many, and the status.
 fn take_what_fits(router: &mut LiveRouter, each: usize, taken: &mut [CTaken]) -> (usize, u32)
     ensures { AnswersTake router.old router.new (λ a b. TakesWhatFits each a b taken.old taken.new result.0) (λ s. ⊥) taken.old taken.new result.0 result.1 }
 {
@@ -116,7 +117,7 @@ fn take_what_fits(router: &mut LiveRouter, each: usize, taken: &mut [CTaken]) ->
     (count, given_status(count, places))
 }
 
-// Takes packets of the sender at a place.
+// Takes packets of the sender at a place. Returns how many.
 fn take_at(live: &mut Live, place: usize, sender: u32, taken: &mut [CTaken]) -> usize
     requires sender { sender_at live.old.course.setup place ≡ Some sender }
     ensures { TakesOf sender live.old live.new taken.old taken.new result }
@@ -124,14 +125,14 @@ fn take_at(live: &mut Live, place: usize, sender: u32, taken: &mut [CTaken]) -> 
     let most = taken.len().min(MOST_TAKEN);
     let mut slots = [FREE; MOST_TAKEN];
     let (slots, _) = slots.split_at_mut(most);
-    // There is an outlet for each sender, by this law.
+    // There is an outlet for each sender, by this law, which does nothing.
     let _ = live.router();
     let count = live.take_many(place, slots);
     fill_in(slots, count, taken);
     count
 }
 
-// Takes packets in one round.
+// Takes packets in one round. Returns how many.
 fn take_round(live: &mut Live, each: usize, taken: &mut [CTaken]) -> usize
     ensures { TakesIn each live.old live.new taken.old taken.new result }
 {
@@ -143,7 +144,7 @@ fn take_round(live: &mut Live, each: usize, taken: &mut [CTaken]) -> usize
     count
 }
 
-// Takes packets that fit in one round.
+// Takes packets that fit, in one round. Returns how many.
 fn take_fitting_round(live: &mut Live, each: usize, taken: &mut [CTaken]) -> usize
     ensures { TakesWhatFits each live.old live.new taken.old taken.new result }
 {

@@ -1,4 +1,4 @@
-//! What there is in a live router: calls that change nothing.
+//! Calls that tell the state of a live router and change nothing.
 
 ghost use Rattle.std.specs.Prelude.{◌≡◌};
 ghost use Rattle.clickpull_c.specs.Answers.{HasNoDevice, HasNoPlace, HasNoQueue};
@@ -7,7 +7,7 @@ ghost use Rattle.clickpull_c.specs.Tells.{TellsAccount, TellsDue, TellsLeft, Tel
 ghost use Rattle.clickpull_c.specs.live.State.{IsUnchanged};
 ghost use Rattle.clickpull_c.specs.live.Tells.{AnswersTold, IsCount, TellsDrained, TellsEnded};
 
-// These calls too take a router as one that changes, since no export takes a struct that lends what it owns.
+// These calls take a router mutably too, since no export takes a struct that lends what it owns.
 use super::handle::LiveHandle;
 use super::router::LiveRouter;
 use crate::statuses::{NONE, OK, RECLAIMED, UNKNOWN_DEVICE, UNKNOWN_QUEUE, UNKNOWN_SENDER};
@@ -56,7 +56,7 @@ pub extern "C" fn clk_raw_live_devices(live: &mut LiveHandle) -> usize
     devices(live.get_mut())
 }
 
-/// The latest moment in ticks that was handed in at the device with this number, 0 before the first pull, is filled in.
+/// Fills in the latest moment, in ticks, of the device with this number: the greatest at which it was pulled, or 0 before its first pull.
 #[unsafe(no_mangle)]
 pub extern "C" fn clk_raw_live_moment(live: &mut LiveHandle, device: u16, moment: &mut u64) -> u32
     ensures answer { AnswersTold live.old.router live.new.router result (λ s. TellsMoment s.course device moment.new result) (λ s. HasNoDevice s.course device result) (moment.new ≡ moment.old) }
@@ -64,8 +64,8 @@ pub extern "C" fn clk_raw_live_moment(live: &mut LiveHandle, device: u16, moment
     tell_moment(live.get_mut(), device, moment)
 }
 
-/// The earliest moment in ticks at which a pull of the device with this number could emit a packet, as things stand, is filled in. If no packet
-/// is left for the device there is none.
+/// Fills in the earliest moment, in ticks, at which a pull of the device with this number could emit a packet, as things stand. If no
+/// packet is left for the device, it fills in nothing.
 #[unsafe(no_mangle)]
 pub extern "C" fn clk_raw_live_due(live: &mut LiveHandle, device: u16, moment: &mut u64) -> u32
     ensures answer { AnswersTold live.old.router live.new.router result (λ s. TellsDue s.course device moment.old moment.new result) (λ s. HasNoDevice s.course device result) (moment.new ≡ moment.old) }
@@ -73,8 +73,8 @@ pub extern "C" fn clk_raw_live_due(live: &mut LiveHandle, device: u16, moment: &
     tell_due(live.get_mut(), device, moment)
 }
 
-/// How many packets are left for the device with this number, accepted there and neither evicted nor emitted, is filled in. What waits in
-/// the inlets is not among them.
+/// Fills in how many packets are left for the device with this number: accepted there, and neither evicted nor emitted. Packets that wait
+/// in the inlets don't count.
 #[unsafe(no_mangle)]
 pub extern "C" fn clk_raw_live_left(live: &mut LiveHandle, device: u16, packets: &mut u64) -> u32
     ensures answer { AnswersTold live.old.router live.new.router result (λ s. TellsLeft s.course device packets.new result) (λ s. HasNoDevice s.course device result) (packets.new ≡ packets.old) }
@@ -82,7 +82,8 @@ pub extern "C" fn clk_raw_live_left(live: &mut LiveHandle, device: u16, packets:
     tell_left(live.get_mut(), device, packets)
 }
 
-/// What became of all that the sender at this place offered is filled in. Places go from 0 on, by rising numbers of senders.
+/// Fills in the totals of the packets that were taken from the sender at this place. Places go from 0 on, in the order of the senders'
+/// numbers.
 #[unsafe(no_mangle)]
 pub extern "C" fn clk_raw_live_account(
     live: &mut LiveHandle,
@@ -94,7 +95,7 @@ pub extern "C" fn clk_raw_live_account(
     tell_account(live.get_mut(), place, account)
 }
 
-/// What the queue with this number is like is filled in.
+/// Fills in the state of the queue with this number.
 #[unsafe(no_mangle)]
 pub extern "C" fn clk_raw_live_queue(live: &mut LiveHandle, number: u16, queue: &mut CQueue) -> u32
     ensures answer { AnswersTold live.old.router live.new.router result (λ s. TellsQueue s.course number queue.new result) (λ s. HasNoQueue s.course number result) (queue.new ≡ queue.old) }
@@ -102,7 +103,7 @@ pub extern "C" fn clk_raw_live_queue(live: &mut LiveHandle, number: u16, queue: 
     tell_queue(live.get_mut(), number, queue)
 }
 
-// The functions below do the same to the router of a handle.
+// Each function below does to the router what the export of a like name does to its handle.
 
 fn ended(router: &mut LiveRouter) -> u32
     ensures { AnswersTold router.old router.new result (λ s. TellsEnded s result) (λ s. ⊥) (result ≡ result) }

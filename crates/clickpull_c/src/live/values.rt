@@ -1,4 +1,4 @@
-//! Packets with their tokens, as C is given them.
+//! Packets with their tokens, as C receives them.
 
 ghost use Rattle.std.specs.Prelude.{◌≡◌};
 ghost use Rattle.clickpull_c.specs.live.Values.{taken_in_c, emitted_in_c, departed_in_c};
@@ -15,11 +15,11 @@ pub struct CTaken {
     pub packet: CPacket,
     /// The token that came with it.
     pub token: u64,
-    /// The packet that was evicted for it, all zero unless one was.
+    /// The packet that was evicted for it. All zero unless the outcome is 2.
     pub evicted: CPacket,
-    /// The token that came with the evicted packet, 0 unless one was evicted.
+    /// The token that came with the evicted packet. 0 unless the outcome is 2.
     pub evicted_token: u64,
-    /// 0 for a packet that was accepted, 1 for one that was refused, 2 for one for which another was evicted.
+    /// 0 if the packet was accepted, 1 if it was refused, 2 if it was accepted and another was evicted for it.
     pub outcome: u32,
 }
 

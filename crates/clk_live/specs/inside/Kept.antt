@@ -1,4 +1,4 @@
--- What the parts of a live router have to do with each other, at any time.
+-- What holds of the parts of a live router at any time.
 use Rattle.std.specs.Prelude.{◌≡◌, ℕ, ◌+◌, ◌≤◌, ◌^◌, List, length, Option, Some, None, slice_get}
 use Rattle.std.specs.List.{AllByRecursion, AllZip}
 use Rattle.circular_buffer.specs.Buffer.{Buffer}
@@ -13,7 +13,7 @@ use Rattle.clk_router.specs.InsideQueues.{inside_of}
 use Rattle.clk_live.specs.Outcome.{AreOffersOf}
 use Rattle.clk_live.specs.State.{IsTokenOf}
 
--- What was taken from a sender's inlet is what the sender offered, and no more than an inlet takes in all.
+-- What was taken from a sender's inlet is what the sender offered, and no more than an inlet accepts in all.
 pub record AreOffered (events : List Event) (s : ℕ) (its : List Item) : Type 0 where
   pub lengths : AreOffersOf events s its
   pub few : length its ≤ most_packets
@@ -27,12 +27,13 @@ drrs_in (Some tree) q = drrs_above q (root tree)
 abbrev pub most_inside : Setup → ℕ → Room → ℕ
 most_inside setup q room = room.capacity + drrs_in (slice_get setup.trees room.device) q
 
--- The tokens of a queue are those of the packets inside it, and there is room for those of as many as can be inside.
+-- The tokens of a queue are those of the packets inside it, and the buffer has room for as many as can be inside.
 pub record AreTokens (setup : Setup) (events : List Event) (items : List (List Item)) (q : ℕ) (room : Room) (b : Buffer ℕ) : Type 0 where
   pub tokens : AllZip (IsTokenOf setup items) (inside_of setup room.device q events) b.items
   pub capacity : b.capacity ≡ most_inside setup q room
 
--- The tokens of a live router stand as its course says, and so do the packets that were taken from each sender's inlet, by place.
+-- The tokens of a live router are those of the packets inside it. The packets that were taken from each sender's inlet, by place, are those
+-- that it offered.
 pub record IsKept (c : Course) (items : List (List Item)) (buffers : List (Buffer ℕ)) : Type 0 where
   pub places : length items ≡ length c.setup.senders
   pub few_places : length items ≤ 2 ^ 16

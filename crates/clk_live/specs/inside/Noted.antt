@@ -1,4 +1,4 @@
--- What becomes of a token as its packet is offered.
+-- What happens to a token when its packet is offered.
 use Rattle.std.specs.Prelude.{◌≡◌, ℕ, ◌+◌, ◌-◌, ◌<◌, ◌≤◌, [], ◌∷◌, ◌++◌, length, take, drop, ⊤, Some, slice_get}
 use Rattle.circular_buffer.specs.Buffer.{Buffer, buffer}
 use Rattle.clk_packet.specs.declared.packet.Offered.{Offered}
@@ -6,7 +6,7 @@ use Rattle.clk_packet.specs.declared.packet.Offered.TheVariants as offer
 use Rattle.clk_live.specs.declared.taking.Outcome.{Outcome}
 use Rattle.clk_live.specs.declared.taking.Outcome.TheVariants.{Accepted, Refused, Evicted}
 
--- there is room for the token of a packet with this outcome, whose queue holds so many packets at most
+-- there is room for the token of a packet with this outcome, whose queue holds `capacity` packets at most
 abbrev pub CanNote : Buffer ℕ → ℕ → Offered → Type 0
 CanNote b capacity offer.Accepted = length b.items < b.capacity
 CanNote b capacity (offer.Refused p) = ⊤

@@ -1,4 +1,4 @@
--- Full queues, as packets are taken in.
+-- Full queues, while packets are taken.
 use Rattle.std.specs.Prelude.{ℕ}
 use Rattle.clk_router.specs.Course.{Course}
 use Rattle.clk_live.specs.Taking.{IsQueueFull}

@@ -1,4 +1,4 @@
--- Packets that come next from an inlet, as they are offered.
+-- Packets that come next from an inlet, when they are offered.
 use Rattle.std.specs.Prelude.{◌≡◌, ℕ, ◌+◌, ◌≤◌, ◌++◌, ◌∷◌, [], List, length, slice_set as set, Some, slice_get}
 use Rattle.circular_buffer.specs.Buffer.{Buffer}
 use Rattle.clk_inlet.specs.Limits.{most_packets}

@@ -6,8 +6,8 @@ ghost use Rattle.clk_live.specs.State.{seen, IsTokenOf};
 
 use clk_live::{Emitted, Live, Taken};
 
-/// Takes the next packet of the sender at this place, and pulls the first device once at this moment in ticks, where it can be pulled. What
-/// has happened then can happen over the router's plan, and each packet that is returned has the token that came with it.
+/// Takes the next packet of the sender at this place, and pulls the first device once at this moment in ticks, if it can be pulled. All
+/// events can happen over the router's plan, and each packet that is returned has the token that came with it.
 pub fn take_and_pull(live: &mut Live, place: usize, moment: u64) -> (Option<Taken>, Option<Emitted>)
     requires there { place < length live.old.outlets }
     ensures happened { CanHappen live.new.course.setup live.new.course.events }

@@ -1,4 +1,4 @@
--- What a change through a handle leaves in it.
+-- What a handle has after changes through a borrow of its inlet.
 use base.Fml.{Fml}
 use denote.Follow.{follows}
 use Rattle.std.specs.Borrow.{MutBor}

@@ -11,5 +11,6 @@ use Rattle.clk_inlet.specs.contracts.inlet.Inlet.{the_row}
 abbrev pub inlet_handle_owns : Global → Ptr → the_row.Denot → Fml
 inlet_handle_owns alloc = box_owns (ghosts.dealloc_token alloc) the_row
 
+-- how the logic stores an inlet
 abbrev pub inlet_coded : Coded the_row.Denot
 inlet_coded = the_row.coded

@@ -9,6 +9,6 @@ use Rattle.clickpull_c.specs.Answers.{IsLength}
 abbrev pub HasBadLength : List CItem → ℕ → Type 0
 HasBadLength items place = (item : CItem) → slice_get items place ≡ Some item → IsLength item.length → ⊥
 
--- a batch may stop after so many of these items: the next one has a length out of range, or no packet is sure to fit
+-- a batch may stop after `done` of these items: the next one has a length out of range, or no packet is sure to fit
 abbrev pub MayStop : Inlet → List CItem → ℕ → Type 0
 MayStop i items done = HasBadLength items done ⊎ (fits i ≡ 0)

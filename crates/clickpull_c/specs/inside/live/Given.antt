@@ -1,4 +1,4 @@
--- What pulls of a live router that go on have done so far.
+-- What the pulls and the reclaims of one call have done so far.
 use Rattle.std.specs.Prelude.{◌≡◌, ℕ, ◌≤◌, List, length, map, take, drop}
 use Rattle.clk_live.specs.State.{LiveState, seen}
 use Rattle.clk_live.specs.declared.draining.Departed.{Departed}
@@ -10,7 +10,7 @@ use Rattle.clickpull_c.specs.declared.live.values.CEmitted.{CEmitted}
 use Rattle.clickpull_c.specs.Filled.{IsFilled}
 use Rattle.clickpull_c.specs.live.Values.{departed_in_c, emitted_in_c}
 
--- so many pulls at a moment emitted a packet each
+-- `given` pulls of a live router at a moment emitted a packet each
 pub record PulledSoFar (device moment : ℕ) (old now : LiveState) (before filled : List CEmitted) (given : ℕ) : Type 0 where
   pub slots : List Emitted
   pub gave : List Emitted
@@ -19,7 +19,7 @@ pub record PulledSoFar (device moment : ℕ) (old now : LiveState) (before fille
   pub are_filled : IsFilled before filled (map emitted_in_c (take given gave))
   pub unchanged : (now.outlets ≡ old.outlets) × (now.turn ≡ old.turn)
 
--- so many pulls of a drain emitted so many packets
+-- `made` pulls of a drain of a live router emitted `given` packets
 pub record DepartedSoFar (device : ℕ) (old now : LiveState) (before filled : List CDeparted) (made given : ℕ) : Type 0 where
   pub slots : List Departed
   pub gave : List Departed
@@ -28,7 +28,7 @@ pub record DepartedSoFar (device : ℕ) (old now : LiveState) (before filled : L
   pub are_filled : IsFilled before filled (map departed_in_c (take given gave))
   pub unchanged : (now.outlets ≡ old.outlets) × (now.turn ≡ old.turn)
 
--- so many of the tokens that were left were filled in, and the router stays given up
+-- `given` of the tokens that were left were filled in, and the rest is left
 pub record ReclaimedSoFar (tokens : List ℕ) (old now : LiveRouter) (before filled : List ℕ) (given : ℕ) : Type 0 where
   pub given_up : now.live ≡ old.live
   pub inlets : now.inlets ≡ old.inlets
