@@ -84,7 +84,7 @@ departure_before = record { moment = 0; packet = no_packet } ∷ []
 abbrev pub departure_filled : List CDeparture
 departure_filled = record { moment = 1; packet = packet_in_c p0_0 } ∷ []
 
--- one item for an inlet, of a length that is right, and of one that is too long
+-- one item for an inlet, with a length in range
 abbrev pub one_item : List CItem
 one_item = record { token = 7; length = 100 } ∷ []
 

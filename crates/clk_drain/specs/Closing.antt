@@ -1,4 +1,4 @@
--- What closing a session over its lines comes to.
+-- What draining a session over its lines returns.
 use Rattle.std.specs.Prelude.{◌≡◌, ◌⊎◌, ℕ, ◌+◌, ◌-◌, List, [], ◌∷◌, length, map, max}
 use Rattle.std.specs.List.{flat_map, AllByRecursion}
 use Rattle.std.specs.List.Sorted.{IsPermutation, IsNonDecreasingBy}
@@ -16,17 +16,17 @@ use Rattle.clk_drain.specs.Line.{LineLists, seats_of, seats_in, senders_at}
 use Rattle.clk_drain.specs.Outcome.{SharedQueue, Device, IsSettledOutcome}
 use Rattle.clk_drain.specs.Lost.{SeatedQueue, NamesFirstLost}
 
--- how many packets the queues of lines accepted and evicted in all
+-- how many packets the queues of these lines accepted in all
 abbrev pub accepted_over : List LineLists → ℕ
 accepted_over [] = 0
 accepted_over (l ∷ lines) = accepted_count (seats_of l) + accepted_over lines
 
--- how many packets the queues of lines evicted in all
+-- how many packets the queues of these lines evicted in all
 abbrev pub evicted_over : List LineLists → ℕ
 evicted_over [] = 0
 evicted_over (l ∷ lines) = evicted_count (seats_of l) + evicted_over lines
 
--- how many are left: those accepted, less those evicted, less those emitted
+-- how many packets are left: those accepted, less those evicted, less those emitted
 abbrev pub left_over : Progress → List LineLists → ℕ
 left_over session lines = accepted_over lines - (evicted_over lines + length (emitted_in session.log))
 
@@ -34,11 +34,11 @@ left_over session lines = accepted_over lines - (evicted_over lines + length (em
 abbrev pub queue_of_line : LineLists → SharedQueue
 queue_of_line l = record { leaf = l.leaf; kind = l.tap.setup.kind; capacity = l.tap.setup.capacity; senders = senders_at (seats_of l) }
 
--- a session's device over lines, with every visit of its tree and what came out
+-- the device of a session over lines, with this log of its tree and these emitted packets
 abbrev pub device_of : Progress → List LineLists → List Visit → List Packet → Device
 device_of session lines log emitted = record { tree = session.tree; queues = map queue_of_line lines; log = log; emitted = emitted }
 
--- The packets are those that a seat offered: so many of its sender, numbered from 0 on, each accepted or refused, in order.
+-- These are all packets that a seat offered, in order: they are of its sender, numbered from 0 on, and each was accepted or refused.
 abbrev pub AreOffered : List Packet → SeatLists → Type 0
 AreOffered packets l = (length packets ≡ l.next) × AreNumbered l.sender 0 packets × IsDealt packets l.accepted l.refused
 
@@ -46,7 +46,7 @@ AreOffered packets l = (length packets ≡ l.next) × AreNumbered l.sender 0 pac
 abbrev pub HasSent : (ℕ → List Packet) → SeatLists → Type 0
 HasSent sent l = AreOffered (sent l.sender) l
 
--- the tallies of a line's senders by their seats, and those of all lines
+-- the tallies of a line's senders, by its seats
 abbrev pub tallies_of : LineLists → List Tally
 tallies_of l = map (tally_of (all_evicted (seats_of l))) (seats_of l)
 
@@ -54,22 +54,23 @@ tallies_of l = map (tally_of (all_evicted (seats_of l))) (seats_of l)
 abbrev pub tallies_in : List LineLists → List Tally
 tallies_in lines = flat_map tallies_of lines
 
--- The tallies say what the seats' lists say, by rising sender.
+-- The second list has the tallies of the first, sorted by sender.
 pub record AreInOrder (tallies sorted : List Tally) : Type 0 where
   pub same : IsPermutation tallies sorted
   pub order : IsNonDecreasingBy (λ (t : Tally). t.sender) sorted
 
--- A session was drained over its lines, from a moment on, to this log, this came out, and all is settled.
+-- A session was drained over its lines, from a moment on. This is its log then, these are all packets that it ever emitted, and all is
+-- settled with these tallies.
 pub record IsDrainedTo (session : Progress) (lines : List LineLists) (moment : ℕ) (log : List Visit) (emitted : List Packet) (tallies : List Tally) : Type 0 where
-  -- the seats offered some packets
+  -- there are packets that the seats offered
   pub sent : ℕ → List Packet
   pub offered : AllByRecursion (HasSent sent) (seats_in lines)
-  -- whatever it is that they offered, this is its settled outcome
+  -- whatever packets the seats offered, this is their settled outcome
   pub outcome : (packets : ℕ → List Packet) → AllByRecursion (HasSent packets) (seats_in lines)
       → IsSettledOutcome packets (device_of session lines log emitted ∷ []) tallies
-  -- the tallies tell what the seats say
+  -- the tallies are those of the seats, sorted by sender
   pub told : AreInOrder (tallies_in lines) tallies
-  -- the log goes on from the session's by the pulls of one drain of all that was left
+  -- the log goes on from the session's log by the pulls of one drain of all that was left
   pub made : ℕ
   pub goes_on : GivesAll session (record { tree = session.tree; log = log }) (max (counted_moment session) moment) made (left_over session lines)
 
@@ -81,7 +82,7 @@ IsDrainedOver session lines moment drained = IsDrainedTo session lines moment dr
 abbrev pub seated : LineLists → SeatedQueue
 seated l = record { queue = queue_of_line l; seats = seats_of l }
 
--- Why a session isn't drained over its lines: an allocation failed, or the queue of a line lost packets below its capacity. The caller knows
--- the seats, so fault 21 singles out one queue.
+-- Why a session isn't drained over its lines: an allocation failed, or the queue of a line lost packets below its capacity. The caller
+-- knows the seats, so fault 21 singles out one queue.
 abbrev pub IsFaultOfDrain : List LineLists → Fault → Type 0
 IsFaultOfDrain lines fault = (fault ≡ Memory) ⊎ NamesFirstLost (map seated lines) fault

@@ -1,4 +1,4 @@
--- What draining a worked session may come to.
+-- What a drain of a worked session may return.
 use Rattle.std.specs.Prelude.{List, [], ◌∷◌, Some, false}
 use Rattle.atomic_table.specs.Seated.{TableId}
 use Rattle.clk_packet.specs.declared.packet.Packet.{Packet}
@@ -18,10 +18,11 @@ use Rattle.clk_drain.specs.Closing.{IsDrainedTo}
 abbrev pub unpulled : Progress
 unpulled = record { tree = queue 0; log = [] }
 
--- The line of a Queue of one packet, which accepted the first packet of its sender and refused the second.
+-- the setup of a Queue of one packet, whose one sender has room for two
 abbrev one_room : Setup
 one_room = setup_of TailDrop 1 ((0, 2) ∷ [])
 
+-- The line of a Queue of one packet, which accepted the first packet of its sender and refused the second.
 abbrev pub line : TableId → LineLists
 line id =
     record {
@@ -34,13 +35,14 @@ line id =
           } ∷ [];
     }
 
--- a drain with one pull, which gave this packet
+-- the log of a drain with one pull, which gave this packet
 abbrev pub gave : Packet → List Visit
 gave p = asking 0 1 0 0 (Some p) ∷ []
 
--- Draining the session over the line may give this packet, and tell that its queue accepted it and refused another, or it never does.
+-- A drain of the session over the line may emit `accepted`, with a tally that has it accepted and `refused` refused.
 abbrev pub MayDrainTo : Packet → Packet → Type 0
 MayDrainTo accepted refused = (id : TableId) → IsDrainedTo unpulled (line id ∷ []) 0 (gave accepted) (accepted ∷ []) (tally 0 (accepted ∷ []) (refused ∷ []) [] ∷ [])
 
+-- A drain of the session over the line never emits `accepted`, with a tally that has it accepted and `refused` refused.
 abbrev pub NeverDrainsTo : Packet → Packet → Type 0
 NeverDrainsTo accepted refused = (id : TableId) → ¬ (IsDrainedTo unpulled (line id ∷ []) 0 (gave accepted) (accepted ∷ []) (tally 0 (accepted ∷ []) (refused ∷ []) [] ∷ []))

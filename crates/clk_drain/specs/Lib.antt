@@ -1,4 +1,4 @@
--- What closing a session and its shared queues comes to.
+-- What running and draining devices over shared queues returns.
 pub mod Line
 pub mod Outcome
 pub mod Lost

@@ -1,4 +1,4 @@
--- Which of some queues is told to have lost packets below its capacity.
+-- Which queue fault 21 names: the first that lost packets below its capacity.
 use Rattle.std.specs.Prelude.{◌≡◌, ◌<◌, ◌≤◌, List, ◌∷◌, ◌++◌}
 use Rattle.std.specs.List.{AllByRecursion}
 use Rattle.clk_packet.specs.declared.packet.Packet.{Packet}
@@ -17,15 +17,15 @@ pub record SeatedQueue : Type 0 where
 abbrev pub HasReached : SeatedQueue → Type 0
 HasReached s = 0 < lost_count s.seats → s.queue.capacity ≤ accepted_count s.seats
 
--- Fault 21 names the first of some queues that lost packets although it accepted fewer than it may hold. It has the queue's number, how many
--- packets it accepted, and its capacity.
+-- Fault 21 names the first of these queues that lost packets although it accepted fewer than it may hold. The fault has the queue's number,
+-- how many packets it accepted, and its capacity.
 pub record NamesFirstLost (queues : List SeatedQueue) (fault : Fault) : Type 0 where
   pub earlier : List SeatedQueue
   pub first : SeatedQueue
   pub later : List SeatedQueue
   pub all : queues ≡ earlier ++ first ∷ later
   pub reached : AllByRecursion HasReached earlier
-  -- its lists, and some packets that were taken, are an account of it
+  -- the lists of its seats, with these packets taken, show that it lost packets below its capacity
   pub taken : List Packet
   pub below : HasLostBelow first.queue.kind first.queue.capacity first.queue.senders first.seats taken
   pub fault_is : fault ≡ Unsettled first.queue.leaf (accepted_count first.seats) first.queue.capacity

@@ -12,10 +12,11 @@ use Rattle.clk_sched.specs.Examples.Priority.{p0_0, p1_0}
 use Rattle.clk_drain.specs.Examples.{p0_1}
 use Rattle.clk_drain.specs.Lost.{SeatedQueue, NamesFirstLost}
 
+-- the second packet of sender 1
 abbrev pub p1_1 : Packet
 p1_1 = packet 1 1 70 (lit≤ tt) (lit≤ tt)
 
--- a queue with one seat, whose sender has the number of the leaf and offered so many packets
+-- a queue with one seat, whose sender has the number of the leaf and offered `offered` packets
 abbrev one_seat : (leaf : ℕ) → Kind → (capacity offered : ℕ) → (accepted refused evicted : List Packet) → TableId → SeatedQueue
 one_seat leaf kind capacity offered accepted refused evicted id =
     record {
@@ -24,10 +25,11 @@ one_seat leaf kind capacity offered accepted refused evicted id =
           record { id = id; setup = setup_of kind capacity ((leaf, offered) ∷ []); sender = leaf; room = offered; next = offered; accepted = accepted; refused = refused; evicted = evicted } ∷ [];
     }
 
--- Fault 21 may name the first of the queues that lost packets below its capacity so, or it never does.
+-- This fault may name the first of the queues that lost packets below its capacity.
 abbrev pub MayName : List (TableId → SeatedQueue) → Fault → Type 0
 MayName queues fault = (id : TableId) → NamesFirstLost (map (λ (q : TableId → SeatedQueue). q id) queues) fault
 
+-- This fault never names the first of the queues that lost packets below its capacity.
 abbrev pub NeverNames : List (TableId → SeatedQueue) → Fault → Type 0
 NeverNames queues fault = (id : TableId) → ¬ (NamesFirstLost (map (λ (q : TableId → SeatedQueue). q id) queues) fault)
 

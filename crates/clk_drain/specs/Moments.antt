@@ -7,13 +7,13 @@ use Rattle.clk_sched.specs.Log.{pulls, moment_of}
 use Rattle.clk_sched.specs.Session.{given_in, LastGives}
 use Rattle.clk_sched.specs.Tree.{Tree}
 
--- the first so many moments while senders run: the k-th, counted from 1, is k times `step`
+-- the moments of the first pulls while senders run: the k-th, counted from 1, is k times `step`
 abbrev pub steps : ℕ → ℕ → List ℕ
 steps step zero = []
 steps step (suc n) = steps step n ++ suc n * step ∷ []
 
--- When a device was pulled: the k-th time at k times `step`, at most `limit` times, and then in the closing one tick apart. The first
--- closing pull is one tick after the last of the others.
+-- A device was pulled at these moments. While senders ran, it was pulled the k-th time at k times `step`, at most `limit` times. Then it
+-- was drained one tick apart, the first time one tick after the latest pull.
 pub record HasMoments (step limit : ℕ) (tree : Tree) (log : List Visit) : Type 0 where
   pub running : List (List Visit)
   pub closing : List (List Visit)
@@ -21,6 +21,6 @@ pub record HasMoments (step limit : ℕ) (tree : Tree) (log : List Visit) : Type
   pub within : length running ≤ limit
   pub each_step : map moment_of running ≡ steps step (length running)
   pub each_tick : map moment_of closing ≡ range_with_len (length running * step + 1) (length closing)
-  -- The closing stops as soon as its last packet was emitted, within the pulls that a closing of so many packets is given.
+  -- The drain stops as soon as its last packet was emitted, within the most pulls that a drain of so many packets may take.
   pub stops : LastGives closing
   pub few : length closing ≤ closing_bound tree (length (given_in closing))

@@ -1,4 +1,4 @@
--- A settled outcome: what became of every packet that was sent, in lists alone (this project's own definition).
+-- A settled outcome: which packets were accepted, refused, evicted and emitted, in lists alone (this project's own definition).
 use Rattle.std.specs.Prelude.{◌≡◌, ℕ, ◌+◌, ◌<◌, ◌≤◌, ◌==◌, true, List, [], ◌∷◌, length, map, Option, Some, None, MatchOption, if◌then◌else◌}
 use Rattle.std.specs.List.{flat_map, AllByRecursion}
 use Rattle.clk_packet.specs.declared.packet.Packet.{Packet}
@@ -29,11 +29,11 @@ pub record Device : Type 0 where
 abbrev pub senders_to : Device → List ℕ
 senders_to d = flat_map (λ (q : SharedQueue). q.senders) d.queues
 
--- What became of all that a sender sent to a queue of a device.
+-- This tally accounts for all packets that its sender sent to a queue of a device.
 pub record IsTallied (sent : ℕ → List Packet) (d : Device) (q : SharedQueue) (t : Tally) : Type 0 where
   -- each packet sent was accepted or refused, and each one accepted was evicted or emitted
   pub tally : IsTallyOf (sent t.sender) (of_sender t.sender d.emitted) q.kind t
-  -- the queue gave what was emitted
+  -- the queue gave the packets that the device emitted
   pub given : of_sender t.sender (leaf_packets d.tree q.leaf d.log) ≡ of_sender t.sender d.emitted
 
 -- the tally of a sender, if there is one
@@ -41,17 +41,17 @@ abbrev pub tally_for : List Tally → ℕ → Option Tally
 tally_for [] s = None
 tally_for (t ∷ tallies) s = if t.sender == s then Some t else tally_for tallies s
 
--- how many packets were accepted by this tally, if there is one
+-- how many packets this tally has as accepted; 0 without a tally
 abbrev pub accepted_by : Option Tally → ℕ
 accepted_by None = 0
 accepted_by (Some t) = length t.accepted
 
--- how many packets were refused or evicted by this tally, if there is one
+-- how many packets this tally has as refused or evicted; 0 without a tally
 abbrev pub lost_by : Option Tally → ℕ
 lost_by None = 0
 lost_by (Some t) = length t.refused + length t.evicted
 
--- the sum of such a count over the tallies of some senders
+-- the sum of a count over the tallies of these senders
 abbrev pub in_all : (Option Tally → ℕ) → List Tally → List ℕ → ℕ
 in_all count tallies [] = 0
 in_all count tallies (s ∷ senders) = count (tally_for tallies s) + in_all count tallies senders
@@ -59,22 +59,23 @@ in_all count tallies (s ∷ senders) = count (tally_for tallies s) + in_all coun
 -- A queue is settled: each of its senders has a tally that fits, and it lost packets only if it accepted at least as many as it may hold.
 pub record IsQueueSettled (sent : ℕ → List Packet) (tallies : List Tally) (d : Device) (q : SharedQueue) : Type 0 where
   pub each : AllByRecursion (λ s. MatchOption (tally_for tallies s) ⊥ (IsTallied sent d q)) q.senders
-  -- it refused or evicted packets only where it accepted as many as it may hold
+  -- it refused or evicted packets only if it accepted at least as many as it may hold
   pub reached : 0 < in_all lost_by tallies q.senders → q.capacity ≤ in_all accepted_by tallies q.senders
 
--- A device is settled: its log is a run of its tree, it emitted what came out there, its tree holds no packet back, and its queues are
--- settled. It emitted packets of its own senders only.
+-- A device is settled: its log is a run of its tree, it emitted what the log says, its tree holds no packet back, and its queues are
+-- settled. It emitted only packets of its own senders.
 pub record IsDeviceSettled (sent : ℕ → List Packet) (tallies : List Tally) (d : Device) : Type 0 where
-  -- its log is a run of its tree, and it emitted what came out there
+  -- its log is a run of its tree, and it emitted what the log says
   pub run : IsRun d.tree d.log
   pub emitted : d.emitted ≡ emitted d.log
-  -- no packet is held in the tree
+  -- its tree holds no packet back
   pub heads : heads d.tree d.log ≡ []
   pub queues : AllByRecursion (IsQueueSettled sent tallies d) d.queues
-  -- what it emitted is of those alone who send to its queues
+  -- it emitted only packets of senders to its queues
   pub own : AllByRecursion (λ (p : Packet). stands_in p.sender (senders_to d) ≡ true) d.emitted
 
--- What became of all that each sender sent: one tally a sender, by rising number, and all devices settled.
+-- All packets that were sent are settled: there is one tally a sender, by rising number, each of a sender to these devices, and all devices
+-- are settled.
 pub record IsSettledOutcome (sent : ℕ → List Packet) (devices : List Device) (tallies : List Tally) : Type 0 where
   pub rise : AreRising (map (λ (t : Tally). t.sender) tallies)
   pub known : AllByRecursion (λ (t : Tally). stands_in t.sender (flat_map senders_to devices) ≡ true) tallies

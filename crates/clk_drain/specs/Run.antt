@@ -1,4 +1,4 @@
--- What a run of producers on threads comes to (this project's own definition).
+-- What a run of producers on threads returns (this project's own definition).
 use Rattle.std.specs.Prelude.{◌≡◌, ℕ, ◌==◌, ◌<◌, Bool, false, true, List, [], ◌∷◌, length, map, suc, ⊤, if◌then◌else◌}
 use Rattle.std.specs.List.{flat_map, range_with_len, AllByRecursion}
 use Rattle.clk_packet.specs.declared.packet.Packet.{Packet}
@@ -29,23 +29,23 @@ queues_at device leaf [] = []
 queues_at device leaf (q ∷ queues) =
     if q.device == device then shared_at leaf q ∷ queues_at device (suc leaf) queues else queues_at device (suc leaf) queues
 
--- A device of a plan, with what it logged and emitted.
+-- This device has the tree and the queues of the device of the plan with this number.
 pub record IsDeviceOf (plan : List Planned) (number : ℕ) (d : Device) : Type 0 where
   pub tree : IsTreeOf plan number d.tree
   pub queues : d.queues ≡ queues_at number 0 (queues_of plan)
 
--- The devices of a plan from a number on, each of them.
+-- These are all devices of a plan from a number on, in order.
 abbrev pub AreDevicesFrom : List Planned → ℕ → List Device → Type 0
 AreDevicesFrom plan number [] = number ≡ device_count plan
 AreDevicesFrom plan number (d ∷ devices) = IsDeviceOf plan number d × AreDevicesFrom plan (suc number) devices
 
--- What a run of a plan over a trace came to: the logs of its devices, what each device emitted, and one tally a sender.
+-- A run of a plan over a trace has this outcome: the logs of its devices, the packets that each device emitted, and one tally a sender.
 pub record IsRunWith (plan : List Planned) (traces : List (List Packet)) (step limit : ℕ) (logs : List (List Visit)) (packets : List (List Packet)) (tallies : List Tally) : Type 0 where
   pub devices : List Device
   pub each : AreDevicesFrom plan 0 devices
   pub logs_are : logs ≡ map (λ (d : Device). d.log) devices
   pub emitted : packets ≡ map (λ (d : Device). d.emitted) devices
-  -- all that each sender sends is accounted for
+  -- all packets that each sender sends are settled
   pub settled : IsSettledOutcome (sent_by traces) devices tallies
   pub moments : AllByRecursion (λ (d : Device). HasMoments step limit d.tree d.log) devices
 
@@ -70,8 +70,8 @@ pub record HasOffered (traces : List (List Packet)) (s : SeatedQueue) : Type 0 w
   pub sent : AllByRecursion (HasSent (sent_by traces)) s.seats
 
 -- Each sender offered all that it sends, and fault 21 names the first queue, by device and then by number, that lost packets below its
--- capacity. A run that fails returns no lists: there are lists of what the queues did that agree with the fault, and others may name another
--- queue.
+-- capacity. A run that fails returns no lists. So this says that there are lists of what the queues did that agree with the fault; others
+-- may name another queue.
 pub record IsUnsettledRun (plan : List Planned) (traces : List (List Packet)) (fault : Fault) : Type 0 where
   pub queues : List SeatedQueue
   pub are : map (λ (s : SeatedQueue). s.queue) queues ≡ queues_in_order plan
@@ -79,7 +79,7 @@ pub record IsUnsettledRun (plan : List Planned) (traces : List (List Packet)) (f
   pub names : NamesFirstLost queues fault
 
 -- Why a run fails: fault 1 (an allocation or the start of a thread failed), 15 (a sender of the trace is none of the plan's) or 21 (a queue
--- lost packets below its capacity). No other fault comes: a closing never stops short.
+-- lost packets below its capacity). It has no other fault: a drain never stops short.
 abbrev pub IsFaultOfRun : List Planned → List (List Packet) → Fault → Type 0
 IsFaultOfRun plan traces Memory = ⊤
 IsFaultOfRun plan traces (UnknownSender s) = IsFirstUnknown (senders_in plan) traces s

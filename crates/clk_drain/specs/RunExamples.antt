@@ -1,4 +1,4 @@
--- Runs of a worked plan with two devices, and lists that no run of it comes to.
+-- Runs of a worked plan with two devices, and lists that no run of it returns.
 use Rattle.std.specs.Prelude.{◌≡◌, ℕ, List, [], ◌∷◌, map, Some, None, codes}
 use Rattle.clk_packet.specs.declared.packet.Packet.{Packet}
 use Rattle.clk_packet.specs.declared.packet.Kind.TheVariants.{TailDrop}
@@ -18,22 +18,23 @@ use Rattle.clk_drain.specs.Run.{IsRunOutcome, IsFaultOfRun}
 abbrev planned : List ℕ → Class → List ℕ → Planned
 planned name class sources = record { name = name; class = class; sources = sources }
 
--- Two senders, each with a Queue and a device of its own: the first Queue holds so many packets, the second two. The first device's input
--- comes from the element at this place, and these elements are the last.
+-- Two senders, each with a Queue and a device of its own. The first Queue holds `capacity` packets, the second two. The first device's
+-- input comes from the element at place `top`, and the elements `more` are the last.
 abbrev plan_with : ℕ → ℕ → List Planned → List Planned
 plan_with capacity top more =
     planned (codes "s") (sender 0) [] ∷ planned (codes "t") (sender 1) [] ∷
     planned (codes "p") (queue TailDrop capacity) (0 ∷ []) ∷ planned (codes "q") (queue TailDrop 2) (1 ∷ []) ∷
     planned (codes "a") (device (codes "x")) (top ∷ []) ∷ planned (codes "b") (device (codes "x")) (3 ∷ []) ∷ more
 
+-- the plan whose first Queue holds one packet
 abbrev pub plan : List Planned
 plan = plan_with 1 2 []
 
--- the same where the first Queue holds three packets
+-- the plan whose first Queue holds three packets
 abbrev pub wider_plan : List Planned
 wider_plan = plan_with 3 2 []
 
--- the same with a PrioSched between the first Queue and its device
+-- the plan with a PrioSched between the first Queue and its device
 abbrev pub scheduled_plan : List Planned
 scheduled_plan = plan_with 1 6 (planned (codes "o") prio (2 ∷ []) ∷ [])
 
@@ -41,7 +42,7 @@ scheduled_plan = plan_with 1 6 (planned (codes "o") prio (2 ∷ []) ∷ [])
 abbrev pub traces : List (List Packet)
 traces = (p0_0 ∷ p0_1 ∷ []) ∷ (p1_0 ∷ []) ∷ []
 
--- what a run came to, in lists: what was emitted at each device, the visits of each one's tree, and the tallies
+-- what a run returns, in lists: the packets that each device emitted, the visits of each one's tree, and the tallies
 pub record Lists : Type 0 where
   pub emitted : List (List Packet)
   pub logs : List (List Visit)
@@ -53,25 +54,27 @@ pub record HasLists (lists : Lists) (outcome : Outcome) : Type 0 where
   pub logs : map (λ log. log.items) outcome.logs.items ≡ lists.logs
   pub tallies : outcome.tallies.items ≡ lists.tallies
 
--- A run of a plan over the trace, with a pull each three ticks and two at most, may come to these lists, or can't.
+-- A run of a plan over the trace, with a pull each three ticks and at most two pulls, may return these lists.
 abbrev pub MayComeTo : List Planned → Lists → Type 0
 MayComeTo plan lists = (outcome : Outcome) → HasLists lists outcome → IsRunOutcome plan traces 3 2 outcome
 
+-- A run of a plan over the trace, with a pull each three ticks and at most two pulls, never returns these lists.
 abbrev pub NeverComesTo : List Planned → Lists → Type 0
 NeverComesTo plan lists = (outcome : Outcome) → HasLists lists outcome → ¬ (IsRunOutcome plan traces 3 2 outcome)
 
+-- these lists, as a run returns them
 abbrev came_to : List (List Packet) → List (List Visit) → List Tally → Lists
 came_to emitted logs tallies = record { emitted = emitted; logs = logs; tallies = tallies }
 
--- The first device was pulled twice while producers ran: the second pull gave a packet, and nothing was left to the closing.
+-- The first device was pulled twice while producers ran. The second pull gave a packet, and nothing was left to drain.
 abbrev pub log_a : List Visit
 log_a = asking 0 3 0 0 None ∷ asking 1 6 0 0 (Some p0_0) ∷ []
 
--- The second was pulled once, and its packet was emitted in the closing.
+-- The second device was pulled once while producers ran, and its packet was emitted in the drain.
 abbrev pub log_b : List Visit
 log_b = asking 0 3 0 0 None ∷ asking 1 4 0 0 (Some p1_0) ∷ []
 
--- no pull was made while producers ran, and two were in the closing
+-- no pull was made while producers ran, and two were made in the drain
 abbrev pub only_closing : List Visit
 only_closing = asking 0 1 0 0 (Some p0_0) ∷ asking 1 2 0 0 (Some p0_1) ∷ []
 
@@ -83,25 +86,27 @@ pull_too_many = asking 0 3 0 0 None ∷ asking 1 6 0 0 (Some p0_0) ∷ asking 2 
 abbrev pub step_skipped : List Visit
 step_skipped = asking 0 3 0 0 None ∷ asking 1 9 0 0 (Some p0_0) ∷ []
 
--- the closing began two ticks after the last pull
+-- the drain began two ticks after the last pull
 abbrev pub closing_late : List Visit
 closing_late = asking 0 3 0 0 None ∷ asking 1 5 0 0 (Some p1_0) ∷ []
 
--- two pulls of the closing, each of which gave a packet, were two ticks apart
+-- two pulls of the drain, each of which gave a packet, were two ticks apart
 abbrev pub closing_pauses : List Visit
 closing_pauses = asking 0 3 0 0 None ∷ asking 1 4 0 0 (Some p1_0) ∷ asking 2 6 0 0 (Some p0_0) ∷ []
 
--- the closing made a pull after its last packet was emitted
+-- the drain made a pull after its last packet was emitted
 abbrev pub closing_goes_on : List Visit
 closing_goes_on = asking 0 3 0 0 None ∷ asking 1 4 0 0 (Some p1_0) ∷ asking 2 5 0 0 None ∷ []
 
--- the closing made two pulls for one packet of a queue at the device
+-- the drain made two pulls for one packet of a queue at the device
 abbrev pub closing_waits : List Visit
 closing_waits = asking 0 3 0 0 None ∷ asking 1 4 0 0 None ∷ asking 2 5 0 0 (Some p1_0) ∷ []
 
+-- the first sender's first packet was accepted, and its second refused
 abbrev tally_0 : Tally
 tally_0 = tally 0 (p0_0 ∷ []) (p0_1 ∷ []) []
 
+-- the second sender's packet was accepted
 abbrev tally_1 : Tally
 tally_1 = tally 1 (p1_0 ∷ []) [] []
 
@@ -121,7 +126,7 @@ device_too_many = came_to ((p0_0 ∷ []) ∷ (p1_0 ∷ []) ∷ [] ∷ []) (log_a
 abbrev pub log_missing : Lists
 log_missing = came_to ((p0_0 ∷ []) ∷ (p1_0 ∷ []) ∷ []) (log_a ∷ []) (tally_0 ∷ tally_1 ∷ [])
 
--- the second device has no list of what was emitted there
+-- the second device has no list of emitted packets
 abbrev pub emitted_missing : Lists
 emitted_missing = came_to ((p0_0 ∷ []) ∷ []) (log_a ∷ log_b ∷ []) (tally_0 ∷ tally_1 ∷ [])
 
@@ -129,7 +134,7 @@ emitted_missing = came_to ((p0_0 ∷ []) ∷ []) (log_a ∷ log_b ∷ []) (tally
 abbrev pub logs_swapped : Lists
 logs_swapped = came_to ((p0_0 ∷ []) ∷ (p1_0 ∷ []) ∷ []) (log_b ∷ log_a ∷ []) (tally_0 ∷ tally_1 ∷ [])
 
--- each device has the other's log, and what was emitted there
+-- each device has the other's log and the other's list of emitted packets
 abbrev pub devices_swapped : Lists
 devices_swapped = came_to ((p1_0 ∷ []) ∷ (p0_0 ∷ []) ∷ []) (log_b ∷ log_a ∷ []) (tally_0 ∷ tally_1 ∷ [])
 
@@ -145,17 +150,18 @@ tally_left_out = came_to ((p0_0 ∷ []) ∷ (p1_0 ∷ []) ∷ []) (log_a ∷ log
 abbrev pub with_pull_too_many : Lists
 with_pull_too_many = came_to ((p0_0 ∷ []) ∷ (p1_0 ∷ []) ∷ []) (pull_too_many ∷ log_b ∷ []) (tally_0 ∷ tally_1 ∷ [])
 
--- the closing of the second device began late
+-- the drain of the second device began late
 abbrev pub with_closing_late : Lists
 with_closing_late = came_to ((p0_0 ∷ []) ∷ (p1_0 ∷ []) ∷ []) (log_a ∷ closing_late ∷ []) (tally_0 ∷ tally_1 ∷ [])
 
--- the second device was pulled once more in its closing, after its last packet
+-- the second device was pulled once more in its drain, after its last packet
 abbrev pub with_closing_goes_on : Lists
 with_closing_goes_on = came_to ((p0_0 ∷ []) ∷ (p1_0 ∷ []) ∷ []) (log_a ∷ closing_goes_on ∷ []) (tally_0 ∷ tally_1 ∷ [])
 
--- Runs of a plan over the trace may fail with a fault, or never do. (A seat is identified by the queue that it belongs to.)
+-- A run of a plan over the trace may fail with this fault. (A seat is identified by the queue that it belongs to.)
 abbrev pub MayFailWith : List Planned → Fault → Type 0
 MayFailWith plan fault = TableId → IsFaultOfRun plan traces fault
 
+-- A run of a plan over the trace never fails with this fault.
 abbrev pub NeverFailsWith : List Planned → Fault → Type 0
 NeverFailsWith plan fault = ¬ (IsFaultOfRun plan traces fault)

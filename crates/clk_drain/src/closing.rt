@@ -1,4 +1,4 @@
-//! The closing of a session: its lines are drained to the device, and settled.
+//! Draining a session: what its lines hold goes to the device, and each queue is settled.
 
 ghost use Rattle.std.specs.Prelude.{◌≡◌, ◌⊎◌, ◌<◌, ◌≤◌, ◌++◌, false, map, max, IfOk, IfErr, OnOk, IsOkUnless};
 ghost use Rattle.std.specs.List.{AllByRecursion};
@@ -22,17 +22,17 @@ use clk_sched::{Session, runs_conserve_packets};
 use std::alloc::Global;
 use std::sync::Wait;
 
-/// Closes a session whose lines are all closed: what is left in their queues and in the tree is drained to the device, one tick
-/// apart, the first time one tick after the later of this moment and the session's, and each queue is settled. Every seat is gathered
-/// before the first pull, so that the drain always comes to its end: a tap that answers none has then given all.
+/// Drains a session whose lines are all closed, and settles each queue. It pulls the device one tick apart, the first time one tick after
+/// the later of this moment and the session's latest, until nothing is left in the queues and the tree. It gathers every seat before the
+/// first pull, so the drain always ends: a tap that gives none has then given all.
 ///
-/// Of each sender just those packets come out, before or now, that its queue accepted and didn't evict, each once, in the order in
-/// which they were sent.
+/// The device emits, before or in the drain, exactly those packets of each sender that its queue accepted and didn't evict, each once, in
+/// the order in which they were sent.
 ///
 /// # Errors
 ///
-/// Fault 1 where memory is refused. Fault 21 with the leaf of the first queue that refused or evicted a packet though it accepted
-/// fewer than its capacity. Nothing is handed back.
+/// Fault 1 if an allocation fails. Fault 21, with the leaf of the queue, for the first queue that refused or evicted a packet though it
+/// accepted fewer than its capacity. Nothing is returned then.
 pub fn close_and_drain<W: Wait>(
     alloc: Global,
     wait: &W,
@@ -50,8 +50,8 @@ pub fn close_and_drain<W: Wait>(
     close(alloc, wait, DeviceSession::of(session), lines, moment)?.unpack(alloc)
 }
 
-/// The same, of a session that may keep its visits packed, or none. Where it keeps none, what is said of its log is said of one that isn't
-/// handed back.
+/// Drains a session as `close_and_drain` does. The session may keep its visits packed, or keep none. If it keeps none, contracts speak of a
+/// log that isn't returned.
 ///
 /// # Errors
 ///
@@ -85,7 +85,7 @@ pub(crate) fn close<W: Wait>(
     })
 }
 
-// The lines, once their taps gathered all seats.
+// The lines, after their taps gathered all seats.
 fn gathered(lines: Vec<Line>) -> Vec<Line>
     ensures { AreGatheredFrom lines.items result.items }
 {
@@ -94,7 +94,7 @@ fn gathered(lines: Vec<Line>) -> Vec<Line>
     lines
 }
 
-// The taps gather all seats.
+// Has the taps gather all seats.
 fn gather_all(lines: &mut [Line])
     ensures { AreGatheredFrom lines.old lines.new }
 {
@@ -103,7 +103,7 @@ fn gather_all(lines: &mut [Line])
     }
 }
 
-// Drains a session over its lines, whose seats are all gathered, of all that queues and heads hold.
+// Drains a session over its lines, whose seats are all gathered, of all packets that queues and heads hold.
 fn drain<W: Wait>(
     wait: &W,
     session: DeviceSession,
@@ -127,7 +127,8 @@ fn drain<W: Wait>(
     Ok((session, lines.into_vec()))
 }
 
-// How many packets are left: what all queues accepted, less what they evicted and what was emitted. So many do queues and heads hold.
+// How many packets are left: those that all queues accepted, less those that they evicted and those that were emitted. Queues and heads
+// hold as many.
 fn left(session: &DeviceSession, lines: &[Line]) -> u64
     requires lines { AreLinesOf session.now.session lines.now }
     requires gathered { AllByRecursion IsGathered lines.now }
@@ -164,7 +165,7 @@ fn evicted(lines: &[Line]) -> u64
     evicted
 }
 
-// Settles the lines: a tally for each sender, by rising number.
+// Settles the lines. Returns a tally for each sender, by rising number.
 fn settle_all(alloc: Global, lines: Vec<Line>) -> Result<Vec<Tally>, Fault>
     ensures settled { IfOk result (λ _. AllByRecursion IsSettledLine lines.items) }
     ensures tallies { IfOk result (λ tallies. AreInOrder (tallies_in lines.items) tallies.items) }
@@ -175,7 +176,7 @@ fn settle_all(alloc: Global, lines: Vec<Line>) -> Result<Vec<Tally>, Fault>
     Ok(tallies)
 }
 
-// Settles each line, in order: the tallies of their senders.
+// Settles each line, in order. Returns the tallies of their senders.
 fn settle_each(alloc: Global, lines: Vec<Line>) -> Result<Vec<Tally>, Fault>
     ensures settled { IfOk result (λ _. AllByRecursion IsSettledLine lines.items) }
     ensures tallies { IfOk result (λ tallies. tallies.items ≡ tallies_in lines.items) }
@@ -189,7 +190,7 @@ fn settle_each(alloc: Global, lines: Vec<Line>) -> Result<Vec<Tally>, Fault>
     Ok(tallies)
 }
 
-/// Adds tallies at the end. Fault 1 where memory is refused.
+/// Adds tallies at the end. Fault 1 if an allocation fails.
 pub fn add(tallies: &mut Vec<Tally>, more: Vec<Tally>) -> Result<(), Fault>
     ensures added { OnOk result (tallies.new.items ≡ tallies.old.items ++ more.items) }
     ensures fault { IsOkUnless result Fault.Memory }

@@ -1,11 +1,11 @@
-//! The session of a device: its visits are kept where they are wanted, and what came out is kept or told from them.
+//! The session of a device: it keeps its visits, if they are wanted, and the packets that it emitted or visits from which they are known.
 
 use clk_packet::{Fault, Packet};
 use clk_sched::{Ask, Keeps, Kernel, PackedLog, Session, Tree};
 use std::alloc::Global;
 use std::marker::Model;
 
-/// A session that keeps all of its visits, what came out at its device, or both. What is said of it is said of every visit.
+/// A session that keeps all of its visits, the packets that its device emitted, or both. Contracts speak of every visit, kept or not.
 #[derive(Drop)]
 pub struct DeviceSession {
     kernel: Kernel,
@@ -40,12 +40,12 @@ impl DeviceSession {
     ghost use Rattle.clk_sched.specs.Session.{IsPulledOnce, GivesAll, counted_moment, newly};
     ghost use Rattle.clk_sched.specs.Tree.{leaves_distinct};
 
-    /// A session of this tree, in which no queue stands twice, before its first pull. It keeps what it is told to, of
-    /// which what came out has to be known at the end.
+    /// A session of this tree, in which no queue stands twice, before its first pull. `keeps` says what it keeps: enough to know at the end
+    /// which packets were emitted.
     ///
     /// # Errors
     ///
-    /// Fault 18 for a tree of more than 256 nodes and queues, the device counted; else fault 1 where memory is refused.
+    /// Fault 18 for a tree of more than 256 nodes and queues, the device counted; else fault 1 if an allocation fails.
     pub fn new(alloc: Global, tree: Tree, keeps: Keeps) -> Result<DeviceSession, Fault>
         requires distinct { leaves_distinct tree ≡ true }
         requires emitted { keeps_emitted keeps ≡ true }
@@ -65,11 +65,11 @@ impl DeviceSession {
         }
     }
 
-    /// Makes room for so many packets more, where packets are kept, and for as many visits, where these are kept packed.
+    /// Makes room for `packets` more packets, if packets are kept, and for as many visits, if they are kept packed.
     ///
     /// # Errors
     ///
-    /// Fault 1 where memory is refused.
+    /// Fault 1 if an allocation fails.
     pub fn reserve(&mut self, packets: usize) -> Result<(), Fault>
         ensures unchanged { self.new ≡ self.old }
         ensures fault { IsOkUnless result Fault.Memory }
@@ -81,7 +81,7 @@ impl DeviceSession {
     ///
     /// # Errors
     ///
-    /// Fault 1 where memory is refused. Then nothing has changed, and nothing was asked.
+    /// Fault 1 if an allocation fails. Then nothing has changed, and nothing was asked.
     pub fn pull<Q: Ask>(&mut self, q: &mut Q, moment: u64) -> Result<Option<Packet>, Fault>
         requires moment { moment < end_of_moments }
         requires pulls { self.old.visits ≡ false → pulls_made self.old.session < end_of_pulls }
@@ -95,12 +95,12 @@ impl DeviceSession {
         self.kernel.pull(q, moment)
     }
 
-    /// Drains the device of so many packets, 1,000,000 at most, as `Session::drain` does.
+    /// Drains the device of `left` packets, at most 1,000,000, as `Session::drain` does.
     ///
     /// # Errors
     ///
-    /// Fault 1 where memory is refused, and fault 17, which never comes where `q` loses nothing, and holds just these packets, together
-    /// with the heads.
+    /// Fault 1 if an allocation fails, and fault 17. Fault 17 never occurs if `q` loses nothing, and `q` and the heads together hold
+    /// exactly `left` packets.
     pub fn drain<Q: Ask>(&mut self, q: &mut Q, left: u64, moment: u64) -> Result<u64, Fault>
         requires left { left ≤ most_left }
         requires moment { max (counted_moment self.old.session) moment < end_of_drains }
@@ -113,29 +113,29 @@ impl DeviceSession {
         self.kernel.drain(q, left, moment)
     }
 
-    /// How many packets came out at the device.
+    /// How many packets the device emitted.
     pub fn count_emitted(&self) -> u64
         ensures count { result ≡ length (emitted self.now.session.log) }
         ensures run { IsRun self.now.session.tree self.now.session.log }
         ensures distinct { leaves_distinct self.now.session.tree ≡ true }
     {
-        // That the log is a run is known where it is read.
+        // Reading the log brings the kernel's invariant into scope, by which the log is a run.
         let _ = self.kernel.log();
         self.kernel.count_emitted()
     }
 
-    /// Every visit, where these are kept, and the packets that came out at the device, in order.
+    /// Every visit, if visits are kept, and the packets that the device emitted, in order.
     ///
     /// # Errors
     ///
-    /// Fault 1 where memory is refused, for which none asks that keeps those packets.
+    /// Fault 1 if an allocation fails. A session that keeps emitted packets allocates nothing for them here.
     pub fn into_parts(self, alloc: Global) -> Result<(PackedLog, Vec<Packet>), Fault>
         ensures log { IfOk result (λ parts. self.visits ≡ true → logged parts.0 ≡ self.session.log) }
         ensures emitted { IfOk result (λ parts. parts.1.items ≡ emitted self.session.log) }
         ensures distinct { leaves_distinct self.session.tree ≡ true }
         ensures fault { IsOkUnless result Fault.Memory }
     {
-        // That no queue stands twice in its tree is known where the log is read.
+        // Reading the log brings the kernel's invariant into scope, by which no queue stands twice in the tree.
         let _ = self.kernel.log();
         let DeviceSession { kernel } = self;
         kernel.into_packed(alloc)

@@ -1,4 +1,4 @@
-//! What a session came to, once it is drained.
+//! What a drain of a session returns.
 
 ghost use Rattle.std.specs.Prelude.{◌≡◌, IfOk, IsOkUnless};
 ghost use Rattle.clk_sched.specs.Packed.{logged};
@@ -7,30 +7,30 @@ use clk_packet::{Fault, Packet, Tally};
 use clk_sched::{PackedLog, Visit};
 use std::alloc::Global;
 
-/// What a device came to, once all who sent to its queues had closed their seats and it was drained.
+/// The outcome of a device, after all who sent to its queues had closed their seats and it was drained.
 #[derive(Drop)]
 pub struct Drained {
-    /// The packets that came out at the device, in order.
+    /// The packets that the device emitted, in order.
     pub emitted: Vec<Packet>,
     /// Every visit of its tree, in order.
     pub log: Vec<Visit>,
-    /// What became of each sender's packets: one tally a sender, by rising number.
+    /// What was accepted, refused and evicted of each sender's packets: one tally a sender, by rising number.
     pub tallies: Vec<Tally>,
 }
 
-/// The same, with a log that may be packed.
+/// The outcome of a device that was drained, with a log that may be packed.
 #[derive(Drop)]
 pub(crate) struct PackedDrained {
-    /// The packets that came out at the device, in order.
+    /// The packets that the device emitted, in order.
     pub emitted: Vec<Packet>,
-    /// Every visit of its tree, in order, where visits are kept.
+    /// Every visit of its tree, in order, if visits are kept.
     pub log: PackedLog,
-    /// What became of each sender's packets: one tally a sender, by rising number.
+    /// What was accepted, refused and evicted of each sender's packets: one tally a sender, by rising number.
     pub tallies: Vec<Tally>,
 }
 
 impl PackedDrained {
-    /// The same, with its log as a list. Fault 1 where memory is refused.
+    /// This outcome with its log as a list. Fault 1 if an allocation fails.
     pub fn unpack(self, alloc: Global) -> Result<Drained, Fault>
         ensures emitted { IfOk result (λ drained. drained.emitted.items ≡ self.emitted.items) }
         ensures log { IfOk result (λ drained. drained.log.items ≡ logged self.log) }

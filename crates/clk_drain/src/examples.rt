@@ -1,4 +1,4 @@
-//! What the definitions of a settled outcome, of what a run comes to and of why it fails say of worked examples: which of them meet each
+//! What the definitions of a settled outcome, of what a run returns and of why it fails say of worked examples: which examples meet each
 //! definition, and which don't. The functions do nothing.
 
 ghost use Rattle.std.specs.Prelude.{[], ◌∷◌};

@@ -1,5 +1,5 @@
-//! Producers on threads and a consumer for each device, over shared queues, and how they are closed: what the queues still hold is
-//! drained to the devices, and every packet is accounted for.
+//! Producers on threads and a consumer for each device, over shared queues. At the end the devices are drained of what the queues still
+//! hold, and every packet is accounted for.
 #![tactic(auto)]
 
 mod closing;

@@ -46,11 +46,11 @@ impl Line {
         self.leaf
     }
 
-    /// Pulls the packet at the front of the queue, or answers none where it found it empty. Takes no memory.
+    /// Pulls the packet at the front of the queue, or returns `None` if it finds the queue empty. Doesn't allocate.
     pub fn pull(&mut self, wait: &impl Wait) -> Option<Packet>
         ensures pulled { self.new ≡ pulling self.old (packets_of result) }
-        // With every seat gathered, no more are taken than were accepted, less those evicted, and none comes only where they are as
-        // many.
+        // With every seat gathered, no more packets are taken than were accepted and not evicted, and `None` is returned only if all of
+        // these were taken.
         ensures within { HasGathered self.new → IsWithin self.new }
         ensures none { result ≡ None → HasGathered self.new → HasAllTaken self.new }
     {
@@ -58,12 +58,12 @@ impl Line {
         self.tap.pull(&self.queue, wait)
     }
 
-    // The tap takes over the lists of each seat.
+    // Has the tap take over the lists of each seat.
     pub(crate) fn gather(&mut self)
         ensures gathered { IsGatheredFrom self.old self.new }
     {
         gather_seats(&self.queue, &mut self.tap, &mut self.closed);
-        // It tells that no more was taken than came.
+        // By this law no more packets were taken than were accepted and not evicted.
         self.tap.stays_within();
     }
 
@@ -91,7 +91,7 @@ impl Line {
         evicted
     }
 
-    // Settles the queue.
+    // Settles the queue. Returns the tallies of its senders.
     pub(crate) fn settle(self, alloc: Global) -> Result<Vec<Tally>, Fault>
         ensures together { AreTogether self.tap self.closed }
         ensures settled { IfOk result (λ tallies. IsSettled self.tap self.closed self.tap.taken tallies.items) }
@@ -101,7 +101,7 @@ impl Line {
     }
 }
 
-// The tap takes over the lists of each seat.
+// Has the tap take over the lists of each seat.
 fn gather_seats(queue: &RuledQueue, tap: &mut BareTap, closed: &mut [ClosedSeat])
     requires together { AreOpenedTogether queue.now tap.old closed.old }
     ensures together { AreOpenedTogether queue.now tap.new closed.new }

@@ -1,4 +1,4 @@
-//! The lines of a session, as what it pulls from.
+//! The lines of a session, from which it pulls.
 
 ghost use Rattle.std.specs.Prelude.{◌≡◌, false, None, MatchOption};
 ghost use Rattle.std.specs.List.{AllByRecursion};
@@ -13,7 +13,7 @@ use clk_sched::{Ask, Session};
 use std::marker::Model;
 use std::sync::Wait;
 
-/// Lines, of rising leaves, over which sessions are pulled.
+/// Lines of rising leaves, over which sessions are pulled.
 #[derive(Drop)]
 pub struct Lines<'a, W: Wait> {
     wait: &'a W,
@@ -39,7 +39,7 @@ impl<'a, W: Wait> Lines<'a, W> {
     ghost use Rattle.clk_packet.specs.Lists.{AreRising};
     ghost use Rattle.clk_drain.specs.Line.{AreStill, AreLinesOf, leaves_of};
 
-    /// Lines of rising leaves. `wait` is what their queues wait by.
+    /// Lines of rising leaves. `wait` is how their queues wait.
     pub fn new(wait: &'a W, each: Vec<Line>) -> Lines<'a, W>
         requires rise { AreRising (leaves_of each.items) }
         ensures { result ≡ each.items }
@@ -47,7 +47,7 @@ impl<'a, W: Wait> Lines<'a, W> {
         Lines { wait, each }
     }
 
-    /// The lines, without taking memory.
+    /// The lines. Doesn't allocate.
     pub fn into_vec(self) -> Vec<Line>
         ensures { result.items ≡ self.entry }
     {
@@ -58,13 +58,13 @@ impl<'a, W: Wait> Lines<'a, W> {
     ///
     /// # Errors
     ///
-    /// Fault 1 where memory is refused. Then nothing has changed, and nothing was asked.
+    /// Fault 1 if an allocation fails. Then nothing has changed, and nothing was asked.
     pub fn pull(&mut self, session: &mut Session, moment: u64) -> Result<Option<Packet>, Fault>
         requires moment { moment < end_of_moments }
         requires lines { AreLinesOf session.old self.old }
         ensures pulled { IfOk result (IsPulledOnce session.old session.new moment) }
         ensures lines { AreLinesOf session.new self.new }
-        // Their leaves, setups and seats stay, so that they can be drained as before.
+        // Their leaves, setups and seats stay, so they can be drained as before.
         ensures still { AreStill self.old self.new }
         ensures fault { IsOkUnless result Fault.Memory }
         ensures unchanged { OnErr result (session.new ≡ session.old) }
@@ -79,7 +79,7 @@ impl<'a, W: Wait> Ask for Lines<'a, W> {
 
     ghost has = { has_line };
 
-    // What a shared queue holds is known by no one alone, while producers offer.
+    // While producers offer, no one thread knows what a shared queue holds.
     ghost holds = { λ s leaf. 0 };
 
     ghost gives = { PullsAt };
@@ -89,7 +89,7 @@ impl<'a, W: Wait> Ask for Lines<'a, W> {
     }
 }
 
-/// Lines, of rising leaves, whose taps gathered all seats. So it is known how many packets each queue holds, and one that answers none has
+/// Lines of rising leaves, whose taps gathered all seats. So it is known how many packets each queue holds, and a queue that gives none has
 /// given all: they lose nothing.
 #[derive(Drop)]
 pub(crate) struct GatheredLines<'a, W: Wait> {
@@ -118,7 +118,7 @@ impl<'a, W: Wait> GatheredLines<'a, W> {
     ghost use Rattle.clk_drain.specs.Line.{leaves_of};
     ghost use Rattle.clk_drain.specs.inside.Parts.{IsGathered};
 
-    // Lines of rising leaves, whose seats are all gathered. `wait` is what their queues wait by.
+    // Lines of rising leaves, whose seats are all gathered. `wait` is how their queues wait.
     pub(crate) fn new(wait: &'a W, each: Vec<Line>) -> GatheredLines<'a, W>
         requires rise { AreRising (leaves_of each.items) }
         requires gathered { AllByRecursion IsGathered each.items }
@@ -127,7 +127,7 @@ impl<'a, W: Wait> GatheredLines<'a, W> {
         GatheredLines { wait, each }
     }
 
-    // The lines, without taking memory.
+    // The lines. Doesn't allocate.
     pub(crate) fn into_vec(self) -> Vec<Line>
         ensures { result.items ≡ self.entry }
     {
@@ -169,8 +169,8 @@ fn pull_at<W: Wait>(lines: &mut Vec<Line>, wait: &W, leaf: u16) -> Option<Packet
     }
 }
 
-// Where the line of a leaf stands, if there is one. Where one device has all queues, a line stands at the place of its leaf's number, so
-// that place is looked at first.
+// The place of a leaf's line, if there is one. If one device has all queues, each line stands at the place of its leaf's number, so that
+// place is tried first.
 fn place_of(lines: &[Line], leaf: u16) -> Option<usize>
     requires { AreRising (leaves_of lines.now) }
     ensures { MatchOption result (has_line lines.now leaf ≡ false) (IsPlaceOf lines.now leaf) }

@@ -1,4 +1,4 @@
-//! A run: producers on threads, a consumer for each device, and then the closing.
+//! A run: producers on threads, a consumer for each device, and then the drain.
 
 mod baton;
 mod closing;
@@ -37,22 +37,22 @@ use std::alloc::Global;
 use std::sync::Wait;
 use std::thread::Threads;
 
-/// Runs a plan over a trace: a producer for each sender, on a thread of its own, offers all that the sender sends, in order, and closes
-/// its seat; meanwhile a consumer for each device pulls its tree, once each `step` ticks, `limit` times at most or until all producers
-/// are through. The first device's consumer is on this thread, each other one on a thread of its own. Then all threads are joined, and
-/// the devices are drained one after the other.
+/// Runs a plan over a trace. For each sender there is a producer on a thread of its own: it offers all that the sender sends, in order, and
+/// closes its seat. Meanwhile a consumer for each device pulls its tree, once each `step` ticks, until it has pulled `limit` times or all
+/// producers are done. The first device's consumer runs on this thread, each other one on a thread of its own. Then all threads are joined,
+/// and the devices are drained one after the other.
 ///
-/// Whatever the threads do, of each sender just those packets come out that its queue accepted and didn't evict, each once, in the
-/// order in which they were sent; and each device's log is a run of its tree over what the queues answered. Which packets are
-/// refused or evicted, and how senders mix, is open.
+/// Whatever the threads do, of each sender exactly those packets are emitted that its queue accepted and didn't evict, each once, in the
+/// order in which they were sent. Each device's log is a run of its tree over what the queues gave. Which packets are refused or evicted,
+/// and how senders mix, depends on the threads.
 ///
 /// `step` is from 1 to 1,000, `limit` from 1 to 1,000,000.
 ///
 /// # Errors
 ///
-/// Fault 1 where memory or a thread is refused. Fault 15 with the least sender that the trace has and the plan hasn't, before anything
-/// is opened. Fault 21 where a queue lost packets though it accepted fewer than its capacity. At every fault all threads have ended,
-/// and nothing is handed back.
+/// Fault 1 if an allocation fails or a thread can't be started. Fault 15 with the least sender that the trace has and the plan hasn't,
+/// before anything is opened. Fault 21 if a queue lost packets though it accepted fewer than its capacity. At every fault all threads have
+/// ended, and nothing is returned.
 pub fn run<R: Threads + Wait, W: Wait + Sync, G: Gate + Sync>(
     rt: &R,
     alloc: Global,
@@ -77,9 +77,9 @@ pub fn run<R: Threads + Wait, W: Wait + Sync, G: Gate + Sync>(
     run_keeping(rt, alloc, wait, plan, traces, step, limit, gate, keeps)?.unpack(alloc)
 }
 
-/// Runs a plan over a trace as `run` does, and keeps visits packed, in seven tenths of the memory, or not at all. That each device made a
-/// run of its tree, by which what came out is told, is said of the outcome's logs where visits are kept, and else of visits that contracts
-/// alone know: then the outcome has no log.
+/// Runs a plan over a trace as `run` does. If `visits` is true it keeps visits packed, in seven tenths of the memory; otherwise it keeps
+/// none, and the outcome has no logs. Contracts say that each device made a run of its tree, which fixes what it emitted: of the outcome's
+/// logs if visits are kept, otherwise of visits that only contracts know.
 ///
 /// # Errors
 ///
@@ -111,7 +111,7 @@ pub fn run_with<R: Threads + Wait, W: Wait + Sync, G: Gate + Sync>(
     Ok(kept(alloc, outcome, visits))
 }
 
-/// Runs a plan over a trace as `run` does, and keeps what it is told to, of which what came out has to be known at the end.
+/// Runs a plan over a trace as `run` does. `keeps` says what it keeps: enough to know at the end which packets were emitted.
 ///
 /// # Errors
 ///
@@ -135,7 +135,7 @@ fn run_keeping<R: Threads + Wait, W: Wait + Sync, G: Gate + Sync>(
     ensures fault { IfErr result (IsFaultOfRun plan.now traces.now) }
 {
     check_senders(plan.senders(), traces)?;
-    // How many packets are sent in all is known where they are counted.
+    // Counting packets brings into scope how many are sent in all.
     let _ = traces.count(0);
     let OpenPlan { queues, ends } = open_devices(alloc, plan, traces, keeps)?;
     let handed = hand_out(alloc, wait, &queues, ends)?;
@@ -145,7 +145,7 @@ fn run_keeping<R: Threads + Wait, W: Wait + Sync, G: Gate + Sync>(
     close_devices(alloc, &course, closings)
 }
 
-// The same outcome, without its logs where no visits are kept.
+// This outcome, without its logs if no visits are kept.
 fn kept(alloc: Global, outcome: PackedOutcome, visits: bool) -> PackedOutcome
     ensures emitted { result.emitted.items ≡ outcome.emitted.items }
     ensures tallies { result.tallies.items ≡ outcome.tallies.items }

@@ -1,4 +1,4 @@
--- What a run opens of a plan.
+-- What a run opens over a plan.
 use Rattle.std.specs.Prelude.{◌≡◌, ℕ, Bool, List, [], ◌∷◌, map, suc}
 use Rattle.clk_packet.specs.declared.packet.Packet.{Packet}
 use Rattle.clk_packet.specs.Lists.{stands_in}
@@ -19,12 +19,12 @@ pub record IsOpenOf (plan : List Planned) (traces : List (List Packet)) (device 
   pub leaves_are : (q : ℕ) → stands_in q (leaves (root ends.session.tree)) ≡ stands_in q (map (λ (s : SharedQueue). s.leaf) (queues_at device 0 (queues_of plan)))
   pub opened : AreOpenAs traces (queues_at device 0 (queues_of plan)) queues ends.taps ends.seats
 
--- so for each device of a plan from a number on
+-- Each device of a plan was opened, from a number on, in order.
 abbrev pub AreOpenFrom : List Planned → List (List Packet) → ℕ → List (List LeafQueue) → List EndLists → Type 0
 AreOpenFrom plan traces device [] [] = device ≡ device_count plan
 AreOpenFrom plan traces device (queues ∷ more) (e ∷ ends) = IsOpenOf plan traces device queues e × AreOpenFrom plan traces (suc device) more ends
 AreOpenFrom plan traces device queues ends = ⊥
 
--- The visits of a device are kept, or not.
+-- Whether the visits of a device are kept is this.
 abbrev pub KeepVisits : Bool → EndLists → Type 0
 KeepVisits visits ends = ends.visits ≡ visits

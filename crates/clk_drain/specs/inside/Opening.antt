@@ -1,4 +1,4 @@
--- What a run opens before its threads start, and with what room.
+-- What a run opens before its threads start, and with how much room.
 use Rattle.std.specs.Prelude.{◌≡◌, ℕ, ◌++◌, List, [], ◌∷◌, length, map, ⊤}
 use Rattle.clk_packet.specs.declared.packet.Packet.{Packet}
 use Rattle.clk_packet.specs.Trace.{sent_by}
@@ -8,10 +8,11 @@ use Rattle.clk_drain.specs.declared.running.opening.LeafQueue.{LeafQueue}
 use Rattle.clk_drain.specs.Outcome.{SharedQueue}
 use Rattle.clk_drain.specs.inside.Handed.{EndLists}
 
--- how many packets each of some senders may offer: all that it sends
+-- how many packets each of these senders may offer: all that it sends
 abbrev pub rooms_for : List (List Packet) → List ℕ → List (ℕ × ℕ)
 rooms_for traces senders = map (λ s. (s, length (sent_by traces s))) senders
 
+-- the setup of a queue whose senders may offer all that they send
 abbrev pub setup_for : List (List Packet) → SharedQueue → Setup
 setup_for traces q = setup_of q.kind q.capacity (rooms_for traces q.senders)
 
@@ -19,13 +20,13 @@ setup_for traces q = setup_of q.kind q.capacity (rooms_for traces q.senders)
 abbrev pub IsOpenAs : List (List Packet) → SharedQueue → LeafQueue → TapLists → List SeatLists → Type 0
 IsOpenAs traces q at tap seats = (at.leaf ≡ q.leaf) × (at.senders ≡ length seats) × IsOpened (setup_for traces q) at.queue seats tap
 
--- so for each of some queues, in order
+-- Each of these queues, its tap and its seats were opened at its leaf, in order, with room for all that is sent to it.
 abbrev pub AreOpenAs : List (List Packet) → List SharedQueue → List LeafQueue → List TapLists → List (List SeatLists) → Type 0
 AreOpenAs traces [] [] [] [] = ⊤
 AreOpenAs traces (q ∷ shared) (at ∷ queues) (t ∷ taps) (s ∷ seats) = IsOpenAs traces q at t s × AreOpenAs traces shared queues taps seats
 AreOpenAs traces shared queues taps seats = ⊥
 
--- A queue more was opened, after those that were.
+-- One more queue was opened, after those that were opened before.
 pub record IsAdded (traces : List (List Packet)) (q : SharedQueue) (queues more : List LeafQueue) (old new : EndLists) : Type 0 where
   pub at : LeafQueue
   pub tap : TapLists

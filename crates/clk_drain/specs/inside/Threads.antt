@@ -10,7 +10,7 @@ use Rattle.clk_drain.specs.Line.{LineLists, pulling_all, AreLinesOf}
 use Rattle.clk_drain.specs.Closing.{AreOffered}
 use Rattle.clk_drain.specs.Moments.{steps}
 
--- what is sent, and at which moments devices are pulled
+-- what is sent, and at which moments devices are pulled: each `step` ticks, at most `limit` times
 pub record Terms : Type 0 where
   pub traces : List (List Packet)
   pub step : ℕ
@@ -21,12 +21,12 @@ pub record IsUnused (terms : Terms) (seat : SeatLists) : Type 0 where
   pub offered : AreOffered [] seat
   pub room : seat.room ≡ length (sent_by terms.traces seat.sender)
 
--- All that its sender sends was offered, and then the seat was closed.
+-- The sender of a seat offered all that it sends, and then closed the seat.
 pub record HasSentAll (terms : Terms) (seat : SeatLists) (result : ClosedLists) : Type 0 where
   pub closed : IsClosedOf seat result
   pub sent : AreOffered (sent_by terms.traces seat.sender) result.lists
 
--- so for each of some seats, in order
+-- Each of these senders offered all that it sends, and then closed its seat, in order.
 abbrev pub HaveSentAll : Terms → List SeatLists → List ClosedLists → Type 0
 HaveSentAll terms [] [] = ⊤
 HaveSentAll terms (s ∷ seats) (c ∷ closed) = HasSentAll terms s c × HaveSentAll terms seats closed
@@ -43,7 +43,7 @@ pub record IsUnpulled (feed : Feed) : Type 0 where
   pub none : feed.session.log ≡ []
   pub own : AreLinesOf feed.session feed.lines
 
--- It was pulled once more, at this moment or, where that is later, at the greatest so far.
+-- The session was pulled once more, at this moment, or at its latest moment if that is later.
 pub record IsPulledAt (moment : ℕ) (old new : Feed) : Type 0 where
   pub tree : new.session.tree ≡ old.session.tree
   pub visits : new.visits ≡ old.visits
@@ -53,7 +53,7 @@ pub record IsPulledAt (moment : ℕ) (old new : Feed) : Type 0 where
   pub counted : counted_moment new.session ≡ max (counted_moment old.session) moment
   pub moments : map moment_of (pulls new.session.log) ≡ map moment_of (pulls old.session.log) ++ counted_moment new.session ∷ []
 
--- It was pulled so often, once each step.
+-- The session was pulled `made` times, once each step.
 pub record IsPulledFor (terms : Terms) (made : ℕ) (old new : Feed) : Type 0 where
   pub tree : new.session.tree ≡ old.session.tree
   pub visits : new.visits ≡ old.visits
@@ -63,11 +63,11 @@ pub record IsPulledFor (terms : Terms) (made : ℕ) (old new : Feed) : Type 0 wh
   pub moments : map moment_of (pulls new.session.log) ≡ steps terms.step made
   pub counted : counted_moment new.session ≡ made * terms.step
 
--- It was pulled, as often as it may be at most.
+-- The session was pulled, once each step, at most as often as it may be.
 abbrev pub IsPulled : Terms → Feed → Feed → Type 0
 IsPulled terms old new = (made : ℕ) × (made ≤ terms.limit) × IsPulledFor terms made old new
 
--- so for each of some sessions, in order
+-- Each of these sessions was pulled, once each step, at most as often as it may be.
 abbrev pub ArePulled : Terms → List Feed → List Feed → Type 0
 ArePulled terms [] [] = ⊤
 ArePulled terms (f ∷ feeds) (g ∷ pulled) = IsPulled terms f g × ArePulled terms feeds pulled

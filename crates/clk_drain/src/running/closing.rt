@@ -1,4 +1,4 @@
-//! The devices of a run are closed, one after the other.
+//! Draining the devices of a run, one after the other.
 
 ghost use Rattle.std.specs.Prelude.{◌≡◌, ◌⊎◌, ◌<◌, ◌++◌, ◌∷◌, [], map, IfOk, IfErr, OnOk, IsOkUnless};
 ghost use Rattle.std.specs.List.{AllByRecursion};
@@ -15,11 +15,11 @@ use clk_packet::Fault;
 use std::alloc::Global;
 use std::sync::Wait;
 
-/// Closes each device, in order, and joins what they came to.
+/// Drains each device, in order, and joins their outcomes.
 ///
 /// # Errors
 ///
-/// The first fault of a device, and fault 1 where memory is refused.
+/// The first fault of a device, and fault 1 if an allocation fails.
 pub fn close_devices<W: Wait, G: Gate>(
     alloc: Global,
     course: &Course<W, G>,
@@ -43,7 +43,7 @@ pub fn close_devices<W: Wait, G: Gate>(
     Ok(outcome)
 }
 
-// Adds what a device came to, after the devices before it.
+// Adds the outcome of a device, after those of the devices before it.
 fn note(outcome: &mut PackedOutcome, drained: PackedDrained) -> Result<(), Fault>
     ensures emitted { OnOk result (outcome.new.emitted.items ≡ outcome.old.emitted.items ++ drained.emitted ∷ []) }
     ensures logs { OnOk result (outcome.new.logs.items ≡ outcome.old.logs.items ++ drained.log ∷ []) }

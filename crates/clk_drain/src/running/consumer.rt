@@ -40,11 +40,11 @@ impl<'a, W: Wait> Consumer<'a, W> {
     ghost use Rattle.clk_drain.specs.Line.{AreLinesOf};
     ghost use Rattle.clk_drain.specs.inside.Threads.{IsUnpulled, IsPulled, IsPulledAt};
 
-    /// Pulls the device once each step, as often as it may at most, or until all producers are through.
+    /// Pulls the device once each step, until it was pulled as often as it may be or all producers are done.
     ///
     /// # Errors
     ///
-    /// Fault 1 where memory is refused to the session.
+    /// Fault 1 if an allocation of the session fails.
     pub fn pull_all<G: Gate>(self, course: &Course<W, G>) -> Result<Consumer<'a, W>, Fault>
         requires unpulled { IsUnpulled self }
         ensures pulled { IfOk result (IsPulled course.now self.entry) }
@@ -62,7 +62,7 @@ impl<'a, W: Wait> Consumer<'a, W> {
         Ok(consumer)
     }
 
-    // Makes the pull of this number, counted from 1. Where it gave none, other threads come first.
+    // Makes the pull with this number, counted from 1. If it gave none, yields to other threads.
     fn pull<G: Gate>(&mut self, course: &Course<W, G>, number: u32) -> Result<(), Fault>
         requires number { number ≤ course.now.limit }
         requires pulls { self.old.visits ≡ false → pulls_made self.old.session < end_of_pulls }

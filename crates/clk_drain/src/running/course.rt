@@ -6,7 +6,7 @@ use std::marker::Model;
 use std::sync::Wait;
 use std::sync::atomic::{AtomicU64, Ordering};
 
-/// What all threads of a run share: what is sent, at which moments devices are pulled, and how many producers are through.
+/// What all threads of a run share: what is sent, at which moments devices are pulled, and how many producers are done.
 #[derive(Drop)]
 pub struct Course<'a, W: Wait, G: Gate> {
     pub wait: &'a W,
@@ -17,7 +17,7 @@ pub struct Course<'a, W: Wait, G: Gate> {
     /// How often a device is pulled at most while producers run, from 1 to 1,000,000.
     pub limit: u32,
     pub producers: u64,
-    /// How many of the producers are through.
+    /// How many of the producers are done.
     pub through: AtomicU64,
 }
 
@@ -38,7 +38,7 @@ impl<'a, W: Wait, G: Gate> Course<'a, W, G> {
     ghost use Rattle.clk_sched.specs.Limits.{end_of_moments};
     ghost use Rattle.clk_gate.specs.Limits.{most_step, most_limit};
 
-    /// What they share, where so many producers are to run.
+    /// What the threads share, if `producers` producers are to run.
     pub fn new(
         wait: &'a W,
         traces: &'a Traces,
@@ -70,7 +70,7 @@ impl<'a, W: Wait, G: Gate> Course<'a, W, G> {
         self.limit
     }
 
-    /// The moment of a device's pull of this number, counted from 1.
+    /// The moment, in ticks, of a device's pull with this number, counted from 1.
     pub fn moment(&self, pull: u32) -> u64
         requires { pull ≤ self.now.limit }
         ensures moment { result ≡ pull * self.now.step }
@@ -79,7 +79,7 @@ impl<'a, W: Wait, G: Gate> Course<'a, W, G> {
         u64::from(pull) * u64::from(self.step)
     }
 
-    /// Whether all producers are through.
+    /// Whether all producers are done.
     pub fn is_over(&self) -> bool {
         self.through.load(Ordering::SeqCst) == self.producers
     }

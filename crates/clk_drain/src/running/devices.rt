@@ -1,4 +1,4 @@
-//! What a run opens of a plan before its threads start: for each device a session of its tree, and its queues.
+//! What a run opens over a plan before its threads start: for each device a session of its tree, and its queues.
 
 ghost use Rattle.std.specs.Prelude.{◌≡◌, ◌<◌, true, [], map, IfOk, OnOk, IsOkUnless};
 ghost use Rattle.std.specs.List.{AllByRecursion};
@@ -25,11 +25,11 @@ pub struct OpenPlan {
     pub ends: Vec<Ends>,
 }
 
-/// Opens each device of a plan, with room for all that is sent. Of its past so much is kept.
+/// Opens each device of a plan, with room for all that is sent. `keeps` says what its session keeps.
 ///
 /// # Errors
 ///
-/// Fault 1 where memory is refused.
+/// Fault 1 if an allocation fails.
 pub fn open_devices(
     alloc: Global,
     plan: &Plan,
@@ -78,7 +78,7 @@ fn open_device(
     Ok((queues, ends))
 }
 
-// How many packets seats may offer in all, of which no more come out. Memory alone depends on it.
+// How many packets the senders at these seats may offer in all. The device emits no more. Only how much memory is reserved depends on it.
 fn rooms_of(seats: &[Vec<Seat>]) -> usize {
     let mut rooms: usize = 0;
     for at_queue in seats {

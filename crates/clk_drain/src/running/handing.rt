@@ -1,4 +1,4 @@
-//! What was opened is handed out to the producers and the consumers of a run.
+//! Handing out what was opened to the producers and the consumers of a run.
 
 ghost use Rattle.std.specs.Prelude.{◌≡◌, ◌++◌, ◌∷◌, [], map, IfOk, OnOk, IsOkUnless};
 ghost use Rattle.std.specs.List.{flat_map};
@@ -26,7 +26,7 @@ pub struct Handed<'a, W: Wait> {
 ///
 /// # Errors
 ///
-/// Fault 1 where memory is refused.
+/// Fault 1 if an allocation fails.
 pub fn hand_out<'a, W: Wait>(
     alloc: Global,
     wait: &'a W,

@@ -1,4 +1,4 @@
-//! What the threads of a run gave back, joined again: the lines of each device.
+//! Joining what the threads of a run returned: the lines of each device.
 
 ghost use Rattle.std.specs.Prelude.{◌≡◌, ◌≤◌, map, length, take, drop, IfOk, OnOk, IsOkUnless};
 ghost use Rattle.std.specs.Vec.Iter.{into_iter_items};
@@ -14,7 +14,7 @@ use std::alloc::Global;
 use std::marker::Model;
 use std::vec::IntoIter;
 
-/// A session once its consumer ended, with the taps of its queues, in order.
+/// A session after its consumer ended, with the taps of its queues, in order.
 #[derive(Drop)]
 pub struct Pulled {
     pub session: DeviceSession,
@@ -56,7 +56,7 @@ impl Model for Closing {
 ///
 /// # Errors
 ///
-/// Fault 1 where memory is refused.
+/// Fault 1 if an allocation fails.
 pub fn join_devices(
     alloc: Global,
     queues: Vec<Vec<LeafQueue>>,
@@ -112,7 +112,7 @@ fn join_lines(
     Ok(lines)
 }
 
-// So many of the seats, the first that are left.
+// The first `count` of the seats that are left.
 fn first_seats(
     alloc: Global,
     closed: &mut IntoIter<ClosedSeat, Global>,

@@ -1,4 +1,4 @@
-//! The shared queues of a tree while their seats are out, as what a session is pulled over.
+//! The shared queues of a tree while their seats are handed out, from which a session pulls.
 
 ghost use Rattle.std.specs.Prelude.{◌≡◌, false, MatchOption};
 ghost use Rattle.clk_packet.specs.Lists.{AreRising};
@@ -44,7 +44,7 @@ impl<'a> OpenLine<'a> {
         self.leaf
     }
 
-    /// Pulls the packet at the front of the queue, or answers none where it found it empty. Takes no memory.
+    /// Pulls the packet at the front of the queue, or returns `None` if it finds the queue empty. Doesn't allocate.
     pub fn pull(&mut self, wait: &impl Wait) -> Option<Packet>
         ensures { self.new ≡ pulling self.old (packets_of result) }
     {
@@ -60,7 +60,7 @@ impl<'a> OpenLine<'a> {
     }
 }
 
-/// Open lines, of rising leaves, over which a session is pulled.
+/// Open lines of rising leaves, over which a session is pulled.
 #[derive(Drop)]
 pub struct OpenLines<'a, W: Wait> {
     wait: &'a W,
@@ -89,7 +89,7 @@ impl<'a, W: Wait> OpenLines<'a, W> {
     ghost use Rattle.clk_packet.specs.Lists.{AreRising};
     ghost use Rattle.clk_drain.specs.Line.{LineLists, AreLinesOf, leaves_of, pulling_all};
 
-    /// Open lines of rising leaves. `wait` is what their queues wait by.
+    /// Open lines of rising leaves. `wait` is how their queues wait.
     pub fn new(wait: &'a W, each: Vec<OpenLine<'a>>) -> OpenLines<'a, W>
         requires rise { AreRising (leaves_of each.items) }
         ensures { result ≡ each.entry.items }
@@ -101,7 +101,7 @@ impl<'a, W: Wait> OpenLines<'a, W> {
     ///
     /// # Errors
     ///
-    /// Fault 1 where memory is refused. Then nothing has changed, and nothing was asked.
+    /// Fault 1 if an allocation fails. Then nothing has changed, and nothing was asked.
     pub fn pull(
         &mut self,
         session: &mut DeviceSession,
@@ -123,7 +123,7 @@ impl<'a, W: Wait> OpenLines<'a, W> {
     ///
     /// # Errors
     ///
-    /// Fault 1 where memory is refused.
+    /// Fault 1 if an allocation fails.
     pub fn into_taps(self, alloc: Global) -> Result<Vec<BareTap>, Fault>
         ensures taps { IfOk result (λ taps. taps.items ≡ map (λ (l : LineLists). l.tap) self.entry) }
         ensures fault { IsOkUnless result Fault.Memory }
@@ -141,7 +141,7 @@ impl<'a, W: Wait> Ask for OpenLines<'a, W> {
 
     ghost has = { has_line };
 
-    // What a shared queue holds is known by no one alone, while producers offer.
+    // While producers offer, no one thread knows what a shared queue holds.
     ghost holds = { λ s leaf. 0 };
 
     ghost gives = { PullsAt };
@@ -158,7 +158,8 @@ impl<'a, W: Wait> Ask for OpenLines<'a, W> {
     }
 }
 
-// Where the open line of a leaf stands, if there is one. The place of its leaf's number is looked at first, as for lines.
+// The place of a leaf's open line, if there is one. If one device has all queues, each stands at the place of its leaf's number, so that
+// place is tried first.
 fn place_of(open_lines: &[OpenLine], leaf: u16) -> Option<usize>
     requires { AreRising (leaves_of open_lines.now) }
     ensures { MatchOption result (has_line open_lines.now leaf ≡ false) (IsPlaceOf open_lines.now leaf) }

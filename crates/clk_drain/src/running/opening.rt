@@ -26,8 +26,8 @@ pub struct LeafQueue {
     pub baton: Baton,
 }
 
-/// What the threads of a device are given: its session, and the taps and the seats of its queues, by rising leaf. Contracts see all
-/// but the device's number.
+/// What the threads of a device get: its session, and the taps and the seats of its queues, by rising leaf. Contracts see all but the
+/// device's number.
 #[derive(Drop)]
 pub struct Ends {
     pub device: u16,
@@ -49,7 +49,7 @@ impl Model for Ends {
     ghost view = { λ e. record { session = e.session.session; visits = e.session.visits; taps = e.taps.items; seats = map (λ seats. seats.items) e.seats.items } };
 }
 
-/// Opens a queue more, at this leaf, with room for all that is sent to it. Fault 1 where memory is refused.
+/// Opens one more queue, at this leaf, with room for all that is sent to it. Fault 1 if an allocation fails.
 pub fn open_queue(
     alloc: Global,
     queues: &mut Vec<LeafQueue>,
@@ -84,7 +84,7 @@ pub fn open_queue(
 // How many packets each of these senders may offer: all that it sends.
 fn rooms_for(alloc: Global, senders: &[u16], traces: &Traces) -> Result<Vec<(u16, u32)>, Fault>
     ensures rooms { IfOk result (λ rooms. rooms.items ≡ rooms_for traces.now senders.now) }
-    // No trace sends more, as is known once a sender's packets were counted.
+    // No trace sends more: counting a sender's packets brings this into scope.
     ensures within { IfOk result (λ _. 0 < length senders.now → packets_in traces.now ≤ most_records) }
     ensures fault { IsOkUnless result Fault.Memory }
 {

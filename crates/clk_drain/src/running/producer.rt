@@ -1,4 +1,4 @@
-//! A producer: what offers all packets of a sender to its queue.
+//! A producer offers all packets of a sender to its queue.
 
 use crate::running::baton::Baton;
 use clk_gate::Gate;
@@ -8,7 +8,7 @@ use std::marker::Model;
 use std::sync::Wait;
 use std::sync::atomic::{AtomicU64, Ordering};
 
-/// How many packets a producer offers at most before it passes the baton on, and before it looks for it again where it has none.
+/// How many packets a producer offers before it passes the baton on or, if it has none, looks for it again.
 const AT_A_TIME: u32 = 1_024;
 
 /// The seat of a sender, beside its queue. Contracts see the seat.
@@ -36,8 +36,8 @@ ghost use Rattle.clk_ruled.specs.Queue.{IsSeatOf};
 ghost use Rattle.clk_ruled.specs.Closing.{IsSameSeat, IsClosedOf};
 ghost use Rattle.clk_drain.specs.Closing.{AreOffered};
 
-/// Offers all packets of a seat's sender to its queue, in order, closes the seat, and then counts one more that is through. Takes no
-/// memory.
+/// Offers all packets of a seat's sender to its queue, in order, closes the seat, and then counts one more producer as done. Doesn't
+/// allocate.
 pub fn send_all<W: Wait, G: Gate>(
     wait: &W,
     traces: &Traces,
@@ -60,7 +60,7 @@ pub fn send_all<W: Wait, G: Gate>(
     closed
 }
 
-// Offers all packets of the seat's sender, in order, with the baton where it can be had.
+// Offers all packets of the seat's sender, in order, with the baton if it gets it.
 fn offer_all<W: Wait, G: Gate>(
     wait: &W,
     traces: &Traces,
@@ -93,7 +93,7 @@ fn offer_all<W: Wait, G: Gate>(
     }
 }
 
-// Offers the packet of this number of the seat's sender, after those before it.
+// Offers the packet with this number of the seat's sender, after those before it.
 fn offer_next<W: Wait, G: Gate>(
     wait: &W,
     traces: &Traces,

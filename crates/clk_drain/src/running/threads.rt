@@ -24,7 +24,7 @@ use std::sync::Wait;
 use std::thread;
 use std::thread::{Promise, PromisedHandle, Scope, Threads};
 
-/// What a producer's thread gives: its seat, closed once all was offered.
+/// What a producer's thread promises to return: its seat, closed after all was offered.
 #[derive(Drop)]
 pub struct Sending {
     traces: Snapshot<Traces>,
@@ -39,7 +39,7 @@ impl Promise<ClosedSeat> for Sending {
     ghost kept_by = { λ p closed. IsClosedOf p.seat.value closed × AreOffered (sent_by p.traces.value p.seat.value.sender) closed.lists };
 }
 
-/// What a consumer's thread gives: the consumer, once it pulled.
+/// What a consumer's thread promises to return: the consumer, after its pulls.
 #[derive(Drop)]
 pub struct Pulling<'a, W: Wait, G: Gate> {
     course: Snapshot<Course<'a, W, G>>,
@@ -54,7 +54,7 @@ impl<'a, W: Wait, G: Gate> Promise<Result<Consumer<'a, W>, Fault>> for Pulling<'
     ghost kept_by = { λ p result. IfOk result (IsPulled p.course.value p.consumer.value) × IsOkUnless result Memory };
 }
 
-// Starts a producer's thread. What it shares is lent piece by piece: of a closure that captures `Course` its result isn't known.
+// Starts a producer's thread. What it shares is lent piece by piece: of a closure that captures `Course` contracts don't know the result.
 fn start_sending<'s, E, W: Wait + Sync, G: Gate + Sync>(
     scope: &Scope<'s, E>,
     course: &'s Course<'s, W, G>,
@@ -102,7 +102,7 @@ fn start_pulling<'s, E, W: Wait + Sync, G: Gate + Sync>(
 ///
 /// # Errors
 ///
-/// Fault 1 where memory or a thread is refused. All threads have ended then too.
+/// Fault 1 if an allocation fails or a thread can't be started. All threads have ended then too.
 pub fn run_threads<R: Threads + Wait, W: Wait + Sync, G: Gate + Sync>(
     rt: &R,
     alloc: Global,
@@ -158,25 +158,25 @@ fn pulled_by<W: Wait>(alloc: Global, consumers: Vec<Consumer<W>>) -> Result<Vec<
     Ok(pulled)
 }
 
-/// What a run has once its threads ended: the seats of all queues, closed, and for each device its session and taps, all in order.
+/// What a run has after its threads ended: the seats of all queues, closed, and for each device its session and taps, all in order.
 #[derive(Drop)]
 pub struct Joined {
     pub closed: Vec<ClosedSeat>,
     pub pulled: Vec<Pulled>,
 }
 
-/// What the threads of a run give back: the seats, closed, and the consumers, each in the order in which they were started.
+/// What the threads of a run return: the seats, closed, and the consumers, each in the order in which they were started.
 #[derive(Drop)]
 pub struct Ended<'a, W: Wait> {
     pub closed: Vec<ClosedSeat>,
     pub consumers: Vec<Consumer<'a, W>>,
 }
 
-/// Runs each producer on a thread of its own, and each consumer, the first on this one.
+/// Runs each producer and each consumer on a thread of its own, except the first consumer, which runs on this thread.
 ///
 /// # Errors
 ///
-/// Fault 1 where memory or a thread is refused. Those that were started are joined then too.
+/// Fault 1 if an allocation fails or a thread can't be started. The threads that were started are joined then too.
 pub fn send_and_pull<'s, E, R: Threads, W: Wait + Sync, G: Gate + Sync>(
     rt: &R,
     scope: &Scope<'s, E>,
@@ -209,7 +209,7 @@ pub fn send_and_pull<'s, E, R: Threads, W: Wait + Sync, G: Gate + Sync>(
     Ok(ended)
 }
 
-// Runs each consumer from the second on on a thread of its own, and the first on this one.
+// Runs each consumer on a thread of its own, except the first, which runs on this thread.
 fn pull_each<'s, E, R: Threads, W: Wait + Sync, G: Gate + Sync>(
     rt: &R,
     scope: &Scope<'s, E>,
