@@ -12,8 +12,8 @@ abbrev pub steps : ℕ → ℕ → List ℕ
 steps step zero = []
 steps step (suc n) = steps step n ++ suc n * step ∷ []
 
--- A device was pulled at these moments. While senders ran, it was pulled the k-th time at k times `step`, at most `limit` times. Then it
--- was drained one tick apart, the first time one tick after the latest pull.
+-- A device was pulled the k-th time at k times `step`, at most `limit` times, and then drained one tick apart. The drain begins one tick
+-- after the latest of these pulls.
 pub record HasMoments (step limit : ℕ) (tree : Tree) (log : List Visit) : Type 0 where
   pub running : List (List Visit)
   pub closing : List (List Visit)

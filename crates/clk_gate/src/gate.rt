@@ -7,7 +7,7 @@ pub trait Gate {
     /// of the queue may wait a little for a producer that is held up here, before each 1,024 packets. Then they go on.
     fn before(&self, sender: u16, number: u32);
 
-    /// The consumer of a device has made its n-th pull, counted from 1. The gate is not told of the pulls of the closing drain.
+    /// The consumer of a device has made its n-th pull, counted from 1. The gate is not told of the pulls of the drain.
     fn pulled(&self, device: u16, n: u64);
 }
 

@@ -1,4 +1,4 @@
--- What runs through inlets come to.
+-- What runs through inlets return.
 pub mod Run
 pub mod Recorded
 pub mod inside

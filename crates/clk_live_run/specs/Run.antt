@@ -1,4 +1,4 @@
--- What a run through inlets comes to, and why it fails (this project's own definition).
+-- What a run through inlets returns, and why it fails (this project's own definition).
 use Rattle.std.specs.Prelude.{◌≡◌, ℕ, ◌+◌, ◌*◌, ◌<◌, ◌≤◌, Bool, true, List, [], ◌++◌, length, map, ⊤, Some}
 use Rattle.std.specs.List.{filter_map, range_with_len, AllByRecursion}
 use Rattle.clk_packet.specs.declared.packet.Packet.{Packet}
@@ -18,7 +18,7 @@ use Rattle.clk_gate.specs.Known.{senders_in, IsFirstUnknown}
 use Rattle.clk_script.specs.Meaning.{IsClosed}
 use Rattle.clk_script.specs.Script.{most_lines}
 
--- the moments of so many pulls, `step` ticks apart, the first at moment `step`
+-- the moments of `count` pulls, `step` ticks apart, the first at moment `step`
 abbrev pub paced : (step count : ℕ) → List ℕ
 paced step count = map (λ n. n * step) (range_with_len 1 count)
 
@@ -30,7 +30,7 @@ moments_at setup events device = filter_map moment_in (events_at setup device ev
 abbrev pub OffersAll : List (List Packet) → List Event → ℕ → Type 0
 OffersAll traces events s = map packet_length (offered_of events s) ≡ map packet_length (sent_by traces s)
 
--- A run of a setup over traces: what happened while its senders sent, `events`, and in the closing drain, `closed`.
+-- A run of a setup over traces: what happened while its senders sent, `events`, and in the drain, `closed`.
 pub record IsLiveRun (traces : List (List Packet)) (step limit : ℕ) (setup : Setup) (events closed : List Event) : Type 0 where
   -- all this can happen, and all packets are out of the router
   pub happened : CanHappen setup (events ++ closed)
@@ -45,7 +45,7 @@ pub record IsLiveRun (traces : List (List Packet)) (step limit : ℕ) (setup : S
   -- then the devices were drained, one after the other
   pub closes : IsClosed setup (Some 0) events closed
 
--- What a run of a plan came to: its events, and what is told of them.
+-- A run of a plan: its events, and what is `Told` of them.
 pub record LiveRunOf (plan : List Planned) (traces : List (List Packet)) (step limit : ℕ) (c : Course) (Told : Setup → List Event → List Event → Type 0) : Type 0 where
   pub trees : List Tree
   pub are : AreTreesOf plan trees

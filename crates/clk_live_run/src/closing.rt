@@ -1,4 +1,4 @@
-//! The closing of a run: each device is drained, one after the other.
+//! The drain of a run: each device is drained, one after the other.
 
 ghost use Rattle.std.specs.Prelude.{◌≡◌, ◌<◌, ℕ, length};
 ghost use Rattle.clk_router.specs.Course.{CanClose};
@@ -22,7 +22,7 @@ fn drain<P: Wait>(wait: &P, live: &mut Live, device: u16)
     requires can { CanClose live.old.course device 0 }
     ensures drained { HasDrained device live.old live.new }
 {
-    // A drain comes to its end, and what has happened can happen, by these laws, which do nothing.
+    // A drain ends, and what has happened can happen, by these laws, which do nothing.
     live.router().drains_end();
     live.router().has_happened();
     for _ in wait.forever() {

@@ -28,8 +28,8 @@ impl<R: Sink + Drop> Consumer<R> {
     ghost use Rattle.clk_live_run.specs.inside.Recording.{LeadsOn};
     ghost use Rattle.clk_live_run.specs.inside.Consuming.{commands_of, OnlyTook, PulledFirst, HasPaced, HasConsumed};
 
-    /// Takes packets and pulls devices in rounds, until all inlets have ended and all that was sent is taken. A round takes at most 64 packets
-    /// of each sender. In the first `limit` rounds each device is then pulled once, in the n-th at moment `n * step`.
+    /// Takes packets and pulls devices in rounds, until all inlets have ended and all that was sent is taken. A round takes at most 64
+    /// packets of each sender. In each of the first `limit` rounds it then pulls each device once, in the n-th at moment `n * step`.
     pub fn consume<P: Wait, G: Gate>(&mut self, wait: &P, step: u32, limit: u32, gate: &G)
         requires step { step ≤ most_step }
         requires limit { limit ≤ most_limit }
@@ -47,8 +47,8 @@ impl<R: Sink + Drop> Consumer<R> {
         unreachable!()
     }
 
-    // Takes packets of each sender, and pulls each device once more if it was pulled fewer than `limit` times. Returns how often each was pulled
-    // then. If there was nothing to take, other threads go first.
+    // Takes packets of each sender, and pulls each device once more if it was pulled fewer than `limit` times. Returns how often each
+    // device was pulled then. If there was nothing to take, yields to other threads.
     fn round<G: Gate>(&mut self, pulls: u32, step: u32, limit: u32, gate: &G) -> u32
         requires step { step ≤ most_step }
         requires limit { (pulls ≤ limit) × (limit ≤ most_limit) }
@@ -104,7 +104,7 @@ impl<R: Sink + Drop> Consumer<R> {
         took
     }
 
-    // Pulls each device once, in the round of this number, counted from 1.
+    // Pulls each device once, in the round with this number, counted from 1.
     fn pull_round<G: Gate>(&mut self, round: u32, step: u32, gate: &G)
         requires moment { (step ≤ most_step) × (round ≤ most_limit) }
         requires few { (d : ℕ) → d < length self.old.live.course.setup.trees → length (moments_at self.old.live.course.setup self.old.live.course.events d) ≤ most_limit }

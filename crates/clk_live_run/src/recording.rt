@@ -73,7 +73,7 @@ impl<R: Sink + Drop> Recording<R> {
         }
     }
 
-    /// Ends the record by the drain from moment 0 on. Returns the sink, and whether it failed.
+    /// Ends the record with the drain from moment 0 on. Returns the sink, and whether it failed.
     pub fn finish(self) -> (R, bool)
         ensures ended { (recording : _) (start : SinkAt) (commands : List Command) → IsRecordOf recording start self commands → IsEnded recording result.1 start (record { taken = R.Sink.taken result.0; failures = R.Sink.failures result.0 }) commands }
     {

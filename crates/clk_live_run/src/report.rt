@@ -12,11 +12,11 @@ use clk_packet::{Fault, Sink};
 use clk_report::{Counts, Total, report_line};
 use clk_router::{Account, CountingRouter};
 
-/// Writes the report of what became of the packets of each sender so far: a line for each sender, in order.
+/// Writes the report of each sender's packets so far: a line for each sender, in order.
 ///
 /// `sender S: sent N B, accepted N B, refused N B, evicted N B, emitted N B`
 ///
-/// It doesn't allocate, and takes time in proportion to the senders.
+/// Doesn't allocate. Takes time in proportion to the senders.
 ///
 /// # Errors
 ///
@@ -25,13 +25,13 @@ pub fn report_accounts<W: Sink>(router: &CountingRouter, writer: &mut W) -> Resu
     ensures wrote { Wrote (W.Sink.taken writer.old) (W.Sink.taken writer.new)
         (W.Sink.failures writer.old) (W.Sink.failures writer.new) result (ending_text router.now.setup (Some 0) router.now.events) }
 {
-    // Each sender's packets are emitted by its own device alone, by this law, which does nothing.
+    // Only its own device emits packets of a sender, by this law, which does nothing.
     router.has_account();
     see_offers(router);
     write_accounts(router.accounts(), writer)
 }
 
-// Looks at how many packets each sender has offered: fewer than 2^32, so that no total of its account is capped.
+// Reads how many packets each sender has offered: fewer than 2^32, so that no total of its account is capped.
 fn see_offers(router: &CountingRouter)
     ensures { AllByRecursion (λ s. length (offered_of router.now.events s) < 2 ^ 32) (sender_numbers router.now.setup) }
 {
@@ -59,7 +59,7 @@ fn write_account<W: Sink>(account: &Account, writer: &mut W) -> Result<(), Fault
     report_line(&counts_in(account), total_in(account.emitted), writer)
 }
 
-// What a report tells of an account, but for what was emitted.
+// What a report says of an account, except what was emitted.
 fn counts_in(account: &Account) -> Counts
     ensures { result ≡ counts_in account.now }
 {
@@ -72,7 +72,7 @@ fn counts_in(account: &Account) -> Counts
     }
 }
 
-// The total of what was accepted and of what was refused.
+// The total of what was accepted and refused together.
 fn sent_in(account: &Account) -> Total
     ensures { result ≡ sent_in account.now }
 {

@@ -73,7 +73,7 @@ pub fn run_live<H: Threads + Wait, P: Wait + Sync, G: Gate + Sync, R: Sink + Dro
     if recording {
         check_length(plan, traces, limit)?;
     }
-    // How many packets are sent in all is known where they are counted.
+    // Counting packets brings into scope how many are sent in all.
     let _ = traces.count(0);
     let (live, inlets) = Live::open(alloc, plan, ROOM)?;
     let senders = senders_of(alloc, live.router().senders(), inlets)?;
@@ -111,7 +111,7 @@ fn close<P: Wait, R: Sink + Drop>(wait: &P, ended: Ended<R>) -> LiveOutcome<R>
         mut live,
         recording,
     } = consumer;
-    // All that was sent is taken, so that no more is left than a drain gives.
+    // All that was sent is taken, so no more is left than a drain emits at most.
     let _ = live.has_taken_all(inlets.as_mut_slice());
     close_devices(wait, &mut live);
     let _ = live.is_drained();
@@ -136,7 +136,7 @@ fn check_length(plan: &Plan, traces: &Traces, limit: u32) -> Result<(), Fault>
     Ok(())
 }
 
-// How many packets these senders send together, and 2^64 - 1 if they are more.
+// How many packets these senders send together, or 2^64 - 1 if they are more.
 fn count_sent(senders: &[SenderSpec], traces: &Traces) -> u64
     ensures { result ≡ capped (sent_in traces.now (map number_of senders.now)) }
 {

@@ -14,7 +14,7 @@ use std::alloc::Global;
 use std::sync::Wait;
 use std::thread;
 
-/// What a sender's thread is given: its number, and its inlet.
+/// What a sender's thread gets: its number, and its inlet.
 #[derive(Drop)]
 pub struct Sender {
     pub number: u16,
@@ -61,7 +61,7 @@ pub fn send_all<P: Wait, G: Gate>(
     inlet
 }
 
-// Offers a packet until its inlet accepts it. While the inlet is full, other threads go first.
+// Offers a packet until its inlet accepts it. While the inlet is full, yields to other threads.
 fn offer<P: Wait>(wait: &P, inlet: &mut Inlet, packet: Packet)
     ensures sent { HasSent inlet.old (packet_item packet.length 0 ∷ []) inlet.new }
 {

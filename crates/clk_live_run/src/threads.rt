@@ -102,7 +102,7 @@ fn join_all<R: Threads>(
     Ok(inlets)
 }
 
-/// What is left once all threads of a run have ended.
+/// What a run has after all its threads have ended.
 #[derive(Drop)]
 pub struct Ended<R: Sink + Drop> {
     pub consumer: Consumer<R>,
@@ -113,7 +113,7 @@ pub struct Ended<R: Sink + Drop> {
 ///
 /// # Errors
 ///
-/// An allocation or the start of a thread failed. All threads have ended then, too.
+/// Fails if an allocation or the start of a thread fails. All threads have ended then, too.
 pub fn run_threads<H: Threads + Wait, P: Wait + Sync, G: Gate + Sync, R: Sink + Drop>(
     rt: &H,
     alloc: Global,

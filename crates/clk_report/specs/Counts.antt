@@ -1,4 +1,4 @@
--- What a report tells of a sender, counted: how many packets, and their bytes.
+-- What a report says of a sender, counted: how many packets, and their bytes.
 use Rattle.std.specs.Prelude.{ℕ, ◌+◌, ◌*◌, ◌^◌, ◌<◌, List, ◌++◌, codes, decimal, length}
 use Rattle.std.specs.List.{flat_map}
 use Rattle.clk_packet.specs.Limits.{most_length}
@@ -9,10 +9,11 @@ use Rattle.clk_report.specs.declared.total.Total.{Total}
 use Rattle.clk_report.specs.declared.counts.Counts.{Counts}
 use Rattle.clk_report.specs.Report.{bytes_of, numbers_text}
 
+-- how many packets these are, and their bytes
 abbrev pub total_of : List Packet → Total
 total_of packets = record { packets = length packets; bytes = bytes_of packets }
 
--- what is counted of a tally
+-- the counts of a tally
 abbrev pub counts_of : Tally → Counts
 counts_of t = record { sender = t.sender; sent = total_of (t.accepted ++ t.refused); accepted = total_of t.accepted; refused = total_of t.refused; evicted = total_of t.evicted }
 
@@ -20,25 +21,25 @@ counts_of t = record { sender = t.sender; sent = total_of (t.accepted ++ t.refus
 abbrev pub with_packet : Packet → Total → Total
 with_packet p total = record { packets = total.packets + 1; bytes = total.bytes + p.length }
 
--- There is room to count so many packets more.
+-- There is room to count `more` more packets.
 pub record HasRoom (more : ℕ) (total : Total) : Type 0 where
   pub packets : total.packets + more < 2 ^ 128
   pub bytes : total.bytes + most_length * more < 2 ^ 128
 
--- some words and ` N B`
+-- these words, and then ` N B`
 abbrev pub words_text : List ℕ → Total → List ℕ
 words_text words total = words ++ numbers_text total.packets total.bytes
 
--- the line of a sender of whom this was counted, where so much came out
+-- the line of a sender with these counts, of whose packets `emitted` is the total that devices emitted
 abbrev pub line_with : Counts → Total → List ℕ
 line_with c emitted =
     codes "sender " ++ (decimal c.sender ++ (words_text (codes ": sent") c.sent ++ (words_text (codes ", accepted") c.accepted ++ (words_text (codes ", refused") c.refused
     ++ (words_text (codes ", evicted") c.evicted ++ (words_text (codes ", emitted") emitted ++ codes "\n"))))))
 
--- the same, where these packets came out at any device
+-- the line of a sender with these counts, if these packets were emitted at all devices
 abbrev pub counts_line : List Packet → Counts → List ℕ
 counts_line emitted c = line_with c (total_of (of_sender c.sender emitted))
 
--- the report, by what was counted of each sender, in order
+-- the report of senders with these counts, in order, if these packets were emitted at all devices
 abbrev pub counts_text : List Packet → List Counts → List ℕ
 counts_text emitted counts = flat_map (counts_line emitted) counts

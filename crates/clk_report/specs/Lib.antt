@@ -1,4 +1,4 @@
--- What the texts of a run are.
+-- The texts that tell of a run.
 pub mod Counts
 pub mod Devices
 pub mod Report

@@ -10,7 +10,7 @@ abbrev pub bytes_of : List Packet → ℕ
 bytes_of [] = 0
 bytes_of (p ∷ packets) = p.length + bytes_of packets
 
--- ` N B`: so many packets, and so many bytes
+-- ` N B`: N packets, and B bytes
 abbrev pub numbers_text : ℕ → ℕ → List ℕ
 numbers_text packets bytes = codes " " ++ (decimal packets ++ (codes " " ++ decimal bytes))
 
@@ -18,8 +18,8 @@ numbers_text packets bytes = codes " " ++ (decimal packets ++ (codes " " ++ deci
 abbrev pub total_text : List Packet → List ℕ
 total_text packets = numbers_text (length packets) (bytes_of packets)
 
--- `sender S: sent N B, accepted N B, refused N B, evicted N B, emitted N B`, where these packets came out at any device. Sent is
--- accepted and refused together.
+-- `sender S: sent N B, accepted N B, refused N B, evicted N B, emitted N B`, if these packets were emitted at all devices. Sent is accepted
+-- and refused together.
 abbrev pub tally_text : List Packet → Tally → List ℕ
 tally_text emitted tally =
     codes "sender " ++ (decimal tally.sender ++ (codes ": sent" ++ (total_text (tally.accepted ++ tally.refused)

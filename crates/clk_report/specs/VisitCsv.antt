@@ -5,16 +5,16 @@ use Rattle.csv.specs.Writing.{default_writer, row_text}
 use Rattle.clk_packet.specs.declared.packet.Packet.{Packet}
 use Rattle.clk_sched.specs.declared.visit.Visit.{Visit}
 
--- whether, as 0 or 1
+-- a flag, as 0 or 1
 abbrev pub flag_text : Bool → List ℕ
 flag_text flag = if flag then codes "1" else codes "0"
 
--- a number, and nothing where there is none
+-- a number, or nothing if there is none
 abbrev pub number_or_none : Option ℕ → List ℕ
 number_or_none None = []
 number_or_none (Some n) = decimal n
 
--- a field of the packet that was got
+-- a field of the packet that a visit got, or nothing if it got none
 abbrev pub got_text : (Packet → ℕ) → Option Packet → List ℕ
 got_text field got = number_or_none (option_map field got)
 
@@ -22,17 +22,17 @@ got_text field got = number_or_none (option_map field got)
 abbrev pub header_text : List ℕ
 header_text = codes "pull,node,input,fresh,sender,number,length,passed,moment\n"
 
--- the header line, where rows tell the device and where they don't
+-- the header line, with a column for the device or without one
 abbrev pub header_of : Bool → List ℕ
 header_of several = if several then codes "device," ++ header_text else header_text
 
--- what a visit shows in each column
+-- the fields of a visit, one for each column
 abbrev pub columns : Visit → List (List ℕ)
 columns v =
     decimal v.pull ∷ decimal v.node ∷ decimal v.input ∷ flag_text v.fresh ∷ got_text (λ p. p.sender) v.got ∷ got_text (λ p. p.number) v.got
     ∷ got_text (λ p. p.length) v.got ∷ flag_text v.passed ∷ decimal v.moment ∷ []
 
--- the column of the device, where rows tell it
+-- the field of the device, if rows have one
 abbrev pub device_column : Option ℕ → List (List ℕ)
 device_column None = []
 device_column (Some d) = decimal d ∷ []
@@ -46,7 +46,7 @@ abbrev pub devices_text : ℕ → List (List Visit) → List ℕ
 devices_text d [] = []
 devices_text d (log ∷ logs) = rows_text (Some d) log ++ devices_text (d + 1) logs
 
--- The header line, and the rows of the logs. Of several devices each line tells the device first, of one none does.
+-- The header line and the rows of the logs. If there are several devices, each line begins with the device; if there is one, none does.
 abbrev pub visits_text : List (List Visit) → List ℕ
 visits_text [] = header_text
 visits_text (log ∷ []) = header_text ++ rows_text None log

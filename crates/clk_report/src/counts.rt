@@ -1,20 +1,20 @@
-//! What is counted of a sender's packets.
+//! The counts of a sender's packets.
 
 use crate::total::Total;
 use clk_packet::{Packet, Tally};
 
-/// What became of the packets that one sender offered to its queue, counted: all that a report tells of it but what came out.
+/// The totals of the packets that one sender offered to its queue. A report says these of the sender, and what was emitted besides.
 #[derive(Clone, Copy)]
 pub struct Counts {
     /// The sender's number.
     pub sender: u16,
-    /// Those that it offered.
+    /// Its packets that it offered.
     pub sent: Total,
-    /// Those that the queue took.
+    /// Its packets that the queue accepted.
     pub accepted: Total,
-    /// Those that the queue was too full to take.
+    /// Its packets that the queue refused.
     pub refused: Total,
-    /// Those of the accepted ones that the queue put out for later packets, of this sender or of another.
+    /// Its accepted packets that the queue evicted for later ones, of this sender or of another.
     pub evicted: Total,
 }
 
@@ -23,7 +23,7 @@ impl Counts {
     ghost use Rattle.clk_packet.specs.declared.tally.Tally.{Tally};
     ghost use Rattle.clk_report.specs.Counts.{counts_of, with_packet, HasRoom};
 
-    /// Of a sender that has offered nothing.
+    /// The counts of a sender that has offered nothing.
     pub fn none(sender: u16) -> Counts
         ensures { result ≡ counts_of (record { sender = sender; accepted = []; refused = []; evicted = [] }) }
     {
@@ -36,7 +36,7 @@ impl Counts {
         }
     }
 
-    /// Of the packets that a tally lists. Takes time in proportion to them.
+    /// The counts of the packets that a tally lists. Takes time in proportion to them.
     pub fn of(tally: &Tally) -> Counts
         ensures { result ≡ counts_of tally.now }
     {
@@ -51,7 +51,7 @@ impl Counts {
         }
     }
 
-    /// Counts a packet that its queue took.
+    /// Counts a packet that its queue accepted.
     #[inline(always)]
     pub fn accept(&mut self, packet: Packet)
         requires sent { HasRoom 1 self.old.sent }
@@ -63,7 +63,7 @@ impl Counts {
         self.accepted.add(packet);
     }
 
-    /// Counts a packet that its queue was too full to take.
+    /// Counts a packet that its queue refused.
     #[inline(always)]
     pub fn refuse(&mut self, packet: Packet)
         requires sent { HasRoom 1 self.old.sent }
@@ -75,7 +75,7 @@ impl Counts {
         self.refused.add(packet);
     }
 
-    /// Counts an accepted packet that its queue put out for a later one.
+    /// Counts an accepted packet that its queue evicted for a later one.
     #[inline(always)]
     pub fn evict(&mut self, packet: Packet)
         requires { HasRoom 1 self.old.evicted }
@@ -86,19 +86,19 @@ impl Counts {
     }
 }
 
-/// What a report can tell of a sender: lists of its packets, or what was counted of them.
+/// What a report can be written of: lists of a sender's packets, or their counts.
 pub trait Counted {
     ghost use Rattle.std.specs.Prelude.{◌≡◌};
     ghost use Rattle.clk_report.specs.declared.counts.Counts.{Counts};
 
-    // What is counted of it.
+    // The counts.
     ghost counted: { Self → Counts };
 
-    /// What is counted of it. Takes time in proportion to what it lists.
+    /// The counts. Takes time in proportion to the packets that are listed.
     fn counts(&self) -> Counts
         ensures { result ≡ counted self.now };
 
-    /// The sender's number, for which nothing is counted.
+    /// The sender's number. Counts nothing.
     fn number(&self) -> u16
         ensures { result ≡ (counted self.now).sender };
 }

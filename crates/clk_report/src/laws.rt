@@ -1,4 +1,4 @@
-//! What the definitions of the texts say: a law is a function that does nothing and whose contract is the law.
+//! What the definitions of the texts say. A law is a function that does nothing and whose contract is the law.
 
 ghost use Rattle.std.specs.Prelude.{◌≡◌, ℕ, ◌++◌, ◌∷◌, [], List, map, Option, None, true, false};
 ghost use Rattle.std.specs.List.{flat_map};
@@ -10,18 +10,18 @@ ghost use Rattle.clk_report.specs.Counts.{counts_of, counts_text};
 ghost use Rattle.clk_report.specs.Report.{report_text};
 ghost use Rattle.clk_report.specs.VisitCsv.{columns, devices_text, header_of, header_text, rows_text, visits_text};
 
-/// What was counted of tallies tells their report.
+/// The report by the counts of tallies is the report of the tallies.
 pub fn counts_tell_tallies()
     ensures { (emitted : List Packet) (tallies : List Tally) → counts_text emitted (map counts_of tallies) ≡ report_text emitted tallies }
 {}
 
-/// The visit CSV of one log has a row of the visit's columns alone for each visit, and no word of a device.
+/// The visit CSV of one log has a row for each visit, with only the visit's columns and no device.
 pub fn one_device_is_not_told()
     ensures { (log : List Visit) → visits_text (log ∷ []) ≡ header_text ++ flat_map (λ v. row_text default_writer (columns v)) log }
 {}
 
-/// The rows of a log are those of its parts, one after the other, and the visit CSV of logs is its header line and their rows: so it may be
-/// written as a log grows.
+/// The rows of a log are those of its parts, one after the other, and the visit CSV of logs is its header line and their rows. So it may be
+/// written while a log grows.
 pub fn visits_come_in_pieces()
     ensures parts { (device : Option ℕ) (before after : List Visit) → rows_text device (before ++ after) ≡ rows_text device before ++ rows_text device after }
     ensures one { (log : List Visit) → visits_text (log ∷ []) ≡ header_of false ++ rows_text None log }

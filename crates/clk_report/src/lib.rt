@@ -1,4 +1,4 @@
-//! What a run came to, as texts: a line for each sender, and a row for each visit of the logs.
+//! What a run returned, as texts: a line for each sender, and a row for each visit of the logs.
 #![tactic(auto)]
 
 mod counts;

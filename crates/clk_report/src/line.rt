@@ -11,7 +11,8 @@ use itoa::Buffer;
 /// How many bytes a line has at most.
 pub const LINE: usize = 512;
 
-/// Puts the line of a sender, of whose packets so many came out at all devices, before this place of some lines, and gives where it starts.
+/// Puts the line of a sender before the place `end`. `emitted` is the total of its packets that all devices emitted. Returns where the line
+/// starts.
 pub fn put_line(lines: &mut [u8], counts: &Counts, emitted: Total, end: usize) -> usize
     requires room { 512 ≤ end }
     requires within { end ≤ length lines.old }
@@ -29,7 +30,7 @@ pub fn put_line(lines: &mut [u8], counts: &Counts, emitted: Total, end: usize) -
     put(lines, b"sender ", end)
 }
 
-/// Puts some words and ` N B`.
+/// Puts some words and ` N B` before the place `end`. Returns where they start.
 fn put_total(lines: &mut [u8], words: &[u8], total: Total, end: usize) -> usize
     requires room { length words.now + 82 ≤ end }
     requires within { end ≤ length lines.old }
@@ -44,7 +45,7 @@ fn put_total(lines: &mut [u8], words: &[u8], total: Total, end: usize) -> usize
     put(lines, words, end)
 }
 
-/// Puts how many there are.
+/// Puts a count before the place `end`. Returns where it starts.
 fn put_count(lines: &mut [u8], count: u128, end: usize) -> usize
     requires room { 40 ≤ end }
     requires within { end ≤ length lines.old }

@@ -1,8 +1,8 @@
-//! The pieces of a line that is put together from its end to its front.
+//! The pieces of a line that is written from its end to its front.
 
 ghost use Rattle.std.specs.Prelude.{◌≡◌, ◌+◌, ◌≤◌, ◌++◌, decimal, drop, length};
 
-/// Puts a number before this place, at most 20 digits, and gives where it starts.
+/// Puts a number, of at most 20 digits, before the place `end`. Returns where it starts.
 #[inline]
 pub fn put_number(line: &mut [u8], number: u64, end: usize) -> usize
     requires room { 20 ≤ end }
@@ -14,7 +14,7 @@ pub fn put_number(line: &mut [u8], number: u64, end: usize) -> usize
     itoa::write_digits(number, line, end)
 }
 
-/// Puts some bytes before this place, and gives where they start.
+/// Puts some bytes before the place `end`. Returns where they start.
 #[inline(always)]
 pub fn put(line: &mut [u8], piece: &[u8], end: usize) -> usize
     requires room { length piece.now ≤ end }

@@ -1,5 +1,5 @@
-//! The row of a visit in a visit CSV, put together from its end to its front as the line of a report is. It is what the crate csv writes of
-//! the same columns (`row_text`). csv isn't called: no field calls for quotes, so that a number or a flag stands for itself.
+//! The row of a visit in a visit CSV, written from its end to its front as the line of a report is. It is what the crate csv writes of
+//! these columns (`row_text`). csv isn't called: no field needs quotes, so a number or a flag stands for itself.
 
 ghost use Rattle.std.specs.Prelude.{◌≡◌, ◌+◌, ◌≤◌, ◌++◌, codes, decimal, drop, length};
 ghost use Rattle.std.specs.List.{flat_map};
@@ -13,8 +13,7 @@ use clk_sched::Visit;
 /// How many bytes a row has at most.
 pub const ROW: usize = 128;
 
-/// Puts the row of a visit, with the number of its device where there are several, before this place of some rows, and gives where it
-/// starts.
+/// Puts the row of a visit before the place `end`, with the number of its device if one is given. Returns where the row starts.
 pub fn put_row(rows: &mut [u8], device: Option<u64>, visit: &Visit, end: usize) -> usize
     requires room { ROW ≤ end }
     requires within { end ≤ length rows.old }
@@ -35,7 +34,7 @@ pub fn put_row(rows: &mut [u8], device: Option<u64>, visit: &Visit, end: usize) 
     put_device(rows, device, end)
 }
 
-/// Puts the field of a device and a comma, where rows tell it.
+/// Puts the field of a device and a comma before the place `end`, if a device is given. Returns where they start.
 fn put_device(rows: &mut [u8], device: Option<u64>, end: usize) -> usize
     requires room { 21 ≤ end }
     requires within { end ≤ length rows.old }
@@ -50,7 +49,8 @@ fn put_device(rows: &mut [u8], device: Option<u64>, end: usize) -> usize
     put_field(rows, device, end)
 }
 
-/// Puts the fields of what was got: its sender, its number and its length, or nothing in each.
+/// Puts the fields of the packet that a visit got, before the place `end`: its sender, its number and its length, or three empty fields.
+/// Returns where they start.
 fn put_got(rows: &mut [u8], got: Option<Packet>, end: usize) -> usize
     requires room { 32 ≤ end }
     requires within { end ≤ length rows.old }
@@ -69,7 +69,7 @@ fn put_got(rows: &mut [u8], got: Option<Packet>, end: usize) -> usize
     put_short_field(rows, packet.sender, end)
 }
 
-/// Puts the field of a flag, with the commas around it.
+/// Puts the field of a flag, with the commas around it, before the place `end`. Returns where they start.
 #[inline]
 fn put_flag(rows: &mut [u8], flag: bool, end: usize) -> usize
     requires room { 3 ≤ end }
@@ -80,7 +80,7 @@ fn put_flag(rows: &mut [u8], flag: bool, end: usize) -> usize
     put(rows, if flag { b",1," } else { b",0," }, end)
 }
 
-/// Puts a number as a field.
+/// Puts a number as a field before the place `end`. Returns where it starts.
 #[inline]
 fn put_field(rows: &mut [u8], number: u64, end: usize) -> usize
     requires room { 20 ≤ end }
@@ -92,7 +92,7 @@ fn put_field(rows: &mut [u8], number: u64, end: usize) -> usize
     put_number(rows, number, end)
 }
 
-/// Puts a number that has 5 digits at most as a field.
+/// Puts a number of at most 5 digits as a field before the place `end`. Returns where it starts.
 #[inline]
 fn put_short_field(rows: &mut [u8], number: u16, end: usize) -> usize
     requires room { 5 ≤ end }

@@ -1,4 +1,4 @@
-//! The report: what became of each sender's packets.
+//! The report: how many packets of each sender were sent, accepted, refused, evicted and emitted.
 
 ghost use Rattle.std.specs.Prelude.{◌≡◌, ◌+◌, ◌*◌, ◌<◌, ◌≤◌, ◌++◌, List, All, drop, length};
 ghost use Rattle.std.specs.List.{flat_map};
@@ -14,26 +14,26 @@ use crate::line::{LINE, put_line};
 use crate::total::{FEW, SENDERS, Total, count_by_sender};
 use clk_packet::{Fault, Packet, Sink, Tally, write_all};
 
-/// How many devices there may be.
+/// How many devices there may be at most.
 pub const MAX_DEVICES: usize = 65_535;
 
 /// How many lines are written at a time.
 const LINES: usize = 64;
 
-/// How many bytes they have at most.
+/// How many bytes these lines have at most.
 const ROOM: usize = LINES * LINE;
 
-/// Writes the report: a line for each tally, in order, where these packets came out at each device, of which there are 65,535 at most.
-/// `N B` stands for N packets whose lengths sum to B bytes, sent is accepted and refused together, and emitted counts what came out at
-/// any device:
+/// Writes the report: a line for each tally, in order. `emitted` has the packets that each device emitted; there are at most 65,535
+/// devices. `N B` stands for N packets whose lengths sum to B bytes. Sent is accepted and refused together, and emitted counts the packets
+/// that any device emitted:
 ///
 /// `sender S: sent N B, accepted N B, refused N B, evicted N B, emitted N B`
 ///
-/// Takes no memory, and time in proportion to the packets and the tallies.
+/// Doesn't allocate. Takes time in proportion to the packets and the tallies.
 ///
 /// # Errors
 ///
-/// Fault 20 where the sink fails. It has taken a front of the report then.
+/// Fault 20 if the sink fails. It has then taken a front of the report.
 pub fn report<W: Sink>(
     tallies: &[Tally],
     emitted: &[Vec<Packet>],
@@ -46,12 +46,12 @@ pub fn report<W: Sink>(
     write_report(tallies, emitted, writer)
 }
 
-/// Writes the report as `report` does, by what was counted of each sender: that of the tallies whose counts these are
-/// (`counts_tell_tallies`). Takes no memory, and time in proportion to the packets that came out and the senders.
+/// Writes the report as `report` does, by the counts of each sender. It is the report of the tallies with these counts
+/// (`counts_tell_tallies`). Doesn't allocate. Takes time in proportion to the emitted packets and the senders.
 ///
 /// # Errors
 ///
-/// Fault 20 where the sink fails. It has taken a front of the report then.
+/// Fault 20 if the sink fails. It has then taken a front of the report.
 pub fn report_counts<W: Sink>(
     counts: &[Counts],
     emitted: &[Vec<Packet>],
@@ -64,8 +64,8 @@ pub fn report_counts<W: Sink>(
     write_report(counts, emitted, writer)
 }
 
-/// Writes the line of a report that tells of one sender, of whose packets so many were emitted at all devices. It is for a caller that has
-/// counted all packets: the lines of its senders, in order, are the report. It doesn't allocate.
+/// Writes the line of one sender. `emitted` is the total of its packets that all devices emitted. It is for a caller that has counted all
+/// packets: the lines of its senders, in order, are the report. Doesn't allocate.
 ///
 /// # Errors
 ///
@@ -80,7 +80,7 @@ pub fn report_line<W: Sink>(counts: &Counts, emitted: Total, writer: &mut W) -> 
     write_all(writer, text)
 }
 
-/// Writes the report of what is counted of some senders.
+/// Writes the report of some senders by their counts.
 fn write_report<T: Counted, W: Sink>(
     senders: &[T],
     emitted: &[Vec<Packet>],
@@ -98,7 +98,7 @@ fn write_report<T: Counted, W: Sink>(
     }
 }
 
-/// How many totals a table has at least in which these senders stand: one more than the greatest of their numbers.
+/// How many totals a table needs to have one for each of these senders: one more than the greatest of their numbers.
 fn table_len<T: Counted>(senders: &[T]) -> usize
     ensures within { All (λ t. (T.Counted.counted t).sender < result) senders.now }
     ensures limit { result ≤ SENDERS }
@@ -110,7 +110,8 @@ fn table_len<T: Counted>(senders: &[T]) -> usize
     len
 }
 
-/// Writes the report by a table of N totals. It isn't inlined: the larger table shall not stand in the frame of a report of few senders.
+/// Writes the report by a table of N totals. It isn't inlined, so that the larger table doesn't stand in the frame of a report of few
+/// senders.
 #[inline(never)]
 fn write_lines<const N: usize, T: Counted, W: Sink>(
     senders: &[T],
@@ -138,7 +139,8 @@ fn write_lines<const N: usize, T: Counted, W: Sink>(
     Ok(())
 }
 
-/// Puts the lines of some senders, where these are the totals of what came out by sender, before this place, and gives where they start.
+/// Puts the lines of some senders before the place `end`. `totals` has the total of each sender's emitted packets, by its number. Returns
+/// where the lines start.
 fn put_lines<T: Counted>(lines: &mut [u8], senders: &[T], totals: &[Total], end: usize) -> usize
     requires reached { All (λ t. (T.Counted.counted t).sender < length totals.now) senders.now }
     requires room { 512 * length senders.now ≤ end }

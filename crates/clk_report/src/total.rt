@@ -9,13 +9,13 @@ ghost use Rattle.clk_report.specs.inside.Totals.{AreTotals};
 use crate::senders::MAX_DEVICES;
 use clk_packet::{MAX_SENDER, Packet};
 
-/// How many senders there may be.
+/// How many senders there may be at most.
 pub const SENDERS: usize = MAX_SENDER as usize + 1;
 
-/// How many totals a small table has, for a report whose senders' numbers are below it.
+/// How many totals a small table has. It is for a report whose senders' numbers are all below this.
 pub const FEW: usize = 256;
 
-/// So many packets, and the sum of their lengths in bytes.
+/// How many packets, and the sum of their lengths in bytes.
 #[derive(Clone, Copy)]
 pub struct Total {
     pub packets: u128,
@@ -27,13 +27,13 @@ impl Total {
     ghost use Rattle.clk_report.specs.Counts.{total_of, with_packet};
     ghost use Rattle.clk_report.specs.inside.Totals.{both};
 
-    /// Of no packets.
+    /// The total of no packets.
     pub(crate) const NONE: Total = Total {
         packets: 0,
         bytes: 0,
     };
 
-    /// With one packet more.
+    /// Adds one packet.
     pub(crate) fn add(&mut self, packet: Packet)
         requires packets { self.old.packets + 1 < 2 ^ 128 }
         requires bytes { self.old.bytes + packet.length < 2 ^ 128 }
@@ -43,7 +43,7 @@ impl Total {
         self.bytes += u128::from(packet.length);
     }
 
-    /// With those of another.
+    /// The sum of this total and another.
     pub(crate) fn and(self, other: Total) -> Total
         requires packets { self.packets + other.packets < 2 ^ 128 }
         requires bytes { self.bytes + other.bytes < 2 ^ 128 }
@@ -55,7 +55,7 @@ impl Total {
         }
     }
 
-    /// Of some packets.
+    /// The total of some packets.
     pub(crate) fn of(packets: &[Packet]) -> Total
         ensures { result ≡ total_of packets.now }
     {
@@ -67,8 +67,8 @@ impl Total {
     }
 }
 
-/// Counts packets of each device by the numbers of their senders, in a table that has counted none. Those of a sender beyond the table
-/// are left out.
+/// Counts the packets that each device emitted, by the numbers of their senders, in a table that has counted none. Leaves out packets of
+/// senders beyond the table.
 pub fn count_by_sender(totals: &mut [Total], emitted: &[Vec<Packet>])
     requires none { AreTotals [] totals.old }
     requires few { length emitted.now ≤ MAX_DEVICES }
@@ -79,7 +79,7 @@ pub fn count_by_sender(totals: &mut [Total], emitted: &[Vec<Packet>])
     }
 }
 
-/// Counts more packets, after any others.
+/// Counts these packets too, by the numbers of their senders.
 fn count(totals: &mut [Total], packets: &[Packet])
     requires room { All (HasRoom (length packets.now)) totals.old }
     ensures counted { (before : List Packet) → AreTotals before totals.old → AreTotals (before ++ packets.now) totals.new }

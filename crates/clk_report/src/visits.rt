@@ -12,19 +12,19 @@ use std::alloc::Global;
 /// The names of the columns.
 const HEADER: &[u8] = b"pull,node,input,fresh,sender,number,length,passed,moment\n";
 
-/// The same, where rows tell the device.
+/// The names of the columns, with one for the device.
 const DEVICES_HEADER: &[u8] = b"device,pull,node,input,fresh,sender,number,length,passed,moment\n";
 
-/// How many rows are put together at a time.
+/// How many rows are written at a time.
 const ROWS: usize = 512;
 
-/// How many bytes they have at most.
+/// How many bytes these rows have at most.
 const ROOM: usize = ROWS * ROW;
 
-/// How many rows a log has at most for which less room is cleared.
+/// How many rows a short log has at most. Less room is cleared for it.
 const FEW: usize = 32;
 
-/// How many bytes these have at most.
+/// How many bytes the rows of a short log have at most.
 const FEW_ROOM: usize = FEW * ROW;
 
 /// A log of visits, as a list or packed.
@@ -37,11 +37,11 @@ pub trait VisitLog {
     // Its visits, in order.
     ghost visits: { Self → List Visit };
 
-    /// Writes their rows, with the number of their device where there are several. Takes no memory.
+    /// Writes the rows of its visits, each with the number of their device if one is given. Doesn't allocate.
     ///
     /// # Errors
     ///
-    /// Fault 20 where the sink fails. It has taken a front of the rows then.
+    /// Fault 20 if the sink fails. It has then taken a front of the rows.
     fn rows<W: Sink>(&self, device: Option<u64>, writer: &mut W) -> Result<(), Fault>
         ensures { Wrote (W.Sink.taken writer.old) (W.Sink.taken writer.new)
             (W.Sink.failures writer.old) (W.Sink.failures writer.new) result (rows_text device (visits self.now)) };
@@ -100,13 +100,13 @@ impl Shown for PackedVisit {
     }
 }
 
-/// Writes the log of each device as CSV: a header line, and a row for each visit, log after log. `fresh` and `passed` are 0 or 1; where
-/// nothing was got, the sender, the number and the length are empty. Of several devices each line has a first column, `device`, with the
-/// place of the log among these, from 0; of one there is no such column. Takes no memory, and time in proportion to the visits and the logs.
+/// Writes the log of each device as CSV: a header line, and a row for each visit, log after log. `fresh` and `passed` are 0 or 1. If a
+/// visit got nothing, the sender, the number and the length are empty. If there are several logs, each line has a first column, `device`,
+/// with the place of its log among these, from 0. Doesn't allocate. Takes time in proportion to the visits and the logs.
 ///
 /// # Errors
 ///
-/// Fault 20 where the sink fails. It has taken a front of the text then.
+/// Fault 20 if the sink fails. It has then taken a front of the text.
 pub fn visits_csv<L: VisitLog, W: Sink>(logs: &[L], writer: &mut W) -> Result<(), Fault>
     ensures { Wrote (W.Sink.taken writer.old) (W.Sink.taken writer.new)
         (W.Sink.failures writer.old) (W.Sink.failures writer.new) result (visits_text (map L.visits logs.now)) }
@@ -124,13 +124,13 @@ pub fn visits_csv<L: VisitLog, W: Sink>(logs: &[L], writer: &mut W) -> Result<()
     }
 }
 
-/// Writes the header line of a visit CSV, of several devices or of one. The rows that follow it may come some at a time (`visit_rows`),
-/// as a log grows: their texts together are that of the whole (`visits_come_in_pieces`). Of several devices the rows of each come after
-/// those of the one before.
+/// Writes the header line of a visit CSV, of several devices or of one. Its rows may follow in parts (`visit_rows`), while a log grows: the
+/// parts together are the whole text (`visits_come_in_pieces`). If there are several devices, the rows of each follow those of the one
+/// before.
 ///
 /// # Errors
 ///
-/// Fault 20 where the sink fails. It has taken a front of the line then.
+/// Fault 20 if the sink fails. It has then taken a front of the line.
 pub fn visits_header<W: Sink>(several: bool, writer: &mut W) -> Result<(), Fault>
     ensures { Wrote (W.Sink.taken writer.old) (W.Sink.taken writer.new)
         (W.Sink.failures writer.old) (W.Sink.failures writer.new) result (header_of several) }
@@ -138,7 +138,7 @@ pub fn visits_header<W: Sink>(several: bool, writer: &mut W) -> Result<(), Fault
     write_all(writer, if several { DEVICES_HEADER } else { HEADER })
 }
 
-/// Writes the rows of several devices, each with its device.
+/// Writes the rows of several devices, each row with its device.
 fn write_devices<L: VisitLog, W: Sink>(logs: &[L], writer: &mut W) -> Result<(), Fault>
     ensures { Wrote (W.Sink.taken writer.old) (W.Sink.taken writer.new)
         (W.Sink.failures writer.old) (W.Sink.failures writer.new) result (devices_text 0 (map L.visits logs.now)) }
@@ -149,11 +149,11 @@ fn write_devices<L: VisitLog, W: Sink>(logs: &[L], writer: &mut W) -> Result<(),
     Ok(())
 }
 
-/// Writes the rows of some visits, with the number of their device where there are several. Takes no memory.
+/// Writes the rows of some visits, each with the number of their device if one is given. Doesn't allocate.
 ///
 /// # Errors
 ///
-/// Fault 20 where the sink fails. It has taken a front of the rows then.
+/// Fault 20 if the sink fails. It has then taken a front of the rows.
 pub fn visit_rows<W: Sink>(device: Option<u64>, log: &[Visit], writer: &mut W) -> Result<(), Fault>
     ensures { Wrote (W.Sink.taken writer.old) (W.Sink.taken writer.new)
         (W.Sink.failures writer.old) (W.Sink.failures writer.new) result (rows_text device log.now) }
@@ -161,7 +161,7 @@ pub fn visit_rows<W: Sink>(device: Option<u64>, log: &[Visit], writer: &mut W) -
     rows_of(device, log, writer)
 }
 
-/// The same, of visits that may be packed.
+/// Writes the rows of some visits, which may be packed, each with the number of their device if one is given.
 fn rows_of<V: Shown, W: Sink>(device: Option<u64>, log: &[V], writer: &mut W) -> Result<(), Fault>
     ensures { Wrote (W.Sink.taken writer.old) (W.Sink.taken writer.new)
         (W.Sink.failures writer.old) (W.Sink.failures writer.new) result (rows_text device (map V.shown log.now)) }
@@ -173,8 +173,8 @@ fn rows_of<V: Shown, W: Sink>(device: Option<u64>, log: &[V], writer: &mut W) ->
     }
 }
 
-/// Writes the rows of some visits, as many at a time as N bytes surely hold. It isn't inlined: the larger room shall not stand in the
-/// frame of a call for a short log.
+/// Writes the rows of some visits, as many at a time as N bytes are sure to hold. It isn't inlined, so that the larger buffer doesn't stand
+/// in the frame of a call for a short log.
 #[inline(never)]
 fn write_rows<const N: usize, V: Shown, W: Sink>(
     device: Option<u64>,
@@ -198,7 +198,7 @@ fn write_rows<const N: usize, V: Shown, W: Sink>(
     Ok(())
 }
 
-/// Puts the rows of some visits before this place, the last of them first, and gives where they start.
+/// Puts the rows of some visits before the place `end`, the last row first. Returns where they start.
 fn put_rows<V: Shown>(rows: &mut [u8], device: Option<u64>, log: &[V], end: usize) -> usize
     requires room { ROW * length log.now ≤ end }
     requires within { end ≤ length rows.old }

@@ -14,8 +14,8 @@ use std::alloc::Global;
 use std::sync::Wait;
 use std::thread::Threads;
 
-/// Runs a trace over a plan, with a pull of each device in every tick, at most 1,000 pulls. Whatever the threads do, each packet of a sender
-/// that its queue accepted was evicted by the queue or emitted by its device, both in order.
+/// Runs a trace over a plan, with a pull of each device in every tick, at most 1,000 pulls. Whatever the threads do, each packet of a
+/// sender that its queue accepted was evicted by the queue or emitted by its device, both in order.
 pub fn run_each_tick<R: Threads + Wait, W: Wait + Sync>(
     rt: &R,
     alloc: Global,

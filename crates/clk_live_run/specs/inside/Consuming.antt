@@ -1,4 +1,4 @@
--- What a consumer does to a live router, step by step.
+-- What a consumer does with a live router, step by step.
 use Rattle.std.specs.Prelude.{◌≡◌, ℕ, ◌+◌, ◌*◌, ◌<◌, ◌≤◌, nat_lt, if◌then◌else◌, List, [], ◌∷◌, ◌++◌, length, map, Bool, true, false, ◌==◌, Option, Some, None}
 use Rattle.std.specs.List.{filter_map, AllByRecursion}
 use Rattle.clk_inlet.specs.declared.item.Item.{Item}
@@ -27,10 +27,11 @@ abbrev pub items_in : List (List Item) → ℕ
 items_in [] = 0
 items_in (items ∷ more) = length items + items_in more
 
+-- how many packets were taken from the inlets of a live router
 abbrev pub taken_in : LiveState → ℕ
 taken_in l = items_in (seen l).items
 
--- how many packets were offered
+-- how many packets were offered to a live router
 abbrev pub offers_in : LiveState → ℕ
 offers_in l = length (filter_map offered_in l.course.events)
 
@@ -47,11 +48,11 @@ pub record OnlyTook (old new : LiveState) : Type 0 where
   pub handed_in : filter_map moment_in new.course.events ≡ filter_map moment_in old.course.events
   pub moments : (d : ℕ) → moments_at new.course.setup new.course.events d ≡ moments_at old.course.setup old.course.events d
 
--- the moment of one pull, if a device is among the first so many
+-- the moment of one pull, if a device is among the first `count`
 abbrev pub if_first : ℕ → ℕ → ℕ → List ℕ
 if_first count moment d = if nat_lt d count then moment ∷ [] else []
 
--- The first so many devices were pulled once each, at this moment.
+-- The first `count` devices were pulled once each, at this moment.
 pub record PulledFirst (count moment : ℕ) (old new : LiveState) : Type 0 where
   pub setup : new.course.setup ≡ old.course.setup
   pub outlets : new.outlets ≡ old.outlets
@@ -60,14 +61,14 @@ pub record PulledFirst (count moment : ℕ) (old new : LiveState) : Type 0 where
   pub early : moment ≤ most_moment → AreEarly old → AreEarly new
   pub moments : (d : ℕ) → moments_at new.course.setup new.course.events d ≡ moments_at old.course.setup old.course.events d ++ if_first count moment d
 
--- Each device was pulled so often, at the moments of its pulls, and each packet that was taken is an event.
+-- Each device was pulled `pulls` times, at the moments of its pulls, and each packet that was taken is an event.
 pub record HasPaced (step pulls : ℕ) (l : LiveState) : Type 0 where
   pub many : length l.course.events ≡ taken_in l + length l.course.setup.trees * pulls
   pub offers : offers_in l ≡ taken_in l
   pub early : AreEarly l
   pub moments : (d : ℕ) → d < length l.course.setup.trees → moments_at l.course.setup l.course.events d ≡ paced step pulls
 
--- All inlets have ended, and all that was sent is taken. While senders sent, each device was pulled equally often.
+-- All inlets have ended, and all that was sent was taken. While senders sent, each device was pulled equally often.
 pub record HasConsumed (step limit : ℕ) (old new : LiveState) : Type 0 where
   pub setup : new.course.setup ≡ old.course.setup
   pub outlets : AllGoOn old.outlets new.outlets
@@ -85,7 +86,7 @@ pub record HasDrained (device : ℕ) (old new : LiveState) : Type 0 where
   pub elsewhere : (d : ℕ) → (device == d) ≡ false → events_of new.course d ≡ events_of old.course d
   pub outlets : new.outlets ≡ old.outlets
 
--- The first so many devices were drained, one after the other: no packet is left for them.
+-- The first `count` devices were drained, one after the other: no packet is left for them.
 pub record HasClosed (count : ℕ) (old new : LiveState) : Type 0 where
   pub closed : List Event
   pub goes_on : new.course ≡ after old.course closed

@@ -15,20 +15,20 @@ pub record SinkAt : Type 0 where
   pub taken : Option (List ℕ)
   pub failures : ℕ
 
--- what is seen of a recording: its sink, how far the record has come, and the writer
+-- a recording, as contracts see it: its sink, how far the record has come, and the writer
 pub record RecordAt : Type 0 where
   pub sink : SinkAt
   pub state : RecordState
   pub writer : ScriptWriter
 
--- the record of these commands, as a sink has it that stood at `start` before, by how far the record has come
+-- The sink, which stood at `start` before, has the record of these commands, as far as the record has come.
 abbrev pub StandsAs : RecordState → (recording : Bool) → (start now : SinkAt) → ScriptWriter → List Command → Type 0
 StandsAs Off recording start now writer commands = (recording ≡ false) × (now ≡ start)
 StandsAs Going recording start now writer commands = (recording ≡ true) × (now.failures ≡ start.failures) × Records start.taken now.taken commands writer
 StandsAs Failed recording start now writer commands = (recording ≡ true) × (now.failures ≡ start.failures + 1) × AppendsFront start.taken now.taken (record_text commands None)
 StandsAs Full recording start now writer commands = (recording ≡ true) × (most_lines ≤ length commands)
 
--- It is the record of these commands, begun when the sink stood at `start`, if the run is recorded.
+-- This is the record of these commands, begun when the sink stood at `start`, if the run is recorded.
 abbrev pub IsRecordOf : (recording : Bool) → (start : SinkAt) → RecordAt → List Command → Type 0
 IsRecordOf recording start r commands = StandsAs r.state recording start r.sink r.writer commands
 
