@@ -1,4 +1,4 @@
--- Events that cannot happen and closings that are none, each but for one thing.
+-- Events that cannot happen, and pulls that are no drain; each is wrong in one thing.
 use Rattle.std.specs.Prelude.{ℕ, List, [], ◌∷◌, Option, Some, None, Result, Err}
 use Rattle.std.proofs.Common.{lit≤}
 use Rattle.clk_packet.specs.declared.fault.Fault.{Fault}
@@ -11,12 +11,15 @@ use Rattle.clk_sched.specs.Tree.{queue, scheduler, prio, shaper, leaf, end}
 use Rattle.clk_sched.specs.Log.{asking}
 use Rattle.clk_router.specs.Events.{Setup, Event, offered, pulled}
 
+-- the first packet of sender 0
 abbrev pub p0_0 : Packet
 p0_0 = packet 0 0 100 (lit≤ tt) (lit≤ tt)
 
+-- the second packet of sender 0
 abbrev p0_1 : Packet
 p0_1 = packet 0 1 100 (lit≤ tt) (lit≤ tt)
 
+-- the first packet of sender 1
 abbrev pub p1_0 : Packet
 p1_0 = packet 1 0 50 (lit≤ tt) (lit≤ tt)
 
@@ -44,12 +47,12 @@ two_devices = record {
   senders = record { number = 0; queue = 0 } ∷ record { number = 1; queue = 1 } ∷ [];
 }
 
--- Over `shaped`: a pull at moment 3 after one at moment 5 is counted at 3, and not at 5.
+-- Over `shaped`: a pull at moment 3 follows one at moment 5 and is counted at 3, not at 5.
 abbrev pub moment_not_counted : List Event
 moment_not_counted =
     pulled 0 5 (asking 0 5 1 0 None ∷ asking 0 5 0 0 None ∷ []) ∷ pulled 0 3 (asking 1 3 1 0 None ∷ asking 1 3 0 0 None ∷ []) ∷ []
 
--- Over `shaped`: a pull at moment 3 is counted at 4.
+-- Over `shaped`: the first pull, at moment 3, is counted at 4.
 abbrev pub moment_ahead : List Event
 moment_ahead = pulled 0 3 (asking 0 4 1 0 None ∷ asking 0 4 0 0 None ∷ []) ∷ []
 
@@ -65,11 +68,11 @@ number_left_out = offered p0_1 Accepted ∷ []
 abbrev pub refused_early : List Event
 refused_early = offered p1_0 (Refused p1_0) ∷ []
 
--- the second queue gives a packet that it never got
+-- the second queue gives a packet that was never offered to it
 abbrev pub never_sent : List Event
 never_sent = pulled 0 0 (asking 0 0 1 0 None ∷ asking 0 0 1 1 (Some p1_0) ∷ asking 0 0 0 0 (Some p1_0) ∷ []) ∷ []
 
--- the third packet at a queue of two is refused, by the name of another
+-- the third packet at a queue of two is refused, and the refusal names another packet
 abbrev pub other_refused : List Event
 other_refused = offered p0_0 Accepted ∷ offered p0_1 Accepted ∷ offered (packet 0 2 100 (lit≤ tt) (lit≤ tt)) (Refused p0_1) ∷ []
 
@@ -78,11 +81,11 @@ abbrev pub swapped : List Event
 swapped =
     offered p0_0 Accepted ∷ offered p1_0 Accepted ∷ pulled 0 0 (asking 0 0 0 0 (Some p1_0) ∷ []) ∷ pulled 1 0 (asking 0 0 0 0 (Some p0_0) ∷ []) ∷ []
 
--- Over `two_devices`: a pull of one at moment 3 after one of the other at moment 5 is counted at 5.
+-- Over `two_devices`: a pull of one device at moment 3 follows a pull of the other at moment 5, and is counted at 5.
 abbrev pub moment_shared : List Event
 moment_shared = pulled 0 5 (asking 0 5 0 0 None ∷ []) ∷ pulled 1 3 (asking 0 5 0 0 None ∷ []) ∷ []
 
--- Over `two_devices`: a third is pulled.
+-- Over `two_devices`: a third device is pulled.
 abbrev pub no_device : List Event
 no_device = pulled 2 0 (asking 0 0 0 0 None ∷ []) ∷ []
 
@@ -90,33 +93,39 @@ no_device = pulled 2 0 (asking 0 0 0 0 None ∷ []) ∷ []
 abbrev pub one_left : List Event
 one_left = offered p1_0 Accepted ∷ []
 
--- its closing from moment 4 on, in one pull at moment 5; and what is none: no pull, a pull a tick early, and a further pull
+-- the visits of pull `k` at moment `t`, in which the second queue gives this
 abbrev finds : Option Packet → ℕ → ℕ → List Visit
 finds got k t = asking k t 1 0 None ∷ asking k t 1 1 got ∷ asking k t 0 0 got ∷ []
 
+-- a drain from moment 4 on of the one packet that is left: one pull, at moment 5
 abbrev pub closed_at_once : List Event
 closed_at_once = pulled 0 5 (finds (Some p1_0) 0 5) ∷ []
 
+-- no pull, though a packet is left
 abbrev pub closed_without_a_pull : List Event
 closed_without_a_pull = []
 
+-- a pull at moment 4, a tick early
 abbrev pub closed_a_tick_early : List Event
 closed_a_tick_early = pulled 0 4 (finds (Some p1_0) 0 4) ∷ []
 
+-- a further pull after the last packet
 abbrev pub closed_a_pull_late : List Event
 closed_a_pull_late = pulled 0 5 (finds (Some p1_0) 0 5) ∷ pulled 0 6 (finds None 1 6) ∷ []
 
--- Over `two_devices`: one packet is left at each. Their closing from moment 4 on, each in one pull at moment 5; and what is none: the last
--- device first, and the second from where the first left off.
+-- Over `two_devices`: one packet is left at each.
 abbrev pub one_at_each : List Event
 one_at_each = offered p0_0 Accepted ∷ offered p1_0 Accepted ∷ []
 
+-- a drain of both devices from moment 4 on: one pull of each, at moment 5
 abbrev pub closed_in_turn : List Event
 closed_in_turn = pulled 0 5 (asking 0 5 0 0 (Some p0_0) ∷ []) ∷ pulled 1 5 (asking 0 5 0 0 (Some p1_0) ∷ []) ∷ []
 
+-- both devices are drained, but the last one first
 abbrev pub closed_last_first : List Event
 closed_last_first = pulled 1 5 (asking 0 5 0 0 (Some p1_0) ∷ []) ∷ pulled 0 5 (asking 0 5 0 0 (Some p0_0) ∷ []) ∷ []
 
+-- both devices are drained, but the second from where the first left off
 abbrev pub closed_on : List Event
 closed_on = pulled 0 5 (asking 0 5 0 0 (Some p0_0) ∷ []) ∷ pulled 1 6 (asking 0 6 0 0 (Some p1_0) ∷ []) ∷ []
 
@@ -124,7 +133,7 @@ closed_on = pulled 0 5 (asking 0 5 0 0 (Some p0_0) ∷ []) ∷ pulled 1 6 (askin
 abbrev pub pulled_at : ℕ → List Event
 pulled_at moment = offered p1_0 Accepted ∷ pulled 0 3 (asking 0 3 0 0 None ∷ []) ∷ pulled 1 moment (asking 0 moment 0 0 (Some p1_0) ∷ []) ∷ []
 
--- a queue of two packets whose one sender has a number that no line can hold, and a packet of that sender
+-- a setup with one sender, whose number no line can hold
 abbrev pub great_sender : Setup
 great_sender = record {
   trees = queue 0 ∷ [];
@@ -132,9 +141,10 @@ great_sender = record {
   senders = record { number = 65536; queue = 0 } ∷ [];
 }
 
+-- that sender offers a packet
 abbrev pub from_great : List Event
 from_great = offered (packet 65536 0 100 (lit≤ tt) (lit≤ tt)) Accepted ∷ []
 
--- a call fails
+-- the result of a call that fails with this fault
 abbrev pub failed : Fault → Result (Unit {0}) Fault
 failed fault = Err fault

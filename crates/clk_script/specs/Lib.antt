@@ -1,4 +1,4 @@
--- What a script and its answer are.
+-- What scripts, their answers and their records are.
 pub mod Script
 pub mod Meaning
 pub mod Record

@@ -24,7 +24,7 @@ use Rattle.clk_router.specs.Events.{Setup, plan_setup, sender_numbers, Event, ev
 abbrev pub names_of : Setup → Names
 names_of setup = record { senders = sender_numbers setup; devices = length setup.trees }
 
--- the command that an event is of
+-- the command of an event
 abbrev pub command_of : Event → Command
 command_of (offered p outcome) = Send p.sender p.length
 command_of (pulled device moment visits) = Pull device moment
@@ -56,7 +56,7 @@ device_text several device = if several then codes " " ++ decimal device else []
 abbrev pub has_several : Setup → Bool
 has_several setup = nat_lt 1 (length setup.trees)
 
--- `pull M: S#n L`, or `pull M: none`; over several devices `pull M D: ..`
+-- `pull M: S#n L`, or `pull M: none`; if there are several devices `pull M D: ..`
 abbrev pub pull_text : Bool → ℕ → ℕ → Option Packet → List ℕ
 pull_text several device moment got =
     codes "pull " ++ (decimal moment ++ (device_text several device ++ (codes ": " ++ (result_text got ++ codes "\n"))))
@@ -70,39 +70,39 @@ abbrev pub event_text : Bool → Event → List ℕ
 event_text several (offered p outcome) = offer_text p outcome
 event_text several (pulled device moment visits) = pull_text several device moment (result_of (visits_of 0 visits))
 
--- the line of a closing pull with this result; none if it gave no packet
+-- the line of a pull of a drain with this result; no line if it gave no packet
 abbrev pub given_text : Bool → ℕ → ℕ → Option Packet → List ℕ
 given_text several device moment None = []
 given_text several device moment (Some p) = pull_text several device moment (Some p)
 
--- the line of a closing pull; none if it gave no packet
+-- the line of a pull of a drain; no line if it gave no packet
 abbrev pub closing_text : Bool → Event → List ℕ
 closing_text several (offered p outcome) = []
 closing_text several (pulled device moment visits) = given_text several device moment (result_of (visits_of 0 visits))
 
--- The closing of the first so many devices from a moment on, after some events: one after the other, by number.
+-- The first so many devices were drained from a moment on, after some events: one after the other, by number.
 abbrev pub CloseFirst : Setup → ℕ → ℕ → List Event → List Event → Type 0
 CloseFirst setup moment zero events closed = closed ≡ []
 CloseFirst setup moment (suc d) events closed =
     (before : List Event) × (last : List Event) × CloseFirst setup moment d events before × Closes d moment (events_at setup d (events ++ before)) last × (closed ≡ before ++ last)
 
--- A script that has no drain closes nothing, and reports nothing.
+-- All devices were drained from this moment on, one after the other; if a script has no drain, no device was.
 abbrev pub IsClosed : Setup → Option ℕ → List Event → List Event → Type 0
 IsClosed setup None events closed = closed ≡ []
 IsClosed setup (Some moment) events closed = CloseFirst setup moment (length setup.trees) events closed
 
--- the report, if a script has a drain
+-- the report, if a script has a drain; otherwise nothing
 abbrev pub ending_text : Setup → Option ℕ → List Event → List ℕ
 ending_text setup None events = []
 ending_text setup (Some moment) events = report_text (flat_map emitted (logs_of setup events)) (map (tally_after events) (sender_numbers setup))
 
--- The lines of events and of their closing pulls, in order, and then the report if there is a drain.
+-- The lines of events, in order, those of the pulls of the drain, and then the report if there is a drain.
 abbrev pub course_text : Setup → Option ℕ → List Event → List Event → List ℕ
 course_text setup drain events closed =
     flat_map (event_text (has_several setup)) events ++ (flat_map (closing_text (has_several setup)) closed ++ ending_text setup drain (events ++ closed))
 
--- The commands, and the closing drain if there is one, write the text: it is the lines of some events that are the commands', of the
--- closing pulls, and of the report. All these can happen one after another, and each device's log holds the visits of all its pulls, in order.
+-- The commands, and the drain if there is one, write this text: the lines of events with these commands, of the pulls of the drain, and of
+-- the report. All these can happen one after another. Each device's log has the visits of all its pulls, in order.
 pub record Writes (setup : Setup) (commands : List Command) (drain : Option ℕ) (text : List ℕ) (logs : List (List Visit)) : Type 0 where
   pub events : List Event
   pub theirs : map command_of events ≡ commands
@@ -112,7 +112,7 @@ pub record Writes (setup : Setup) (commands : List Command) (drain : Option ℕ)
   pub lines : text ≡ course_text setup drain events closed
   pub logged : logs ≡ logs_of setup (events ++ closed)
 
--- The text is the meaning of the script over the setup, with these logs: nothing is wrong with the script, and it writes the text.
+-- The text is the meaning of the script over the setup, with these logs: the script has no fault, and writes the text.
 pub record MeansWith (setup : Setup) (script text : List ℕ) (logs : List (List Visit)) : Type 0 where
   pub sound : script_fault (names_of setup) script ≡ None
   pub written : Writes setup (commands_of script) (closing_moment script) text logs
@@ -121,7 +121,7 @@ pub record MeansWith (setup : Setup) (script text : List ℕ) (logs : List (List
 abbrev pub IsMeaning : Setup → List ℕ → List ℕ → Type 0
 IsMeaning setup script text = (logs : List (List Visit)) × MeansWith setup script text logs
 
--- Why running a script fails: memory ran out, the reader or the writer failed, or the script has the fault, if its bytes are known. A drain
+-- Why running a script fails: an allocation, the reader or the writer failed, or the script has this fault, if its bytes are known. A drain
 -- never stops short.
 abbrev pub Explains : Names → Option (List ℕ) → Fault → Type 0
 Explains names script Memory = ⊤
@@ -132,7 +132,7 @@ Explains names script (BadScript line) = IfSome script (λ bytes. script_fault n
 Explains names script (UnknownSender sender) = IfSome script (λ bytes. script_fault names bytes ≡ Some (UnknownSender sender))
 Explains names script fault = ⊥
 
--- The text is the meaning of the script over a plan, with these logs: it is its meaning over the setup that the plan is, with its trees.
+-- The text is the meaning of the script over a plan, with these logs: it is its meaning over the plan's setup.
 pub record MeansOverWith (plan : List Planned) (script text : List ℕ) (logs : List (List Visit)) : Type 0 where
   pub trees : List Tree
   pub are : AreTreesOf plan trees
@@ -146,6 +146,6 @@ MeansOver plan script text = (logs : List (List Visit)) × MeansOverWith plan sc
 abbrev pub names_over : List Planned → Names
 names_over plan = record { senders = map number_of (senders_of plan); devices = device_count plan }
 
--- Why running a script over a plan is refused with a fault.
+-- Why running a script over a plan fails with a fault.
 abbrev pub ExplainsPlan : List Planned → Option (List ℕ) → Fault → Type 0
 ExplainsPlan plan script fault = Explains (names_over plan) script fault

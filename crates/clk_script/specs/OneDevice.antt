@@ -1,4 +1,4 @@
--- What a script over one device means, said without numbers of devices: all pulls are a run of its tree.
+-- What a script over one device means, without numbers of devices: all pulls are a run of its tree.
 use Rattle.std.specs.Prelude.{◌≡◌, ℕ, List, [], ◌∷◌, ◌++◌, length, map, true, if◌then◌else◌, Option, None, Some, MatchOption, ⊤, codes, decimal, slice_get}
 use Rattle.std.specs.List.{flat_map, range_with_len, AllByRecursion}
 use Rattle.clk_packet.specs.declared.packet.Packet.{Packet}
@@ -19,49 +19,54 @@ pub record HasOneDevice (setup : Setup) (tree : Tree) : Type 0 where
   pub trees : setup.trees ≡ tree ∷ []
   pub senders : AllByRecursion (λ (s : SenderSpec). is_of_device setup.queues 0 s ≡ true) setup.senders
 
--- what an event is to a queue of the tree, and what happened to it
+-- an event as events of a queue of the tree
 abbrev pub at_its_queue : Setup → Tree → ℕ → Event → List QueueEvent
 at_its_queue setup tree q (offered p outcome) = if sends_to setup.senders p.sender q then offer_events p outcome else []
 at_its_queue setup tree q (pulled device moment visits) = flat_map (λ (v : Visit). if asks_queue tree q v then pull_event v.got ∷ [] else []) visits
 
+-- the history of a queue of the tree in these events
 abbrev pub its_history : Setup → Tree → ℕ → List Event → List QueueEvent
 its_history setup tree q events = flat_map (at_its_queue setup tree q) events
 
--- These events can happen one after another: each sender numbers its packets from 0 on, the pulls are a run of the tree at the counted
--- moments, refusals name the packets that were offered, and what happened to each queue is a history of it.
+-- These events can happen one after another: each sender numbers its packets from 0 on, the pulls are a run of the tree, each at the latest
+-- moment so far, refusals name the packets that were offered, and what happened to each queue is a history of it.
 pub record CanHappenAlone (setup : Setup) (tree : Tree) (events : List Event) : Type 0 where
   pub numbered : (s : ℕ) → numbers_of s events ≡ range_with_len 0 (length (numbers_of s events))
   pub runs : RunsTree tree events
   pub refusals : AllByRecursion NamesItsOffer events
   pub histories : (q : ℕ) → MatchOption (slice_get setup.queues q) ⊤ (λ room. IsQueueHistory room.kind room.capacity (its_history setup tree q events))
 
--- `pull M: S#n L`, or `pull M: none`, and the lines of an event and of a closing pull
+-- the line of a pull: `pull M: S#n L`, or `pull M: none`
 abbrev pub pull_line : ℕ → Option Packet → List ℕ
 pull_line moment got = codes "pull " ++ (decimal moment ++ (codes ": " ++ (result_text got ++ codes "\n")))
 
+-- the line of an event
 abbrev pub event_line : Event → List ℕ
 event_line (offered p outcome) = offer_text p outcome
 event_line (pulled device moment visits) = pull_line moment (result_of (visits_of 0 visits))
 
+-- the line of a pull of the drain with this result; no line if it gave no packet
 abbrev pub given_line : ℕ → Option Packet → List ℕ
 given_line moment None = []
 given_line moment (Some p) = pull_line moment (Some p)
 
+-- the line of a pull of the drain; no line if it gave no packet
 abbrev pub closing_line : Event → List ℕ
 closing_line (offered p outcome) = []
 closing_line (pulled device moment visits) = given_line moment (result_of (visits_of 0 visits))
 
--- A script that has no drain closes nothing, and reports nothing.
+-- The device was drained from this moment on; if a script has no drain, it was not.
 abbrev pub IsClosedAlone : Option ℕ → List Event → List Event → Type 0
 IsClosedAlone None events closed = closed ≡ []
 IsClosedAlone (Some moment) events closed = Closes 0 moment events closed
 
+-- the report, if a script has a drain; otherwise nothing
 abbrev pub ending_alone : Setup → Option ℕ → List Event → List ℕ
 ending_alone setup None events = []
 ending_alone setup (Some moment) events = report_text (emitted (log_of events)) (map (tally_after events) (sender_numbers setup))
 
--- The commands, and the closing drain if there is one, write the text: it is the lines of some events that are the commands', of the
--- closing pulls, and of the report. All these can happen one after another.
+-- The commands, and the drain if there is one, write this text: the lines of events with these commands, of the pulls of the drain, and of
+-- the report. All these can happen one after another.
 pub record WritesAlone (setup : Setup) (tree : Tree) (commands : List Command) (drain : Option ℕ) (text : List ℕ) : Type 0 where
   pub events : List Event
   pub theirs : map command_of events ≡ commands
@@ -70,7 +75,7 @@ pub record WritesAlone (setup : Setup) (tree : Tree) (commands : List Command) (
   pub can_happen : CanHappenAlone setup tree (events ++ closed)
   pub lines : text ≡ flat_map event_line events ++ (flat_map closing_line closed ++ ending_alone setup drain (events ++ closed))
 
--- The text is the meaning of the script over the device: nothing is wrong with the script, and it writes the text.
+-- The text is the meaning of the script over the device: the script has no fault, and writes the text.
 pub record IsMeaningAlone (setup : Setup) (tree : Tree) (script text : List ℕ) : Type 0 where
   pub sound : script_fault (names_of setup) script ≡ None
   pub written : WritesAlone setup tree (commands_of script) (closing_moment script) text

@@ -1,4 +1,4 @@
--- That a script has at most one meaning, and that devices stand apart.
+-- That a script has at most one meaning, and that devices are apart.
 use Rattle.std.specs.Prelude.{◌≡◌, ℕ, List, map}
 use Rattle.clk_sched.specs.declared.visit.Visit.{Visit}
 use Rattle.clk_router.specs.Events.{Setup, Event, events_at, CanHappen}
@@ -12,7 +12,7 @@ HasAtMostOneMeaning setup = (script one other : List ℕ) → IsMeaning setup sc
 abbrev pub HasAtMostOneLog : Setup → Type 0
 HasAtMostOneLog setup = (script one other : List ℕ) (logs others : List (List Visit)) → MeansWith setup script one logs → MeansWith setup script other others → logs ≡ others
 
--- What happens at a device follows from the commands of its own, whatever is sent to the others and pulled at them.
+-- What happens at a device follows from its own commands, whatever is sent to the other devices and pulled from them.
 abbrev pub DevicesAreApart : Setup → Type 0
 DevicesAreApart setup =
     (d : ℕ) (one other : List Event) → CanHappen setup one → CanHappen setup other → map command_of (events_at setup d one) ≡ map command_of (events_at setup d other)

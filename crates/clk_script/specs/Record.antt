@@ -1,4 +1,4 @@
--- The script that records what happened, and the law that it means just that (this project's own).
+-- The script that records what happened, and the law that it means exactly that (this project's own).
 use Rattle.std.specs.Prelude.{ℕ, zero, suc, ◌+◌, ◌≤◌, ◌<◌, ◌^◌, List, [], ◌++◌, length, map, Option, Some, None, IfSome, codes, decimal}
 use Rattle.std.specs.List.{flat_map, filter_map, AllByRecursion}
 use Rattle.clk_packet.specs.Limits.{most_sender}
@@ -39,19 +39,20 @@ abbrev pub handed_in : Command → Option ℕ
 handed_in (Send sender size) = None
 handed_in (Pull device moment) = Some moment
 
--- A record of so many lines may go on with a line of this moment.
+-- A record that has `lines` lines may go on with a line of this moment.
 pub record HasRoom (lines : ℕ) (moment : Option ℕ) : Type 0 where
   pub few : lines < most_lines
   pub early : IfSome moment (λ m. m ≤ most_moment)
 
--- Moments handed in and that of the drain are in range, and there are no more lines than a script may have. The bytes of a record need no
--- limit of their own, since a line has at most 25.
+-- The moments that were handed in and that of the drain are in range, and there are at most as many lines as a script may have. The bytes
+-- of a record need no limit of their own, since a line has at most 25.
 pub record FitsLimits (events : List Event) (drain : Option ℕ) : Type 0 where
   pub moments : AllByRecursion (λ moment. moment ≤ most_moment) (filter_map moment_in events)
   pub last : IfSome drain (λ moment. moment ≤ most_moment)
   pub few : length events + drain_count drain ≤ most_lines
 
--- A line can name the sender of an offer, one of the setup with a number in range, or the device of a pull, by a number in range.
+-- A line can name the sender of an offer, which is one of the setup with a number in range, or the device of a pull, which has a number in
+-- range.
 abbrev pub FitsNames : Setup → Event → Type 0
 FitsNames setup (offered p outcome) = IsOfSender setup (offered p outcome) × (p.sender ≤ most_sender)
 FitsNames setup (pulled device moment visits) = device ≤ most_device
@@ -61,14 +62,15 @@ pub record FitsScript (setup : Setup) (events : List Event) (drain : Option ℕ)
   pub names : AllByRecursion (FitsNames setup) events
   pub limits : FitsLimits events drain
 
--- The record of events that can happen with their closing, and that fit, means exactly the lines of these events, of the closing and of
--- the report, with exactly their logs.
+-- If events and a drain can happen and fit, their record means exactly their lines, those of the drain and the report, with exactly their
+-- logs.
 abbrev pub RecordsMeanTheirCourse : Setup → Type 0
 RecordsMeanTheirCourse setup =
     (events closed : List Event) (drain : Option ℕ) → CanHappen setup (events ++ closed) → IsClosed setup drain events closed → FitsScript setup events drain
     → MeansWith setup (record_text (map command_of events) drain) (course_text setup drain events closed) (logs_of setup (events ++ closed))
 
--- Over a plan with its trees the events need only be within the limits of a script: it can name all senders and devices of a plan.
+-- Over a plan with its trees the events need only be within the limits of a script, since a script can name all senders and devices of a
+-- plan.
 abbrev pub PlanRecordsMeanTheirCourse : List Planned → List Tree → Type 0
 PlanRecordsMeanTheirCourse plan trees =
     (events closed : List Event) (drain : Option ℕ) → CanHappen (plan_setup trees plan) (events ++ closed) → IsClosed (plan_setup trees plan) drain events closed → FitsLimits events drain
@@ -79,7 +81,7 @@ abbrev pub IsSmall : Command → Type 0
 IsSmall (Send sender size) = (sender < 2 ^ 64) × (size < 2 ^ 64)
 IsSmall (Pull device moment) = (device < 2 ^ 64) × (moment < 2 ^ 64)
 
--- Only events that fit have a record that means anything, as far as their numbers have at most 64 bits.
+-- Only events that fit have a record that means anything, if their numbers have at most 64 bits.
 abbrev pub OnlyFittingRecordsMean : Setup → Type 0
 OnlyFittingRecordsMean setup =
     (events : List Event) (drain : Option ℕ) (text : List ℕ) → AllByRecursion IsSmall (map command_of events) → IfSome drain (λ moment. moment < 2 ^ 64)

@@ -1,4 +1,4 @@
--- The lines of a script, and what is wrong with it (this project's own format).
+-- The lines of a script, and which fault it has (this project's own format).
 use Rattle.std.specs.Prelude.{ℕ, ◌+◌, List, [], ◌∷◌, length, map, filter, Bool, true, false, ◌==◌, ◌||◌, nat_lt, if◌then◌else◌, Option, Some, None, codes, slice_get}
 use Rattle.std.specs.Option.{option_or}
 use Rattle.std.specs.List.{slice_split, filter_map, list_any}
@@ -14,11 +14,11 @@ use Rattle.clk_script.specs.declared.script.Command.TheVariants.{Send, Pull}
 use Rattle.clk_script.specs.declared.script.Line.{Line}
 use Rattle.clk_script.specs.declared.script.Line.TheVariants as line
 
--- how many bytes a script may have
+-- how many bytes a script may have at most
 abbrev pub most_script_bytes : ℕ
 most_script_bytes = MAX_SCRIPT_BYTES
 
--- how many lines a script may have
+-- how many lines a script may have at most
 abbrev pub most_lines : ℕ
 most_lines = MAX_LINES
 
@@ -30,7 +30,7 @@ most_moment = MAX_MOMENT
 abbrev pub most_device : ℕ
 most_device = MAX_DEVICE
 
--- a space or a tab
+-- whether a byte is a space or a tab
 abbrev pub is_blank : ℕ → Bool
 is_blank byte = (byte == 32) || (byte == 9)
 
@@ -55,23 +55,23 @@ abbrev pub drain_of : Option ℕ → Line
 drain_of None = line.Malformed
 drain_of (Some moment) = line.Drain moment
 
--- what follows the word `send`: a sender and a length
+-- the line of the word `send` and these fields: a sender and a length
 abbrev pub sender_and_length : List (List ℕ) → Line
 sender_and_length (sender ∷ length ∷ []) = send_of (number_in 0 most_sender sender) (number_in 1 most_length length)
 sender_and_length arguments = line.Malformed
 
--- what follows the word `pull`: a moment, and a device, which is device 0 if none is named
+-- the line of the word `pull` and these fields: a moment, and a device, which is device 0 if none is named
 abbrev pub moment_and_device : List (List ℕ) → Line
 moment_and_device (moment ∷ []) = pull_of (number_in 0 most_moment moment) (Some 0)
 moment_and_device (moment ∷ device ∷ []) = pull_of (number_in 0 most_moment moment) (number_in 0 most_device device)
 moment_and_device arguments = line.Malformed
 
--- what follows the word `drain`: a moment
+-- the moment of the word `drain` and these fields, if they are one moment
 abbrev pub only_moment : List (List ℕ) → Option ℕ
 only_moment (moment ∷ []) = number_in 0 most_moment moment
 only_moment arguments = None
 
--- What the fields of a line say: `send S L`, `pull M`, `pull M D` or `drain M`.
+-- The line of these fields: `send S L`, `pull M`, `pull M D`, `drain M`, a blank line, or none of these.
 abbrev pub line_of_fields : List (List ℕ) → Line
 line_of_fields [] = line.Blank
 line_of_fields (word ∷ arguments) =
@@ -80,28 +80,28 @@ line_of_fields (word ∷ arguments) =
     else if bytes_eq word (codes "drain") then drain_of (only_moment arguments)
     else line.Malformed
 
--- what a line says
+-- the line of a text
 abbrev pub line_of : List ℕ → Line
 line_of text = line_of_fields (fields text)
 
--- what the commands of a script may name: these senders, and so many devices
+-- what the commands of a script may name: these senders, and the first `devices` devices
 pub record Names : Type 0 where
   pub senders : List ℕ
   pub devices : ℕ
 
--- what is wrong with the command in the line of a number
+-- the fault of the command in the line with this number, if it has one
 abbrev pub command_fault : Names → ℕ → Command → Option Fault
 command_fault names number (Send sender length) = if list_any (λ s. s == sender) names.senders then None else Some (UnknownSender sender)
 command_fault names number (Pull device moment) = if nat_lt device names.devices then None else Some (BadScript number)
 
--- what is wrong with the line of a number: after a drain only lines without fields may follow
+-- the fault of the line with this number, if it has one: after a drain only blank lines may follow
 abbrev pub line_fault : Names → Bool → ℕ → Line → Option Fault
 line_fault names drained number line.Blank = None
 line_fault names drained number line.Malformed = Some (BadScript number)
 line_fault names drained number (line.Command command) = if drained then Some (BadScript number) else command_fault names number command
 line_fault names drained number (line.Drain moment) = if drained then Some (BadScript number) else None
 
--- What is wrong with the line of this number: it is one line too many, whatever it says, or it is wrong by itself.
+-- The fault of the line with this number, if it has one: it is one line too many, whatever it says, or has a fault of its own.
 abbrev pub fault_at : Names → Bool → ℕ → Line → Option Fault
 fault_at names drained number l = if nat_lt most_lines number then Some TooLarge else line_fault names drained number l
 
@@ -110,18 +110,18 @@ abbrev pub is_drain : Line → Bool
 is_drain (line.Drain moment) = true
 is_drain l = false
 
--- The fault of the first of some lines that has one. The lines are counted from `number` on, and `drained` says whether a drain came before
--- them.
+-- The fault of the first of these lines that has one. The lines are counted from `number` on, and `drained` says whether a drain came
+-- before them.
 abbrev pub first_fault : Names → Bool → ℕ → List Line → Option Fault
 first_fault names drained number [] = None
 first_fault names drained number (l ∷ more) =
     option_or (fault_at names drained number l) (first_fault names (drained || is_drain l) (number + 1) more)
 
--- what each line of a script says: a line ends with a line feed, which the last may lack, and loses one carriage return right before it
+-- the lines of a script: a line ends with a line feed, which the last may lack, and loses one carriage return right before it
 abbrev pub lines_of : List ℕ → List Line
 lines_of script = map line_of (lines script)
 
--- What is wrong with a script: it has too many bytes, or else what is wrong with the first line that has something wrong.
+-- The fault of a script, if it has one: it has too many bytes, or else the fault of the first line that has one.
 abbrev pub script_fault : Names → List ℕ → Option Fault
 script_fault names script = if nat_lt most_script_bytes (length script) then Some TooLarge else first_fault names false 1 (lines_of script)
 
@@ -139,6 +139,6 @@ abbrev pub drain_in : Line → Option ℕ
 drain_in (line.Drain moment) = Some moment
 drain_in l = None
 
--- the moment from which a script closes, where it has a drain
+-- the moment from which a script drains the devices, if it has a drain
 abbrev pub closing_moment : List ℕ → Option ℕ
 closing_moment script = slice_get (filter_map drain_in (lines_of script)) 0

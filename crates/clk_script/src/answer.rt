@@ -18,22 +18,22 @@ use clk_packet::Fault;
 use clk_sched::Departure;
 use std::alloc::Global;
 
-/// What a script comes to.
+/// The answer to a script.
 #[derive(Drop)]
 pub struct Answer {
-    /// Its commands, in order, each with what it came to.
+    /// Its commands, in order, each with its result.
     pub rows: Vec<Row>,
-    /// The packets that came out in the closing of each device, if it closes: then the report follows.
+    /// If the script has a drain: the packets that each device emitted in it. Then the report follows.
     pub closing: Option<Vec<Vec<Departure>>>,
     /// All that the router did.
     pub past: Past,
 }
 
-/// What a script comes to over a recorder of a router to which nothing has happened.
+/// Answers a script, over a recorder of a router to which nothing has happened.
 ///
 /// # Errors
 ///
-/// Fault 1 where memory is refused.
+/// Fault 1 if an allocation fails.
 pub fn answer_script(alloc: Global, recorder: Recorder, script: Script) -> Result<Answer, Fault>
     requires fresh { (setup : Setup) × Starts setup recorder }
     requires sound { CanBeRun (names_in recorder) script }
@@ -54,7 +54,7 @@ pub fn answer_script(alloc: Global, recorder: Recorder, script: Script) -> Resul
     })
 }
 
-/// Carries out the commands of some rows, and puts into each what its command came to. Fault 1 where memory is refused.
+/// Carries out the commands of these rows, and puts the result of each command into its row. Fault 1 if an allocation fails.
 fn carry_out(recorder: &mut Recorder, rows: &mut [Row]) -> Result<(), Fault>
     requires fresh { (setup : Setup) × Starts setup recorder.old }
     requires to_do { AllByRecursion (IsToDo (names_in recorder.old)) rows.old }
@@ -70,7 +70,7 @@ fn carry_out(recorder: &mut Recorder, rows: &mut [Row]) -> Result<(), Fault>
     Ok(())
 }
 
-/// Carries out the command of a row, and gives the row with what that came to. Fault 1 where memory is refused.
+/// Carries out the command of a row, and returns the row with the command's result. Fault 1 if an allocation fails.
 fn carry_out_one(recorder: &mut Recorder, row: Row) -> Result<Row, Fault>
     requires ready { IsReady recorder.old }
     requires to_do { IsToDo (names_in recorder.old) row }
@@ -97,8 +97,8 @@ fn carry_out_one(recorder: &mut Recorder, row: Row) -> Result<Row, Fault>
     }
 }
 
-/// Closes the router of a recorder from this moment on, in ticks, if there is one. Answers the packets that came out in the closing of each
-/// device. Fault 1 where memory is refused.
+/// Drains the router of a recorder from this moment on, in ticks, if one is given. Returns the packets that each device emitted in the
+/// drain. Fault 1 if an allocation fails.
 fn close(
     alloc: Global,
     recorder: &mut Recorder,
@@ -115,8 +115,8 @@ fn close(
     }
 }
 
-/// Drains the devices one after the other, each from this moment on, and answers the packets that came out in each one's closing. Fault
-/// 1 where memory is refused.
+/// Drains the devices one after the other, each from this moment on, in ticks. Returns the packets that each device emitted. Fault 1 if an
+/// allocation fails.
 fn drain_all(
     alloc: Global,
     recorder: &mut Recorder,

@@ -1,4 +1,4 @@
-//! What is counted of the packets of each sender of a router.
+//! The counts of the packets of each sender of a router.
 
 ghost use Rattle.std.specs.Prelude.{◌≡◌, List, All, map, IfOk, IsOkUnless};
 ghost use Rattle.clk_packet.specs.Lists.{AreRising};
@@ -11,7 +11,7 @@ use clk_report::Counts;
 use clk_router::place_of;
 use std::alloc::Global;
 
-/// What is counted of senders of these numbers, before they have sent anything. Fault 1 where memory is refused.
+/// The counts of senders of these numbers, before they have sent anything. Fault 1 if an allocation fails.
 pub fn counts_of_senders(alloc: Global, numbers: &[u16]) -> Result<Vec<Counts>, Fault>
     ensures made { IfOk result (λ counts. counts.items ≡ map counts_of (map tally_made numbers.now)) }
     ensures fault { IsOkUnless result Fault.Memory }
@@ -23,7 +23,7 @@ pub fn counts_of_senders(alloc: Global, numbers: &[u16]) -> Result<Vec<Counts>, 
     Ok(counts)
 }
 
-/// Counts what became of a packet that the sender at this place offered, among senders of these numbers.
+/// Counts a packet that the sender at this place offered, with its outcome. `numbers` has the senders of the counts.
 pub fn count_offered(
     counts: &mut [Counts],
     numbers: &[u16],
@@ -48,7 +48,7 @@ pub fn count_offered(
     }
 }
 
-/// Counts a packet that was put out of its queue for a later one, among senders of these numbers.
+/// Counts a packet that was evicted from its queue for a later one. `numbers` has the senders of the counts.
 fn count_evicted(counts: &mut [Counts], numbers: &[u16], front: Packet)
     requires alike { numbers_in counts.old ≡ numbers.now }
     requires rising { AreRising numbers.now }

@@ -9,7 +9,7 @@ ghost use Rattle.clk_script.specs.inside.Fields.{field_at};
 
 use memchr::memchr;
 
-/// Whether a byte parts fields.
+/// Whether a byte separates fields.
 fn is_blank(byte: u8) -> bool
     ensures { result ≡ is_blank byte }
 {
@@ -32,7 +32,7 @@ fn field_len(text: &[u8]) -> usize
     text.iter().take_while(|byte| !is_blank(**byte)).count()
 }
 
-/// The first field of a text, and what follows it. The field is empty where there is none.
+/// The first field of a text, and what follows it. The field is empty if the text has none.
 pub fn first_field(text: &[u8]) -> (&[u8], &[u8])
     ensures field { result.0.now ≡ field_at (fields text.now) 0 }
     ensures rest { fields result.1.now ≡ drop 1 (fields text.now) }
@@ -75,7 +75,7 @@ pub fn first_line(text: &[u8]) -> (&[u8], &[u8])
     }
 }
 
-/// The number in the first field of a text, where it is one in this range, and what follows the field; None where it is none.
+/// The number in the first field of a text, and what follows the field. `None` unless that field is a number from `least` to `most`.
 pub fn first_number(text: &[u8], least: u64, most: u64) -> Option<(u64, &[u8])>
     requires { most < 2 ^ 60 }
     ensures { MatchOption result (number_in least most (field_at (fields text.now) 0) ≡ None)

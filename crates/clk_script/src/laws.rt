@@ -1,4 +1,4 @@
-//! What the definitions of scripts say: each law is a function that does nothing and whose contract is the law.
+//! What the definitions of scripts say. Each law is a function that does nothing and whose contract is the law.
 
 ghost use Rattle.std.specs.Prelude.{◌≡◌, ℕ, ◌≤◌, ◌<◌, ◌^◌, List, [], ◌∷◌, ◌++◌, length, map, None, Some, codes};
 ghost use Rattle.std.specs.List.{AllByRecursion};
@@ -23,20 +23,20 @@ use clk_ring::histories_leave_no_choice;
 use clk_sched::{runs_go_on, runs_leave_no_choice};
 use clk_tree::Plan;
 
-/// A script has at most one meaning over a setup whose senders send to queues that are there, and whose trees stand over such:
-/// what its commands make happen follows, one after another, and so do the text and the logs. Two queues with a sender each, below a
-/// PrioSched, are such a setup.
+/// A script has at most one meaning over a setup whose senders send to queues that exist, and whose trees stand over queues that exist. Its
+/// commands decide the events, one after another, and so the text and the logs. Two queues with a sender each, below a PrioSched, are such
+/// a setup.
 pub fn scripts_have_at_most_one_meaning()
     ensures wired { (setup : _) → IsWired setup → HasAtMostOneMeaning setup }
     ensures logs { (setup : _) → IsWired setup → HasAtMostOneLog setup }
     ensures two_queues { HasAtMostOneMeaning two_queues }
 {
-    // By the laws of what the meaning is made of, which do nothing.
+    // This follows from these laws, which do nothing.
     histories_leave_no_choice();
     runs_leave_no_choice();
 }
 
-/// A script has at most one meaning over a plan, since a plan has one tree for each device. So the script and the plan settle the text that
+/// A script has at most one meaning over a plan, since a plan has one tree for each device. So the script and the plan decide the text that
 /// `run_script` writes if it succeeds, and the logs that `run_script_logged` returns.
 pub fn plans_have_at_most_one_meaning(plan: &Plan)
     ensures texts { (script one other : List ℕ) → MeansOver plan.now script one → MeansOver plan.now script other → one ≡ other }
@@ -48,14 +48,14 @@ pub fn plans_have_at_most_one_meaning(plan: &Plan)
     scripts_have_at_most_one_meaning();
 }
 
-/// The record of what happened, with the drain that closed it if there was one, is a script that means just that: the lines of the events,
-/// of their closing and of the report, with the logs of the devices. Only events that fit a script have a record that means anything.
+/// The record of what happened, with the drain at its end if there was one, is a script that means exactly that: the lines of the events,
+/// of the drain and of the report, with the logs of the devices. Only events that fit a script have a record that means anything.
 pub fn records_mean_their_course()
     ensures course { (setup : _) → RecordsMeanTheirCourse setup }
     ensures fitting { (setup : _) → OnlyFittingRecordsMean setup }
 {}
 
-/// The record of what happened over a plan means just that, if no moment is 2^40 or later and the record has at most 1,000,000 lines. A
+/// The record of what happened over a plan means exactly that, if no moment is 2^40 or later and the record has at most 1,000,000 lines. A
 /// script can name each sender and each device of a plan.
 pub fn records_of_plans_mean_their_course(plan: &Plan)
     ensures { (trees : List Tree) → AreTreesOf plan.now trees → PlanRecordsMeanTheirCourse plan.now trees }
@@ -66,7 +66,8 @@ pub fn records_of_plans_mean_their_course(plan: &Plan)
     records_mean_their_course();
 }
 
-/// A record grows line by line: a command adds its line, and so does the drain at the end. What fits goes on fitting while a line is left.
+/// A record grows line by line: a command adds its line, and so does the drain at the end. Events that fit a script still fit with one
+/// more, if that fits too and a line is left.
 pub fn records_grow()
     ensures command { (commands : List Command) (command : Command) → record_text (commands ++ command ∷ []) None ≡ record_text commands None ++ command_text command }
     ensures drain { (commands : List Command) (moment : ℕ) → record_text commands (Some moment) ≡ record_text commands None ++ drain_text (Some moment) }
@@ -76,26 +77,26 @@ pub fn records_grow()
     ensures limits_drain { (events : List Event) (moment : ℕ) → FitsLimits events None → moment ≤ most_moment → length events < most_lines → FitsLimits events (Some moment) }
 {}
 
-/// Over one device, as over two queues below a PrioSched, a script means what it does without numbers of devices: its pulls are a run
-/// of the one tree, and their lines are `pull M: ..`.
+/// Over one device a script means what it means without numbers of devices: its pulls are a run of the one tree, and their lines are `pull
+/// M: ..`. Two queues below a PrioSched are such a device.
 pub fn one_device_needs_no_number()
     ensures alone { (setup : _) (tree : _) → HasOneDevice setup tree → (script text : List ℕ) → IsMeaning setup script text → IsMeaningAlone setup tree script text }
     ensures all { (setup : _) (tree : _) → HasOneDevice setup tree → (script text : List ℕ) → IsMeaningAlone setup tree script text → IsMeaning setup script text }
     ensures two_queues { (tree : _) × HasOneDevice two_queues tree }
 {}
 
-/// What happens at a device, and so each of its lines, follows from the commands of its own, over a setup whose senders and devices
-/// stand apart: no pull of another device and no packet that is sent to one changes it.
+/// What happens at a device, and so each of its lines, follows from its own commands, over a setup whose senders and devices are apart. No
+/// pull of another device and no packet that is sent to one changes it.
 pub fn devices_stand_apart()
     ensures { (setup : _) → IsWired setup → IsApart setup → DevicesAreApart setup }
 {
-    // What happens at a device can happen alone. The rest is by these laws, which do nothing.
+    // What happens at a device can happen alone. The rest follows from these laws, which do nothing.
     runs_go_on();
     histories_leave_no_choice();
     runs_leave_no_choice();
 }
 
-/// Over a plan they stand apart: what happens at a device of it follows from the commands of its own.
+/// The devices of a plan are apart: what happens at each follows from its own commands.
 pub fn devices_of_plans_stand_apart(plan: &Plan)
     ensures { (trees : List Tree) → AreTreesOf plan.now trees → DevicesAreApart (plan_setup trees plan.now) }
 {
@@ -106,8 +107,8 @@ pub fn devices_of_plans_stand_apart(plan: &Plan)
     devices_stand_apart();
 }
 
-/// Which events cannot happen over two queues below a PrioSched, over one below a Shaper, or over two devices with a queue each, and
-/// that a script with a fault has no meaning.
+/// Which events cannot happen: over two queues below a PrioSched, over one queue below a Shaper, and over two devices with a queue each.
+/// And a script with a fault has no meaning.
 pub fn script_examples()
     ensures not_moment_not_counted { ¬ (CanHappen shaped moment_not_counted) }
     ensures not_moment_ahead { ¬ (CanHappen shaped moment_ahead) }
@@ -122,7 +123,7 @@ pub fn script_examples()
     ensures not_faulty { (text : _) → ¬ (IsMeaning two_queues (codes "pull\n") text) }
 {}
 
-/// Which pulls close a script from moment 4 on where one packet is left, and where one is left at each of two devices.
+/// Which pulls are a drain from moment 4 on: if one packet is left, and if one is left at each of two devices.
 pub fn closing_examples()
     ensures at_once { Closes 0 4 one_left closed_at_once }
     ensures not_without_a_pull { ¬ (Closes 0 4 one_left closed_without_a_pull) }
@@ -133,9 +134,9 @@ pub fn closing_examples()
     ensures not_on { ¬ (CloseFirst two_devices 4 2 one_at_each closed_on) }
 {}
 
-/// What the words of `run_script`'s contract don't let through: more bytes read than the limit, bytes written that are no
-/// front of the text, a text that is cut short where the call succeeds, whose end alone is written where the sink fails, or of which
-/// anything is written at another fault, and a fault of another script.
+/// What the words of `run_script`'s contract exclude: more bytes are read than the limit; bytes are written that are no front of the text;
+/// the text is cut short though the call succeeds; only its end is written when the sink fails; something is written at another fault; or a
+/// fault is that of another script.
 pub fn word_examples()
     ensures not_taken { ¬ (Takes 1 (Some (65 ∷ 66 ∷ [])) (Some [])) }
     ensures not_front { ¬ (AppendsFront (Some []) (Some (66 ∷ [])) (65 ∷ 66 ∷ [])) }
@@ -146,8 +147,8 @@ pub fn word_examples()
     ensures not_too_large_over_a_plan { (plan : _) → ¬ (ExplainsPlan plan (Some (codes "pull 0\n")) TooLarge) }
 {}
 
-/// A record byte for byte, events that fit at the greatest moments, and near misses: a sender that is not there, a sender or a device above
-/// 65,535, a pull or a drain at 2^40, and line 1,000,001. The record of each near miss means nothing, though that pull can happen.
+/// A record byte for byte, events that fit at the greatest moments, and near misses: an unknown sender, a sender or a device above 65,535,
+/// a pull or a drain at 2^40, and line 1,000,001. The record of each near miss means nothing, though that pull can happen.
 pub fn record_examples()
     ensures lines { record_text (map command_of (pulled_at 3)) (Some 4) ≡ codes "send 1 50\npull 3\npull 3 1\ndrain 4\n" }
     ensures fits { FitsScript two_devices (pulled_at 1099511627775) (Some 1099511627775) }

@@ -11,7 +11,7 @@ use std::marker::Model;
 /// How many bytes are held at most.
 const ROOM: usize = 16_384;
 
-/// Lines that are held until there are enough to be written at once. Takes no memory but its own.
+/// Lines that are held until there are enough to be written at once. Doesn't allocate.
 // A list of arrayvec sets all its room to zeros whenever it is emptied.
 #[derive(Drop)]
 pub struct Lines {
@@ -40,8 +40,8 @@ impl Lines {
         }
     }
 
-    /// Adds a line. Where there is no room, what is held is written, and then the line. Fault 20 where the sink fails, which has then
-    /// taken a front of the two.
+    /// Adds a line. If there is no room for it, writes what is held, and then the line. Fault 20 if the sink fails; it has then taken a
+    /// front of the two.
     #[inline(always)]
     pub fn add<W: Sink>(&mut self, line: &[u8], writer: &mut W) -> Result<(), Fault>
         ensures { Passes (W.Sink.taken writer.old) (W.Sink.taken writer.new)
@@ -66,7 +66,7 @@ impl Lines {
         self.len = end;
     }
 
-    /// Writes what is held. Fault 20 where the sink fails, which has then taken a front of it.
+    /// Writes what is held. Fault 20 if the sink fails; it has then taken a front of it.
     #[inline(never)]
     pub fn write<W: Sink>(&mut self, writer: &mut W) -> Result<(), Fault>
         ensures wrote { Wrote (W.Sink.taken writer.old) (W.Sink.taken writer.new)

@@ -1,4 +1,4 @@
-//! The reading of a script, as its bytes come.
+//! Reading a script, as its bytes come.
 
 ghost use Rattle.std.specs.Prelude.{◌≡◌, ◌≤◌, ◌+◌, ◌++◌, ◌∷◌, [], false, None, Some, List, ℕ, MatchResult, OnOk, IsOkUnless};
 ghost use Rattle.std.specs.List.{AllByRecursion};
@@ -38,16 +38,17 @@ pub struct Reading {
     pub script: Script,
     /// How many lines were read.
     pub lines: u32,
-    /// What is wrong with the first of them that has something wrong.
+    /// The fault of the first line that has one.
     pub fault: Option<Fault>,
 }
 
-/// Reads a script over senders of these numbers, and so many devices, to its end. No more of it is held than its longest line and a chunk.
+/// Reads a script to its end. It may name senders with these numbers, and the first `devices` devices. Holds no more of it than its longest
+/// line and a chunk.
 ///
 /// # Errors
 ///
-/// Fault 1 where memory is refused; 19 where the reader fails; 18 for more than 33,554,432 bytes; then the fault of the first line that
-/// has one.
+/// Fault 1 if an allocation fails. Fault 19 if the reader fails. Fault 18 for more than 33,554,432 bytes. Otherwise the fault of the first
+/// line that has one.
 pub fn read_script<R: Source>(
     alloc: Global,
     reader: &mut R,
@@ -81,7 +82,7 @@ pub fn read_script<R: Source>(
 impl Reading {
     ghost use Rattle.clk_script.specs.Script.{Names};
 
-    /// Before its first line.
+    /// A script before its first line.
     fn new(alloc: Global) -> Reading
         ensures { (names : Names) → HasCome names [] result [] }
     {
@@ -95,7 +96,7 @@ impl Reading {
         }
     }
 
-    /// Reads what is held and a piece that follows it, as far as it has whole lines, and holds the rest. Fault 1 where memory is refused.
+    /// Reads the whole lines of what is held and a piece that follows it, and holds the rest. Fault 1 if an allocation fails.
     fn go_on(
         &mut self,
         numbers: &[u16],
@@ -109,7 +110,7 @@ impl Reading {
             → HasCome (named_by numbers.now devices) (text ++ piece.now) self.new held.new.items) }
         ensures fault { IsOkUnless result Fault.Memory }
     {
-        // Once something is wrong, nothing more is read.
+        // Once a line has a fault, nothing more is read.
         if self.fault.is_some() {
             return Ok(());
         }
@@ -125,7 +126,7 @@ impl Reading {
         Ok(())
     }
 
-    /// The same where nothing is held, so that the piece begins with a line. Its whole lines are read where they stand.
+    /// Reads the whole lines of a piece that begins with a line, in place, and holds the rest. Fault 1 if an allocation fails.
     fn go_on_from_line(
         &mut self,
         numbers: &[u16],
@@ -153,11 +154,11 @@ impl Reading {
         Ok(())
     }
 
-    /// The script, where this text is its last line, if it isn't empty.
+    /// Returns the script, after this text as its last line, if it isn't empty.
     ///
     /// # Errors
     ///
-    /// What is wrong with its first line that has something wrong. Fault 1 where memory is refused.
+    /// The fault of the first line that has one. Fault 1 if an allocation fails.
     fn end(self, numbers: &[u16], devices: usize, last: &[u8]) -> Result<Script, Fault>
         requires rising { AreRising numbers.now }
         requires come { (text : List ℕ) × HasCome (named_by numbers.now devices) text self last.now }
@@ -175,7 +176,7 @@ impl Reading {
         }
     }
 
-    /// Reads the lines of a text, up to the first that has something wrong. Fault 1 where memory is refused.
+    /// Reads the lines of a text, up to the first that has a fault. Fault 1 if an allocation fails.
     fn read_lines(&mut self, numbers: &[u16], devices: usize, text: &[u8]) -> Result<(), Fault>
         requires rising { AreRising numbers.now }
         requires none { self.old.fault ≡ None }
@@ -195,7 +196,7 @@ impl Reading {
         Ok(())
     }
 
-    /// Reads the next line. Fault 1 where memory is refused.
+    /// Reads the next line. Fault 1 if an allocation fails.
     #[inline(always)]
     fn read_line(&mut self, numbers: &[u16], devices: usize, line: Line) -> Result<(), Fault>
         requires rising { AreRising numbers.now }
@@ -231,8 +232,9 @@ impl Reading {
     }
 }
 
-/// The row of the line of this number, counted from 1, if it holds a command, where a drain came before or none. The line is one of the
-/// first 1,000,000 (fault 18), a command or blank (16), blank after a drain (16), and names a sender (15) and a device (16) that are there.
+/// The row of the line with this number, counted from 1, or `None` if the line holds no command. `drained` says whether a drain came
+/// before. Fault 18 if the line is not one of the first 1,000,000; fault 16 if it is neither blank, a command nor a drain, follows a drain
+/// and isn't blank, or names an unknown device; fault 15 if it names an unknown sender.
 #[inline(always)]
 fn row_in(
     numbers: &[u16],
@@ -260,8 +262,8 @@ fn row_in(
     }
 }
 
-/// The row of the command in a line, not carried out yet, where its sender has one of these numbers, or its device is one of so many.
-/// Fault 15 or 16 where it isn't.
+/// The row of the command in a line, not carried out yet. Fault 15 if its sender has none of these numbers, and fault 16 if its device is
+/// none of the first `devices`.
 fn row_asked(numbers: &[u16], devices: usize, number: u32, command: Command) -> Result<Row, Fault>
     requires rising { AreRising numbers.now }
     requires readable { IsReadable command }

@@ -1,4 +1,4 @@
-//! A router, and what the answer to a script needs of all that it did.
+//! A router, with all that the answer to a script needs of its past.
 
 use crate::counts::{count_offered, counts_of_senders};
 use crate::past::Past;
@@ -9,15 +9,15 @@ use clk_sched::{Departure, Keeps};
 use clk_tree::Plan;
 use std::alloc::Global;
 
-/// A router, with the packets that its answer tells.
+/// A router, with the packets that an answer to a script tells of.
 #[derive(Drop)]
 pub struct Recorder {
     pub router: Router,
-    /// What is counted of the packets of each sender, at its place.
+    /// The counts of the packets of each sender, at its place.
     counts: Vec<Counts>,
-    /// Where there are several devices, the packets that pulls gave, closing pulls aside, in order. A device alone has them itself.
+    /// If there are several devices: the packets that pulls gave before the drain, in order. A single device has them itself.
     given: Vec<Packet>,
-    /// The packets that queues put out for later ones, in order.
+    /// The packets that queues evicted for later ones, in order.
     evicted: Vec<Packet>,
 }
 
@@ -28,8 +28,8 @@ impl Recorder {
     ghost use Rattle.clk_router.specs.Events.{Setup, offered};
     ghost use Rattle.clk_script.specs.inside.Recorder.{evicted_kept, given_kept, IsAt, IsPlace, IsReady, IsPastOf, LeadsOnByPull, LeadsOnByDrain, Starts, StaysElsewhere, ChangesGiven};
 
-    /// A recorder of the router of a plan, before anything has happened, whose devices will keep their visits or won't. Fault 1 where
-    /// memory is refused.
+    /// A recorder of the router of a plan, before anything has happened. `visits` says whether its devices keep their visits. Fault 1 if an
+    /// allocation fails.
     pub fn new(alloc: Global, plan: &Plan, visits: bool) -> Result<Recorder, Fault>
         ensures opened { IfOk result (λ r. IsOpened plan.now (record { visits = visits; packed = false; packets = true }) r.router) }
         ensures starts { IfOk result (λ r. Starts r.router.setup r) }
@@ -53,7 +53,8 @@ impl Recorder {
         })
     }
 
-    /// The sender at this place offers its next packet, of this length in bytes, to its queue. Fault 1 where memory is refused.
+    /// The sender at this place offers its next packet, of this length in bytes, to its queue. Returns the packet and the outcome. Fault 1
+    /// if an allocation fails.
     pub fn send(&mut self, place: usize, length: u16) -> Result<(Packet, Offered), Fault>
         requires ready { IsReady self.old }
         requires is_there { IsPlace self.old.counts.items place }
@@ -79,7 +80,7 @@ impl Recorder {
         Ok((packet, outcome))
     }
 
-    /// Keeps a packet that was put out. Fault 1 where memory is refused.
+    /// Keeps the packet that was evicted, if one was. Fault 1 if an allocation fails.
     #[inline(always)]
     fn keep_evicted(&mut self, outcome: Offered) -> Result<(), Fault>
         ensures kept { OnOk result (self.new ≡ record self.old { evicted = self.new.evicted }) }
@@ -92,7 +93,7 @@ impl Recorder {
         Ok(())
     }
 
-    /// Pulls a device once, at this moment in ticks or, where that is later, at the greatest so far. Fault 1 where memory is refused.
+    /// Pulls a device once, at this moment in ticks, or at the device's latest moment if that is later. Fault 1 if an allocation fails.
     pub fn pull(&mut self, device: u16, moment: u64) -> Result<Option<Packet>, Fault>
         requires can { CanPull self.old.router device moment }
         ensures leads { IfOk result (λ got. (setup : Setup) (events : _) → IsAt setup events self.old → LeadsOnByPull setup self.new device moment got events) }
@@ -107,7 +108,7 @@ impl Recorder {
         Ok(got)
     }
 
-    /// Keeps what a pull gave, where there are several devices. Fault 1 where memory is refused.
+    /// Keeps the packet that a pull gave, if there are several devices. Fault 1 if an allocation fails.
     #[inline(always)]
     fn keep(&mut self, got: Option<Packet>) -> Result<(), Fault>
         ensures given { OnOk result (self.new.given.items ≡ given_kept self.old got) }
@@ -122,8 +123,8 @@ impl Recorder {
         Ok(())
     }
 
-    /// Pulls a device, one tick apart and the first time one tick after the greater of this moment and the greatest so far, until all
-    /// packets that are left for it in queues and heads came out. Answers these. Fault 1 where memory is refused.
+    /// Drains a device: pulls it one tick apart, the first time one tick after the later of this moment and the device's latest, until all
+    /// packets that are left for it are emitted. Returns these packets, each with its moment. Fault 1 if an allocation fails.
     pub fn drain(
         &mut self,
         alloc: Global,
@@ -144,7 +145,7 @@ impl Recorder {
         Ok(departures)
     }
 
-    /// All that the router did. Fault 1 where memory is refused to the lists of the devices.
+    /// All that the router did. Fault 1 if an allocation for the lists of the devices fails.
     pub fn into_past(self, alloc: Global) -> Result<Past, Fault>
         requires { self.router.keeps.packets ≡ true }
         ensures past { IfOk result (IsPastOf self) }

@@ -1,16 +1,16 @@
-//! What is kept of each command of a script.
+//! What an answer keeps of each command of a script.
 
 ghost use Rattle.clk_script.specs.inside.Rows.{fate_of};
 
 use crate::moment::Moment;
 use clk_packet::{Offered, Packet};
 
-/// A command of a script, and what it came to. Before it is carried out, the packet of a send has the number 0 and counts as refused, and a
-/// pull counts as one that gave none. Which packet a pull gave, and which was put out of a queue, is kept elsewhere.
-// The fields stand so that a row takes 12 bytes.
+/// A command of a script, with its result. Before it is carried out, the packet of a send has the number 0 and counts as refused, and a
+/// pull counts as one that gave none. Which packet a pull gave, and which was evicted, is kept elsewhere.
+// The fields are in an order in which a row takes 12 bytes.
 #[derive(Clone, Copy)]
 pub enum Row {
-    /// The sender at this place offers this packet, and this becomes of it.
+    /// The sender at this place offers this packet, with this outcome.
     Send {
         fate: Fate,
         place: u16,
@@ -24,21 +24,21 @@ pub enum Row {
     },
 }
 
-/// What becomes of a packet that is offered.
+/// The outcome of an offer, without the packet that was evicted.
 #[derive(Clone, Copy)]
 pub enum Fate {
     /// It is accepted.
     Accepted,
     /// It is refused.
     Refused,
-    /// It is accepted, and its queue puts out a packet for it.
+    /// It is accepted, and its queue evicts a packet for it.
     Evicting,
 }
 
 impl Fate {
     ghost use Rattle.std.specs.Prelude.{◌≡◌};
 
-    /// What became of a packet, without the packet that was put out for it.
+    /// The outcome of an offer, without the packet that was evicted for it.
     pub fn of(offered: Offered) -> Fate
         ensures { result ≡ fate_of offered }
     {

@@ -1,4 +1,4 @@
-//! One script, over a plan.
+//! Running one script over a plan.
 
 ghost use Rattle.std.specs.Prelude.{◌≡◌, ◌+◌, IfOk, IfErr};
 ghost use Rattle.clk_packet.specs.Bytes.{Takes, read_failures, write_failures, OfBytes};
@@ -19,14 +19,14 @@ use clk_sched::Visit;
 use clk_tree::Plan;
 use std::alloc::Global;
 
-/// Reads a script to its end, runs it over a plan, and writes what it writes. The script is read and checked whole before
-/// anything is written.
+/// Reads a script to its end, runs it over a plan, and writes its meaning. Reads and checks the whole script before it writes anything.
 ///
 /// # Errors
 ///
-/// In this order: 1 at any refused growth of memory; 19 where the reader fails; 18 for a script of more than 33,554,432
-/// bytes; then by lines 16 for one that is no command or names a device that isn't there, 15 for a sender that isn't
-/// there, and 18 at line 1,000,001; 20 where the writer fails, which has then taken a front of what the script writes.
+/// Fault 1 if an allocation fails. Otherwise, in this order: fault 19 if the reader fails; fault 18 for a script of more than 33,554,432
+/// bytes; then the fault of the first line that has one: 16 if it is no line of a script, follows a drain, or names an unknown device, 15
+/// if it names an unknown sender, and 18 if it is line 1,000,001; and fault 20 if the writer fails. The writer has then taken a front of
+/// the meaning.
 pub fn run_script<R: Source, W: Sink>(
     alloc: Global,
     reader: &mut R,
@@ -41,14 +41,14 @@ pub fn run_script<R: Source, W: Sink>(
     ensures read_failures { R.Source.failures reader.new ≡ read_failures result (R.Source.failures reader.old) }
     ensures write_failures { W.Sink.failures writer.new ≡ write_failures result (W.Sink.failures writer.old) }
 
-    // The reader is read to one byte past the limit at most.
+    // At most one byte past the limit is read.
     ensures limit { Takes (most_script_bytes + 1) (R.Source.remaining reader.old) (R.Source.remaining reader.new) }
 {
     run_plan(alloc, reader, writer, plan, false)?;
     Ok(())
 }
 
-/// The same, with the same faults. Answers the log of each device.
+/// Runs a script as `run_script` does, with its faults. Returns the log of each device.
 pub fn run_script_logged<R: Source, W: Sink>(
     alloc: Global,
     reader: &mut R,
@@ -66,7 +66,7 @@ pub fn run_script_logged<R: Source, W: Sink>(
     Ok(run_plan(alloc, reader, writer, plan, true)?.logs)
 }
 
-/// The same, with the same faults. Answers what the router did, which keeps its visits or doesn't.
+/// Runs a script as `run_script` does, with its faults. Returns all that the router did; `visits` says whether that has its visits.
 fn run_plan<R: Source, W: Sink>(
     alloc: Global,
     reader: &mut R,

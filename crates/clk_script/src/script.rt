@@ -4,10 +4,10 @@ use crate::fields::{first_field, first_line, first_number};
 use crate::limits::{MAX_DEVICE, MAX_MOMENT};
 use clk_packet::{MAX_LENGTH, MAX_SENDER, number_before};
 
-/// What a line of a script asks for.
+/// A command in a line of a script.
 #[derive(Clone, Copy, Debug, PartialEq, Eq)]
 pub enum Command {
-    /// The sender offers its next packet, of this length, to its queue.
+    /// The sender offers its next packet, of this length in bytes, to its queue.
     Send { sender: u16, length: u16 },
     /// One pull of a device, at this moment in ticks.
     Pull { device: u16, moment: u64 },
@@ -21,7 +21,7 @@ pub enum Line {
     /// It isn't a line of a script.
     Malformed,
     Command(Command),
-    /// The closing drain, from this moment on in ticks, and then the report. Nothing follows it.
+    /// Drains all devices, from this moment on in ticks, and then reports. Only blank lines may follow.
     Drain { moment: u64 },
 }
 
@@ -29,14 +29,14 @@ impl Line {
     ghost use Rattle.std.specs.Prelude.{◌≡◌, ◌<◌, ◌∷◌, ◌++◌, codes, length, IfSome};
     ghost use Rattle.clk_script.specs.Script.{fields, line_of, lines_of, line_of_fields, only_moment};
 
-    /// Reads the first line of a text that isn't empty, and gives what follows it.
+    /// Reads the first line of a text that isn't empty. Returns it, and the text that follows it.
     #[inline(always)]
     pub fn next(text: &[u8]) -> (Line, &[u8])
         requires { 0 < length text.now }
         ensures line { lines_of text.now ≡ result.0 ∷ lines_of result.1.now }
         ensures rest { length result.1.now < length text.now }
     {
-        // Most lines are plain: one space between fields, and a line feed right after the last. These are read by their numbers.
+        // Most lines are plain: one space between fields, and a line feed right after the last field. These are read number by number.
         if let [b'p', b'u', b'l', b'l', b' ', rest @ ..] = text {
             if let Some((line, rest)) = Line::plain_pull(rest) {
                 return (line, rest);
@@ -51,7 +51,8 @@ impl Line {
         (Line::read(line), rest)
     }
 
-    /// The line `pull M` of what follows its word and a space, where a line feed is all else that it has, and what follows it.
+    /// Reads the rest of the line `pull M`, after its word and a space. Returns the line, and the text that follows it; or `None` if
+    /// anything else than a line feed follows the number.
     #[inline(always)]
     fn plain_pull(text: &[u8]) -> Option<(Line, &[u8])>
         ensures { IfSome result (λ r. (lines_of (codes "pull " ++ text.now) ≡ r.0 ∷ lines_of r.1.now) × (length r.1.now < length text.now)) }
@@ -60,8 +61,8 @@ impl Line {
         Some((Line::Command(Command::Pull { device: 0, moment }), rest))
     }
 
-    /// The line `send S L` of what follows its word and a space, where one space and a line feed are all else that it has, and what
-    /// follows it.
+    /// Reads the rest of the line `send S L`, after its word and a space. Returns the line, and the text that follows it; or `None` if
+    /// anything else than one space and a line feed follows the numbers.
     #[inline(always)]
     fn plain_send(text: &[u8]) -> Option<(Line, &[u8])>
         ensures { IfSome result (λ r. (lines_of (codes "send " ++ text.now) ≡ r.0 ∷ lines_of r.1.now) × (length r.1.now < length text.now)) }
@@ -75,7 +76,7 @@ impl Line {
         Some((line, rest))
     }
 
-    /// Reads a line, which is given without its end.
+    /// Reads a line, without its end.
     fn read(text: &[u8]) -> Line
         ensures { result ≡ line_of text.now }
     {
@@ -95,7 +96,7 @@ impl Line {
         Line::Malformed
     }
 
-    /// The line `pull M` or `pull M D`, of what follows its word.
+    /// Reads the rest of the line `pull M` or `pull M D`, after its word.
     fn pull(text: &[u8]) -> Line
         ensures { result ≡ line_of_fields (codes "pull" ∷ fields text.now) }
     {
@@ -119,7 +120,7 @@ impl Line {
         })
     }
 
-    /// The line `drain M`, of what follows its word.
+    /// Reads the rest of the line `drain M`, after its word.
     fn drain(text: &[u8]) -> Line
         ensures { result ≡ line_of_fields (codes "drain" ∷ fields text.now) }
     {
@@ -129,7 +130,7 @@ impl Line {
         }
     }
 
-    /// The moment that stands alone in a text, if one does.
+    /// The moment that is the only field of a text, if it is one.
     fn only_moment(text: &[u8]) -> Option<u64>
         ensures { result ≡ only_moment (fields text.now) }
     {
@@ -138,7 +139,7 @@ impl Line {
         if more.is_empty() { Some(moment) } else { None }
     }
 
-    /// The line `send S L`, of what follows its word.
+    /// Reads the rest of the line `send S L`, after its word.
     fn send(text: &[u8]) -> Line
         ensures { result ≡ line_of_fields (codes "send" ∷ fields text.now) }
     {

@@ -1,4 +1,4 @@
-//! The lines of a script's answer and of its record. Each is put from its end to its front.
+//! The lines of a script's answer and of its record. Each is written from its end to its front.
 
 ghost use Rattle.std.specs.Prelude.{◌≡◌, ◌+◌, ◌≤◌, ◌++◌, drop, length, Some};
 ghost use Rattle.clk_script.specs.Meaning.{name_text, packet_text, outcome_text, result_text, device_text, pull_text, offer_text};
@@ -11,7 +11,7 @@ use clk_report::{put, put_number};
 /// How many bytes a line has at most.
 pub const LINE: usize = 128;
 
-/// Puts the line of an offer before this place, and gives where it starts.
+/// Puts the line of an offer before the place `end`. Returns where it starts.
 #[inline(always)]
 pub fn put_offer(line: &mut [u8], packet: Packet, outcome: Offered, end: usize) -> usize
     requires room { 122 ≤ end }
@@ -24,7 +24,8 @@ pub fn put_offer(line: &mut [u8], packet: Packet, outcome: Offered, end: usize) 
     put_packet(line, packet, end)
 }
 
-/// Puts the line of a pull of a device at the moment that was handed in, in ticks, where there are several devices or one.
+/// Puts the line of a pull of a device before the place `end`, with the moment that was handed in, in ticks. `several` says whether there
+/// are several devices. Returns where the line starts.
 #[inline(always)]
 pub fn put_pull(
     line: &mut [u8],
@@ -47,7 +48,7 @@ pub fn put_pull(
     put(line, b"pull ", end)
 }
 
-/// Puts the number of a device, where there are several.
+/// Puts the number of a device before the place `end`, if there are several. Returns where it starts.
 #[inline(always)]
 fn put_device(line: &mut [u8], several: bool, device: u16, end: usize) -> usize
     requires room { 21 ≤ end }
@@ -63,7 +64,7 @@ fn put_device(line: &mut [u8], several: bool, device: u16, end: usize) -> usize
     put(line, b" ", end)
 }
 
-/// Puts ` accepted`, ` refused` or ` accepted evicted S#n`.
+/// Puts ` accepted`, ` refused` or ` accepted evicted S#n` before the place `end`. Returns where it starts.
 fn put_outcome(line: &mut [u8], outcome: Offered, end: usize) -> usize
     requires room { 59 ≤ end }
     requires within { end ≤ length line.old }
@@ -81,7 +82,7 @@ fn put_outcome(line: &mut [u8], outcome: Offered, end: usize) -> usize
     }
 }
 
-/// Puts `S#n L` or `none`.
+/// Puts `S#n L` or `none` before the place `end`. Returns where it starts.
 fn put_result(line: &mut [u8], got: Option<Packet>, end: usize) -> usize
     requires room { 62 ≤ end }
     requires within { end ≤ length line.old }
@@ -95,7 +96,7 @@ fn put_result(line: &mut [u8], got: Option<Packet>, end: usize) -> usize
     }
 }
 
-/// Puts `S#n L`.
+/// Puts `S#n L` before the place `end`. Returns where it starts.
 fn put_packet(line: &mut [u8], packet: Packet, end: usize) -> usize
     requires room { 62 ≤ end }
     requires within { end ≤ length line.old }
@@ -108,7 +109,7 @@ fn put_packet(line: &mut [u8], packet: Packet, end: usize) -> usize
     put_name(line, packet, end)
 }
 
-/// Puts `S#n`.
+/// Puts `S#n` before the place `end`. Returns where it starts.
 fn put_name(line: &mut [u8], packet: Packet, end: usize) -> usize
     requires room { 41 ≤ end }
     requires within { end ≤ length line.old }
@@ -121,7 +122,7 @@ fn put_name(line: &mut [u8], packet: Packet, end: usize) -> usize
     put_number(line, u64::from(packet.sender), end)
 }
 
-/// Puts the line of a command before this place, and gives where it starts.
+/// Puts the line of a command before the place `end`. Returns where it starts.
 #[inline(always)]
 pub fn put_command(line: &mut [u8], command: Command, end: usize) -> usize
     requires room { 64 ≤ end }
@@ -145,7 +146,7 @@ pub fn put_command(line: &mut [u8], command: Command, end: usize) -> usize
     }
 }
 
-/// Puts the number of a device, unless that is 0.
+/// Puts the number of a device before the place `end`, unless it is 0. Returns where it starts.
 #[inline(always)]
 fn put_named_device(line: &mut [u8], device: u16, end: usize) -> usize
     requires room { 21 ≤ end }
@@ -161,7 +162,7 @@ fn put_named_device(line: &mut [u8], device: u16, end: usize) -> usize
     put(line, b" ", end)
 }
 
-/// Puts the line of a drain from this moment on, in ticks, before this place, and gives where it starts.
+/// Puts the line of a drain from this moment on, in ticks, before the place `end`. Returns where it starts.
 #[inline(always)]
 pub fn put_drain(line: &mut [u8], moment: u64, end: usize) -> usize
     requires room { 64 ≤ end }

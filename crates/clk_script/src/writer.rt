@@ -61,7 +61,7 @@ impl ScriptWriter {
         Ok(())
     }
 
-    /// Whether the record may go on with a line of this moment, in ticks, or of none.
+    /// Whether the record may go on with a line of this moment, in ticks, or of no moment.
     fn has_room(&self, moment: Option<u64>) -> bool
         ensures yes { result ≡ true → HasRoom self.now.lines moment }
         ensures no { result ≡ false → HasRoom self.now.lines moment → ⊥ }
@@ -73,7 +73,7 @@ impl ScriptWriter {
         is_early && self.lines < MAX_LINES
     }
 
-    /// Ends the record without a drain: writes what is held.
+    /// Ends the record without a drain, and writes what is held.
     ///
     /// # Errors
     ///
@@ -90,7 +90,7 @@ impl ScriptWriter {
         held.write(sink)
     }
 
-    /// Ends the record by the drain that closed the router from this moment on, in ticks: adds its line, and writes what is held.
+    /// Ends the record with the drain of all devices from this moment on, in ticks: adds its line, and writes what is held.
     ///
     /// # Errors
     ///

@@ -1,4 +1,4 @@
-//! The writing of an answer, which takes no memory.
+//! Writing an answer, without allocating.
 
 ghost use Rattle.std.specs.Prelude.{◌≡◌, ◌≤◌, ◌+◌, ◌++◌, drop, length, slice_get, IfSome};
 ghost use Rattle.std.specs.List.{flat_map};
@@ -18,11 +18,11 @@ use clk_packet::{Fault, Offered, Packet, Sink};
 use clk_report::{MAX_DEVICES, report_counts};
 use clk_sched::Departure;
 
-/// Writes the lines of an answer, and the report where the router was closed.
+/// Writes the lines of an answer, and the report if the script has a drain.
 ///
 /// # Errors
 ///
-/// Fault 20 where the sink fails. It has taken a front of these then.
+/// Fault 20 if the sink fails. It has then taken a front of these lines.
 pub fn write_answer<W: Sink>(answer: &Answer, writer: &mut W) -> Result<(), Fault>
     requires few { length answer.now.past.emitted.items ≤ MAX_DEVICES }
     requires closings { IfSome answer.now.closing (λ closings. length closings.items ≤ MAX_DEVICES) }
@@ -55,7 +55,7 @@ fn are_several(past: &Past) -> bool
     past.emitted.len() > 1
 }
 
-/// The packets that pulls gave before the closing, in order, and perhaps more.
+/// The packets that pulls gave before the drain, in order. With a single device those of the drain follow them.
 fn given_of(past: &Past) -> &[Packet]
     ensures { result.now ≡ given_of past.now }
 {
@@ -65,7 +65,7 @@ fn given_of(past: &Past) -> &[Packet]
     }
 }
 
-/// Adds the lines of some rows, where these packets came out from the first of them on, and these were put out.
+/// Adds the lines of these rows. `emitted` has the packets that pulls gave, from the first row on, and `put_out` those that were evicted.
 fn write_rows<W: Sink>(
     lines: &mut Lines,
     several: bool,
@@ -89,7 +89,8 @@ fn write_rows<W: Sink>(
     Ok(())
 }
 
-/// Puts the line of a row, and gives where it starts, and what is left of these packets that came out and that were put out.
+/// Puts the line of a row. Returns where it starts, and what is left after the row of the packets that were given and of those that were
+/// evicted.
 #[inline(always)]
 fn put_row<'a>(
     line: &mut [u8],
@@ -126,8 +127,7 @@ fn put_row<'a>(
     }
 }
 
-/// Puts the line of a send of this packet, of which this became, and gives where it starts, and what is left of these packets that were put
-/// out.
+/// Puts the line of a send of this packet with this outcome. Returns where it starts, and what is left of the packets that were evicted.
 #[inline(always)]
 fn put_send<'a>(
     line: &mut [u8],
@@ -165,7 +165,7 @@ fn first(packets: &[Packet]) -> (Option<Packet>, &[Packet])
     }
 }
 
-/// Adds the lines of the closings of devices, from this number on, in which these packets came out.
+/// Adds the lines of the drains of devices, from this number on. `closings` has the packets that each device emitted in its drain.
 fn write_closings<W: Sink>(
     lines: &mut Lines,
     several: bool,
@@ -185,7 +185,7 @@ fn write_closings<W: Sink>(
     write_closings(lines, several, device + 1, closings, writer)
 }
 
-/// Adds a line for each of these packets that came out.
+/// Adds a line for each packet that the device emitted in its drain.
 fn write_departures<W: Sink>(
     lines: &mut Lines,
     several: bool,
@@ -205,7 +205,7 @@ fn write_departures<W: Sink>(
     Ok(())
 }
 
-/// Puts the line of a packet that came out at the device, and gives where it starts.
+/// Puts the line of a packet that the device emitted in its drain. Returns where it starts.
 #[inline(always)]
 fn put_departure(line: &mut [u8], several: bool, device: u16, departure: Departure) -> usize
     requires within { 128 ≤ length line.old }

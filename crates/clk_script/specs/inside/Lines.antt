@@ -5,8 +5,7 @@ use Rattle.clk_packet.specs.declared.fault.Fault.{Fault}
 use Rattle.clk_packet.specs.declared.fault.Fault.TheVariants.{Write}
 use Rattle.clk_packet.specs.Bytes.{AppendsFront}
 
--- What was held and a text were passed on: a front of them was written, and what follows it is held now. Or the sink failed once, after a
--- front of them.
+-- A front of what was held and a text was written, and the rest is held now. Or the sink failed once, after a front of the two.
 pub record Passes (old new : Option (List ℕ)) (before after : ℕ) (result : Result (Unit {0}) Fault) (held text holds : List ℕ) : Type 0 where
   pub passed : OnOk result ((written : List ℕ) × (held ++ text ≡ written ++ holds) × Appends old new written)
   pub front : OnErr result (AppendsFront old new (held ++ text))

@@ -29,17 +29,19 @@ use Rattle.clk_script.specs.Meaning.{names_of, command_of, has_several, given_te
 abbrev pub tally_made : ℕ → Tally
 tally_made sender = record { sender = sender; accepted = []; refused = []; evicted = [] }
 
--- a tally once a packet, where it is its sender's, was accepted, refused, and put out
+-- a tally after a packet was accepted, if it is its sender's
 abbrev pub taken_in : Packet → Tally → Tally
 taken_in p t = record { sender = t.sender; accepted = t.accepted ++ of_sender t.sender (p ∷ []); refused = t.refused; evicted = t.evicted }
 
+-- a tally after a packet was refused, if it is its sender's
 abbrev pub turned_away : Packet → Tally → Tally
 turned_away p t = record { sender = t.sender; accepted = t.accepted; refused = t.refused ++ of_sender t.sender (p ∷ []); evicted = t.evicted }
 
+-- a tally after a packet was evicted, if it is its sender's
 abbrev pub put_out : Packet → Tally → Tally
 put_out p t = record { sender = t.sender; accepted = t.accepted; refused = t.refused; evicted = t.evicted ++ of_sender t.sender (p ∷ []) }
 
--- a tally once a packet was offered, by its sender or another, with this outcome
+-- a tally after a packet was offered, by its sender or another, with this outcome
 abbrev pub noted : Packet → Offered → Tally → Tally
 noted p Accepted t = taken_in p t
 noted p (Refused q) t = turned_away p t
@@ -49,25 +51,26 @@ noted p (Evicted front) t = put_out front (taken_in p t)
 abbrev pub numbers_in : List Counts → List ℕ
 numbers_in counts = map (λ c. c.sender) counts
 
--- a sender's counts stand at this place
+-- some sender's counts stand at this place
 abbrev pub IsPlace : List Counts → ℕ → Type 0
 IsPlace counts place = place < length counts
 
--- those of this sender stand at this place
+-- the counts of this sender stand at this place
 abbrev pub IsPlaceOf : List Counts → ℕ → ℕ → Type 0
 IsPlaceOf counts sender place = slice_get (numbers_in counts) place ≡ Some sender
 
--- There is room to count one packet more, whatever becomes of it.
+-- There is room to count one more packet, whatever its outcome.
 pub record HasRoomForOne (c : Counts) : Type 0 where
   pub sent : HasRoom 1 c.sent
   pub accepted : HasRoom 1 c.accepted
   pub refused : HasRoom 1 c.refused
   pub evicted : HasRoom 1 c.evicted
 
--- what a script may name over senders of these numbers, and so many devices
+-- what a script may name: senders of these numbers, and the first `devices` devices
 abbrev pub named_by : List ℕ → ℕ → Names
 named_by numbers devices = record { senders = numbers; devices = devices }
 
+-- what a script may name over the router of a recorder
 abbrev pub names_in : Recorder → Names
 names_in r = names_of r.router.setup
 
@@ -79,7 +82,7 @@ pub record IsAt (setup : Setup) (events : List Event) (r : Recorder) : Type 0 wh
   pub counts : r.counts.items ≡ map counts_of (map (tally_after events) (sender_numbers setup))
   pub evicted : r.evicted.items ≡ filter_map evicted_in events
 
--- Nothing has happened over such a setup, which has a device, not too many, and senders by rising numbers.
+-- Nothing has happened over this setup. It has at least one device and not too many, and senders by rising numbers.
 pub record Starts (setup : Setup) (r : Recorder) : Type 0 where
   pub some : 1 ≤ length setup.trees
   pub few : length setup.trees ≤ most_elements
@@ -88,25 +91,25 @@ pub record Starts (setup : Setup) (r : Recorder) : Type 0 where
   pub given : r.given.items ≡ []
   pub keeps : r.router.keeps.packets ≡ true
 
--- a command whose numbers are those of a script
+-- a command whose numbers are in the range of a script
 abbrev pub IsReadable : Command → Type 0
 IsReadable (Send sender length) = 1 ≤ length
 IsReadable (Pull device moment) = moment ≤ most_moment
 
--- the numbers of a line are those of a script
+-- a line whose numbers are in the range of a script
 abbrev pub IsReadableLine : Line → Type 0
 IsReadableLine line.Blank = ⊤
 IsReadableLine line.Malformed = ⊤
 IsReadableLine (line.Command command) = IsReadable command
 IsReadableLine (line.Drain moment) = moment ≤ most_moment
 
--- a command that names what is there
+-- a command that names a sender or a device that exists
 abbrev pub IsSound : Names → Command → Type 0
 IsSound names (Send sender length) = (list_any (λ s. s == sender) names.senders ≡ true) × (1 ≤ length)
 IsSound names (Pull device moment) = device < names.devices
 
--- What has happened is less than what a script may ask for, so that there is room to count one packet more, and the counts stand by rising
--- numbers of the senders.
+-- No more has happened than a script may ask for, so there is room to count one more packet. The counts stand by rising numbers of the
+-- senders.
 pub record IsReady (r : Recorder) : Type 0 where
   pub few : length r.router.events ≤ most_lines
   pub readable : AllByRecursion IsReadable (map command_of r.router.events)
@@ -114,7 +117,7 @@ pub record IsReady (r : Recorder) : Type 0 where
   pub rising : AreRising (numbers_in r.counts.items)
   pub room : All HasRoomForOne r.counts.items
 
--- These are the logs of the devices, where visits are kept.
+-- These are the logs of the devices, if visits are kept.
 abbrev pub AreLogs : Bool → Past → List (List Visit) → Type 0
 AreLogs visits past logs = visits ≡ true → lists_of past.logs.items ≡ logs
 
@@ -132,35 +135,35 @@ pub record LeadsOnByPull (setup : Setup) (new : Recorder) (device moment : ℕ) 
   pub result : result_of (visits_of 0 visits) ≡ got
   pub leads : IsAt setup (events ++ pulled device moment visits ∷ []) new
 
--- what a pull gave is kept where there are several devices
+-- the packets that pulls gave, after one more pull; they are kept only if there are several devices
 abbrev pub given_kept : Recorder → Option Packet → List Packet
 given_kept r got = if nat_lt 1 (length r.router.setup.trees) then r.given.items ++ cons_option got [] else r.given.items
 
--- nothing of a recorder changes but what pulls gave
+-- Only the kept packets that pulls gave changed in a recorder.
 abbrev pub ChangesGiven : Recorder → Recorder → Type 0
 ChangesGiven old new = new ≡ record old { given = new.given }
 
--- the packets that were put out, with that of an outcome
+-- the packets that were evicted, after one more offer
 abbrev pub evicted_kept : Offered → List Packet → List Packet
 evicted_kept (Evicted front) fronts = fronts ++ front ∷ []
 evicted_kept outcome fronts = fronts
 
--- the line of a packet that came out in a closing
+-- the line of a packet that a device emitted in its drain
 abbrev pub departure_text : Bool → ℕ → Departure → List ℕ
 departure_text several device departure = given_text several device departure.moment (Some departure.packet)
 
--- The closing of a device from a moment on led on from these events, and these packets came out.
+-- A drain of a device from a moment on led on from these events, and emitted these packets.
 pub record LeadsOnByDrain (setup : Setup) (new : Recorder) (device moment : ℕ) (events : List Event) (departures : List Departure) : Type 0 where
   pub last : List Event
   pub closes : Closes device moment (events_at setup device events) last
   pub lines : flat_map (closing_text (has_several setup)) last ≡ flat_map (departure_text (has_several setup) device) departures
   pub leads : IsAt setup (events ++ last) new
 
--- Nothing happened at other devices than this one.
+-- Nothing happened at other devices.
 abbrev pub StaysElsewhere : ℕ → Course → Course → Type 0
 StaysElsewhere device old new = (k : ℕ) → (device == k) ≡ false → events_of new k ≡ events_of old k
 
--- The closing of the first so many devices from a moment on led on from these events.
+-- The drain of the first `devices` devices from a moment on led on from these events.
 pub record LeadsOnByClosing (setup : Setup) (new : Recorder) (moment devices : ℕ) (events : List Event) : Type 0 where
   pub closed : List Event
   pub closes : CloseFirst setup moment devices events closed

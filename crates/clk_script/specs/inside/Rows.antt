@@ -1,4 +1,4 @@
--- What is kept of each command of a script, and what is written of it.
+-- What an answer keeps of each command of a script, and what it writes of it.
 use Rattle.std.specs.Prelude.{◌≡◌, ℕ, ◌<◌, ◌≤◌, List, [], ◌∷◌, ◌++◌, length, map, drop, ◌+◌, nat_lt, Bool, true, if◌then◌else◌, Option, Some, None, IfSome, Vec, slice_get}
 use Rattle.std.specs.Option.{is_some}
 use Rattle.std.specs.List.{flat_map, filter_map, cons_option, AllByRecursion, AllZip}
@@ -31,29 +31,30 @@ abbrev pub command_asked : Row → Command
 command_asked (row.Send fate place p) = Send p.sender p.length
 command_asked (row.Pull gave device moment) = Pull device moment
 
--- a row, if there is one
+-- the row of a line as a list: one, or none
 abbrev pub rows_of : Option Row → List Row
 rows_of row = cons_option row []
 
--- the commands of some rows, and that of a line, if it holds one
+-- the commands of these rows
 abbrev pub asked_by : List Row → List Command
 asked_by rows = map command_asked rows
 
+-- the command of a line as a list: one, or none
 abbrev pub asked_in : Line → List Command
 asked_in l = cons_option (command_in l) []
 
--- a row that can be carried out: its sender stands at its place, or its device is there and its moment is one of a script
+-- a row that can be carried out: its sender stands at its place, or its device exists and its moment is in range
 abbrev pub IsToDo : Names → Row → Type 0
 IsToDo names (row.Send fate place p) = slice_get names.senders place ≡ Some p.sender
 IsToDo names (row.Pull gave device moment) = (device < names.devices) × (moment ≤ most_moment)
 
--- what a row keeps of what became of a packet
+-- the outcome of an offer, as its row keeps it
 abbrev pub fate_of : Offered → Fate
 fate_of Accepted = fate.Accepted
 fate_of (Refused p) = fate.Refused
 fate_of (Evicted front) = fate.Evicting
 
--- the row of an event, where its sender, if it has one, stands at this place
+-- the row of an event; its sender, if it has one, stands at this place
 abbrev pub row_at : ℕ → Event → Row
 row_at place (offered p outcome) = row.Send (fate_of outcome) place p
 row_at place (pulled device moment visits) = row.Pull (is_some (result_of (visits_of 0 visits))) device moment
@@ -67,14 +68,14 @@ pub record IsReadFrom (lines : List Line) (script : Script) : Type 0 where
   pub rows : asked_by script.rows.items ≡ filter_map command_in lines
   pub closing : script.closing ≡ slice_get (filter_map drain_in lines) 0
 
--- A script can be run: it names what is there, has few rows, and its drain a moment of a script.
+-- A script can be run: it names only what exists, has few enough rows, and its drain has a moment in range.
 pub record CanBeRun (names : Names) (script : Script) : Type 0 where
   pub to_do : AllByRecursion (IsToDo names) script.rows.items
   pub few : length script.rows.items ≤ most_lines
   pub closing : IfSome script.closing (λ moment. moment ≤ most_moment)
 
--- More events led on from these: they are of the commands that were asked for, the rows are theirs, one each, and where there are several
--- devices what the pulls gave was added to what was kept of it.
+-- More events led on from these. They are those of the commands that were asked for, and each has its row. If there are several devices,
+-- the packets that pulls gave were added to those that were kept.
 pub record CarriesOut (setup : Setup) (old new : Recorder) (asked done : List Row) (events : List Event) : Type 0 where
   pub more : List Event
   pub theirs : asked_by asked ≡ map command_of more
@@ -83,71 +84,72 @@ pub record CarriesOut (setup : Setup) (old new : Recorder) (asked done : List Ro
   pub keeps : new.router.keeps ≡ old.router.keeps
   pub leads : IsAt setup (events ++ more) new
 
--- whatever events led to the router
+-- Carrying out these rows led on from any events that led to the old recorder.
 abbrev pub AnswersRows : Recorder → Recorder → List Row → List Row → Type 0
 AnswersRows old new asked done = (setup : Setup) (events : List Event) → IsAt setup events old → CarriesOut setup old new asked done events
 
--- what became of a packet that was accepted, where this one was put out for it
+-- the outcome of a packet that was accepted, with the packet that was evicted for it, if one was
 abbrev pub evicted_as : Option Packet → Offered
 evicted_as None = Accepted
 evicted_as (Some front) = Evicted front
 
--- what became of a packet, by what its row keeps of it, where this is the next that was put out
+-- the outcome of a packet by what its row keeps of it; `front` is the next packet that was evicted
 abbrev pub offered_as : Packet → Fate → Option Packet → Offered
 offered_as p fate.Accepted front = Accepted
 offered_as p fate.Refused front = Refused p
 offered_as p fate.Evicting front = evicted_as front
 
--- the line of a row, where these packets come out from it on, and these are put out
+-- the line of a row, if these packets are given and these are evicted from it on
 abbrev pub row_text : Bool → Row → List Packet → List Packet → List ℕ
 row_text several (row.Send fate place p) given fronts = offer_text p (offered_as p fate (slice_get fronts 0))
 row_text several (row.Pull gave device moment) given fronts = pull_text several device moment (if gave then slice_get given 0 else None)
 
--- what is left to come out after a row
+-- what is left of the packets that were given, after a row
 abbrev pub given_after : Row → List Packet → List Packet
 given_after (row.Send fate place p) given = given
 given_after (row.Pull gave device moment) given = if gave then drop 1 given else given
 
--- what is left to be put out after a packet of which this became, and after a row
+-- what is left of the packets that were evicted, after an offer with this outcome
 abbrev pub fronts_left : Fate → List Packet → List Packet
 fronts_left fate.Evicting fronts = drop 1 fronts
 fronts_left fate fronts = fronts
 
+-- what is left of the packets that were evicted, after a row
 abbrev pub fronts_after : Row → List Packet → List Packet
 fronts_after (row.Send fate place p) fronts = fronts_left fate fronts
 fronts_after (row.Pull gave device moment) fronts = fronts
 
--- the lines of some rows
+-- the lines of these rows, if these packets are given and these are evicted from the first on
 abbrev pub rows_text : Bool → List Row → List Packet → List Packet → List ℕ
 rows_text several [] given fronts = []
 rows_text several (r ∷ rows) given fronts = row_text several r given fronts ++ rows_text several rows (given_after r given) (fronts_after r fronts)
 
--- what the closings of devices write, from this number on, in which these packets came out
+-- the lines of the drains of devices, from this number on, which emitted these packets
 abbrev pub closings_text : Bool → ℕ → List (List Departure) → List ℕ
 closings_text several device [] = []
 closings_text several device (departures ∷ closings) = flat_map (departure_text several device) departures ++ closings_text several (device + 1) closings
 
--- The first so many devices of a router were closed from a moment on, after these events: what came out in their closings writes what the
--- closing pulls do.
+-- The first `devices` devices of a router were drained from a moment on, after these events. The lines of the packets that they emitted are
+-- the lines of the pulls.
 pub record ClosesFirst (setup : Setup) (new : Recorder) (moment devices : ℕ) (closings : List (List Departure)) (events : List Event) : Type 0 where
   pub closing : LeadsOnByClosing setup new moment devices events
   pub lines : flat_map (closing_text (has_several setup)) closing.closed ≡ closings_text (has_several setup) 0 closings
 
--- The devices of a router were closed from a moment on, and these packets came out in the closing of each.
+-- The devices of a router were drained from a moment on, and each emitted these packets.
 pub record IsClosedAt (old new : Recorder) (moment : ℕ) (closings : List (List Departure)) : Type 0 where
   pub closings_count : length closings ≡ length old.router.setup.trees
   pub given : new.given ≡ old.given
   pub keeps : new.router.keeps ≡ old.router.keeps
   pub closes : (setup : Setup) (events : List Event) → IsAt setup events old → ClosesFirst setup new moment (length old.router.setup.trees) closings events
 
--- They were closed if there is a moment.
+-- The devices were drained from this moment on, if there is one.
 abbrev pub IsClosedFrom : Recorder → Recorder → Option ℕ → Option (List (List Departure)) → Type 0
 IsClosedFrom old new None None = new ≡ old
 IsClosedFrom old new None (Some closings) = ⊥
 IsClosedFrom old new (Some moment) None = ⊥
 IsClosedFrom old new (Some moment) (Some closings) = IsClosedAt old new moment closings
 
--- what came out in closings
+-- the packets that devices emitted in their drains, as lists
 abbrev pub closings_of : Option (Vec (Vec Departure Global) Global) → Option (List (List Departure))
 closings_of None = None
 closings_of (Some closings) = Some (lists_of closings.items)
@@ -156,15 +158,16 @@ closings_of (Some closings) = Some (lists_of closings.items)
 abbrev pub are_several : Past → Bool
 are_several past = nat_lt 1 (length past.emitted.items)
 
--- what the pulls of the script's commands gave, in order: where there is one device it is what came out of it
+-- the packets that pulls gave; with a single device they are the first that it emitted
 abbrev pub given_first : List (List Packet) → List Packet → List Packet
 given_first (only ∷ []) given = only
 given_first devices given = given
 
+-- the packets that pulls gave, of this past
 abbrev pub given_of : Past → List Packet
 given_of past = given_first (lists_of past.emitted.items) past.given.items
 
--- what the closing writes in which these packets came out, if there is one, and then the report
+-- the lines of the drain that emitted these packets, if there was one, and then the report
 abbrev pub ending_of : Past → Option (List (List Departure)) → List ℕ
 ending_of past None = []
 ending_of past (Some closings) = closings_text (are_several past) 0 closings ++ counts_text (all_emitted past.emitted.items) past.counts.items

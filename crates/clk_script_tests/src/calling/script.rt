@@ -9,8 +9,8 @@ use clk_script::{plans_have_at_most_one_meaning, run_script};
 use clk_tree::Plan;
 use std::alloc::Global;
 
-/// Runs a script that stands in memory over a plan. Where it succeeds the script has a meaning, and what is written is that meaning: no
-/// other text is one.
+/// Runs a script that stands in memory over a plan. If it succeeds, the script has a meaning, and that meaning is written: no other text is
+/// one.
 pub fn run_text<W: Sink>(
     alloc: Global,
     script: &[u8],
