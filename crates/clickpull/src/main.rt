@@ -20,7 +20,7 @@ fn main(rt: HostRuntime) -> ExitCode {
     }
 }
 
-/// Does what the words of the program ask for, and answers the status that it ends with.
+/// Does what the words of the program ask for. Returns the status that it ends with.
 fn run_words<H: Runtime + AllocGlobal + Threads + Wait + Sync, E: Sink>(
     rt: &H,
     errors: &mut E,
@@ -34,7 +34,7 @@ fn run_words<H: Runtime + AllocGlobal + Threads + Wait + Sync, E: Sink>(
     command(rt, rt, words, &mut reader, &mut writer, errors)
 }
 
-/// The words after the program's name, or None where a word isn't UTF-8. Fault 1 where memory is refused.
+/// The words after the program's name, or `None` if a word isn't UTF-8. Fault 1 if an allocation fails.
 fn words_given<H: Env + AllocGlobal>(rt: &H) -> Result<Option<Vec<String>>, Fault> {
     match env::args(rt) {
         Ok(words) => Ok(Some(words.skip(1).collect(rt.alloc())?)),

@@ -1,4 +1,4 @@
--- What running a trace over a plan writes, and why it is refused (this project's own definition).
+-- What running a trace over a plan writes, and why it fails (this project's own definition).
 use Rattle.std.specs.Prelude.{◌≡◌, ◌⊎◌, ℕ, Bool, true, false, List, ◌++◌, Option, Some, None, IfSome}
 use Rattle.std.specs.Io.KnownBytes.{Appends}
 use Rattle.std.specs.List.{flat_map}
@@ -18,13 +18,13 @@ use Rattle.clk_live_run.specs.Recorded.{run_record}
 use Rattle.clk_live_run.specs.Run.{IsFaultOfLive, LiveRunOf}
 use Rattle.clk_command.specs.declared.pace.Pace.{Pace}
 
--- Nothing is wrong with a trace, and this is what each sender sends by it.
+-- A trace has no fault, and says that each sender sends this.
 pub record Tells (trace : List ℕ) (traces : List (List Packet)) : Type 0 where
   pub sound : trace_fault trace ≡ None
   pub sent : (s : ℕ) → shown (sent_by traces s) ≡ sent s (pairs_of trace)
 
--- Running a trace over a plan writes this text, with these logs: the report of a run of the plan over what the trace tells, or over some
--- packets if its bytes aren't known. There may be several such texts, since runs may come to different things.
+-- Running a trace over a plan writes this text, with these logs: the report of a run of the plan over what the trace says, or over some
+-- packets if its bytes aren't known. There may be several such texts, since runs may differ.
 pub record RunWrites (plan : List Planned) (pace : Pace) (trace : Option (List ℕ)) (text : List ℕ) (logs : List (List Visit)) : Type 0 where
   pub traces : List (List Packet)
   pub tells : IfSome trace (λ bytes. Tells bytes traces)
@@ -33,22 +33,22 @@ pub record RunWrites (plan : List Planned) (pace : Pace) (trace : Option (List �
   pub came_to : IsRunWith plan traces pace.step pace.limit logs emitted tallies
   pub reported : text ≡ report_text (flat_map (λ packets. packets) emitted) tallies
 
--- A run of the plan over what the trace tells is refused with this fault.
+-- A run of the plan over what the trace says fails with this fault.
 pub record RefusesRun (plan : List Planned) (trace : Option (List ℕ)) (fault : Fault) : Type 0 where
   pub traces : List (List Packet)
   pub tells : IfSome trace (λ text. Tells text traces)
   pub refused : IsFaultOfRun plan traces fault
 
--- Why running a trace over a plan is refused with a fault: the writer failed, or the reader or the trace has it, or the run.
+-- Why running a trace over a plan fails with a fault: the writer failed, or the reader or the trace has it, or the run.
 abbrev pub ExplainsRun : List Planned → Option (List ℕ) → Fault → Type 0
 ExplainsRun plan trace fault = (fault ≡ Write) ⊎ (ExplainsTrace trace fault ⊎ RefusesRun plan trace fault)
 
--- Over the plan the script prints some lines and then the text, and its pulls make these logs.
+-- Over the plan the script prints some lines and then this text, and its pulls make these logs.
 abbrev pub EndsIn : List Planned → (script text : List ℕ) → List (List Visit) → Type 0
 EndsIn plan script text logs = (lines : List ℕ) × MeansOverWith plan script (lines ++ text) logs
 
--- Running a trace through inlets over a plan writes this text, and this script is its record: they are the report and the record of what a
--- run of the plan over what the trace tells came to. If the run was recorded, the script ends in the text.
+-- Running a trace through inlets over a plan writes this text, and this script is its record. They are the report and the record of a run
+-- of the plan over what the trace says. If the run was recorded, the script ends in the text.
 pub record LiveWrites (plan : List Planned) (pace : Pace) (trace : Option (List ℕ)) (recording : Bool) (text script : List ℕ) : Type 0 where
   pub traces : List (List Packet)
   pub tells : IfSome trace (λ bytes. Tells bytes traces)
@@ -56,19 +56,19 @@ pub record LiveWrites (plan : List Planned) (pace : Pace) (trace : Option (List 
   pub came_to : LiveRunOf plan traces pace.step pace.limit course (λ setup events closed. (text ≡ ending_text setup (Some 0) (events ++ closed)) × (script ≡ run_record events))
   pub means : recording ≡ true → (logs : List (List Visit)) × EndsIn plan script text logs
 
--- What a sink has of the script that records a run, if it had taken `old` before: nothing if the run was not to be recorded, else all of it,
--- or a front of it if the sink failed.
+-- A sink that had taken `old` before has this of the script that records a run: nothing if the run was not to be recorded, otherwise all of
+-- it, or a front of it if the sink failed.
 pub record HasRecord (recording failed : Bool) (old new : Option (List ℕ)) (script : List ℕ) : Type 0 where
   pub unrecorded : recording ≡ false → (new ≡ old) × (failed ≡ false)
   pub whole : recording ≡ true → failed ≡ false → Appends old new script
   pub front : recording ≡ true → failed ≡ true → AppendsFront old new script
 
--- A run of the plan through inlets over what the trace tells is refused with this fault.
+-- A run of the plan through inlets over what the trace says fails with this fault.
 pub record RefusesLive (plan : List Planned) (trace : Option (List ℕ)) (limit : ℕ) (recording : Bool) (fault : Fault) : Type 0 where
   pub traces : List (List Packet)
   pub tells : IfSome trace (λ text. Tells text traces)
   pub refused : IsFaultOfLive plan traces limit recording fault
 
--- Why running a trace through inlets over a plan is refused with a fault: a writer failed, or the reader or the trace has it, or the run.
+-- Why running a trace through inlets over a plan fails with a fault: a writer failed, or the reader or the trace has it, or the run.
 abbrev pub ExplainsLive : List Planned → Option (List ℕ) → ℕ → Bool → Fault → Type 0
 ExplainsLive plan trace limit recording fault = (fault ≡ Write) ⊎ (ExplainsTrace trace fault ⊎ RefusesLive plan trace limit recording fault)

@@ -1,4 +1,4 @@
--- What is done for each task, by the bytes of its files, where these are known: each source of bytes gives what it holds.
+-- What is done for each task, by the bytes of its files, if these are known.
 use Rattle.std.specs.Prelude.{◌≡◌, ◌≢◌, ◌⊎◌, ℕ, Bool, true, List, Option, None, Some, Result, OnOk, IfErr, IsErrOf}
 use Rattle.std.specs.Io.KnownBytes.{Appends, Keeps}
 use Rattle.clap.specs.Kinds.{Kinds, IsAmong}
@@ -28,14 +28,14 @@ pub record IsCanonicalOf (tree : Option (List ℕ)) (text : List ℕ) : Type 0 w
   pub is_plan : IsPlanIn tree plan
   pub canonical : text ≡ canonical_text plan
 
--- A tree was read: its source did not fail, and its text denotes this plan, or some text does if its bytes aren't known. A task reads its
+-- A tree was read: its source did not fail, and its text denotes this plan; if its bytes aren't known, some text does. A task reads its
 -- second source only then.
 pub record WasTreeRead (tree : Option (List ℕ)) (before after : ℕ) : Type 0 where
   pub plan : List Planned
   pub is_plan : IsPlanIn tree plan
   pub not_failed : after ≡ before
 
--- Why reading a plan is refused with a fault: memory ran out, the source failed, or its text has the fault.
+-- Why reading a plan fails with a fault: an allocation or the source failed, or the text has the fault.
 abbrev pub ExplainsTree : Option (List ℕ) → Fault → Type 0
 ExplainsTree tree fault = ((fault ≡ Memory) ⊎ (fault ≡ Read)) ⊎ OfBytes tree (λ text. HasFault text fault)
 
@@ -71,7 +71,7 @@ pub record LivesOver (tree trace : Option (List ℕ)) (pace : Pace) (recording :
   pub is_plan : IsPlanIn tree plan
   pub writes : LiveWrites plan pace trace recording text script
 
--- Such a run was recorded, and its visit file is this: the one of the record, as a script that ends in the report.
+-- A run was recorded whose record is this script, which ends in the report, and this is the visit file of the record.
 pub record LivesWithVisits (tree trace : Option (List ℕ)) (pace : Pace) (text script visits : List ℕ) : Type 0 where
   pub plan : List Planned
   pub is_plan : IsPlanIn tree plan
@@ -80,8 +80,8 @@ pub record LivesWithVisits (tree trace : Option (List ℕ)) (pace : Pace) (text 
   pub ends : EndsIn plan script text logs
   pub csv : visits ≡ visits_text logs
 
--- What a call has written that writes a text and, after all of it, a visit file to a sink of its own: both where it succeeded. Where a sink
--- failed, a front of the text and no visits, or the text and a front of the visits; and at any other fault nothing.
+-- A call writes a text and then a visit file to a sink of its own. If it succeeded, it wrote both. If a sink failed, it wrote a front of
+-- the text and no visits, or the text and a front of the visits. At any other fault it wrote nothing.
 pub record WroteBoth {T : Type 0} (Means : List ℕ → List ℕ → Type 0) (old new : Option (List ℕ)) (result : Result T Fault) (visits_old visits_new : Option (List ℕ)) : Type 0 where
   pub whole : OnOk result ((text : List ℕ) × (visits : List ℕ) × Means text visits × Appends old new text × Appends visits_old visits_new visits)
   pub front : IsErrOf result Write → (text : List ℕ) × (visits : List ℕ) × Means text visits
@@ -92,7 +92,7 @@ pub record WroteBoth {T : Type 0} (Means : List ℕ → List ℕ → Type 0) (ol
 abbrev pub builtin_text : List ℕ
 builtin_text = TEXT.now
 
--- What was done for a task, where the standard input held these bytes: a text that it tells of was written. Files hold some bytes.
+-- This was done for a task, if standard input held these bytes: one of the task's texts was written. The bytes of files aren't known.
 abbrev pub Does : Task → Option (List ℕ) → (List ℕ → Type 0) → Type 0
 Does builtin input Written = (text : List ℕ) × WritesOver (Some builtin_text) input text × Written text
 Does (check tree) input Written = (text : List ℕ) × IsCanonicalOf None text × Written text
@@ -102,7 +102,7 @@ Does (run tree trace step limit visits) input Written =
 Does (live tree trace step limit record_file visits) input Written =
     (text : List ℕ) × (script_text : List ℕ) × (pace : Pace) × (pace.step ≡ step) × (pace.limit ≡ limit) × LivesOver None None pace (is_recorded record_file visits) text script_text × Written text
 
--- Help or the version was asked for, and words were wrong, by the kinds of error that clap may answer.
+-- Help or the version was asked for: clap may return an error of that kind.
 abbrev pub IsQuestion : Kinds → Type 0
 IsQuestion kinds = IsAmong DisplayHelp kinds ⊎ IsAmong DisplayVersion kinds
 
@@ -110,21 +110,20 @@ IsQuestion kinds = IsAmong DisplayHelp kinds ⊎ IsAmong DisplayVersion kinds
 abbrev pub IsMistake : Kinds → Type 0
 IsMistake kinds = (kind : ErrorKind) × IsAmong kind kinds × (kind ≢ DisplayHelp) × (kind ≢ DisplayVersion)
 
--- Why a script over a tree is refused with a fault: a writer failed, memory ran out, the tree has it, or the script over its plan.
+-- Why a script over a tree fails with a fault: a writer failed, or the tree has it, or the script over its plan.
 abbrev pub ExplainsScriptOver : Option (List ℕ) → Option (List ℕ) → Fault → Type 0
 ExplainsScriptOver tree input fault = ((fault ≡ Write) ⊎ ExplainsTree tree fault) ⊎ ((plan : List Planned) × IsPlanIn tree plan × ExplainsPlan plan input fault)
 
--- Why a run of a trace over a tree is refused with a fault: a writer failed, memory ran out, the tree has it, or the run over its plan.
+-- Why a run of a trace over a tree fails with a fault: a writer failed, or the tree has it, or the run over its plan.
 abbrev pub ExplainsRunOver : Option (List ℕ) → Option (List ℕ) → Fault → Type 0
 ExplainsRunOver tree trace fault = ((fault ≡ Write) ⊎ ExplainsTree tree fault) ⊎ ((plan : List Planned) × IsPlanIn tree plan × ExplainsRun plan trace fault)
 
--- Why a run of a trace through inlets over a tree is refused with a fault: a writer failed, memory ran out, the tree has it, or the run over
--- its plan.
+-- Why a run of a trace through inlets over a tree fails with a fault: a writer failed, or the tree has it, or the run over its plan.
 abbrev pub ExplainsLiveOver : Option (List ℕ) → Option (List ℕ) → ℕ → Bool → Fault → Type 0
 ExplainsLiveOver tree trace limit recording fault =
     ((fault ≡ Write) ⊎ ExplainsTree tree fault) ⊎ ((plan : List Planned) × IsPlanIn tree plan × ExplainsLive plan trace limit recording fault)
 
--- Why a task is refused with a fault, where the standard input held these bytes.
+-- Why a task fails with a fault, if standard input held these bytes.
 abbrev pub ExplainsTask : Task → Option (List ℕ) → Fault → Type 0
 ExplainsTask builtin input fault = ExplainsScriptOver (Some builtin_text) input fault
 ExplainsTask (check tree) input fault = (fault ≡ Write) ⊎ ExplainsTree None fault

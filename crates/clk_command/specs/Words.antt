@@ -1,5 +1,5 @@
 -- What the words after the program's name ask for. How a grammar reads words is clap's own definition (`matches_of`, `subcommand_of`), and
--- so is which kind of error comes where it takes none (`fault_of`).
+-- so is which kind of error it returns for words that it doesn't accept (`fault_of`).
 use Rattle.std.specs.Prelude.{◌≡◌, ◌^◌, ◌&&◌, ℕ, Bool, true, false, List, [], ◌∷◌, length, nat_lt, if◌then◌else◌, Option, Some, None, codes, unwrap_or, option_map, pos}
 use Rattle.std.specs.Option.{option_map_or}
 use Rattle.std.specs.List.{list_all}
@@ -17,7 +17,7 @@ use Rattle.clk_gate.specs.Limits.{most_step, most_limit}
 use Rattle.clk_command.specs.declared.words.Asked.{Asked}
 use Rattle.clk_command.specs.declared.words.Asked.TheVariants.{Builtin, Check, Script, Run, Live}
 
--- a word that names a file, and has to be there
+-- a word that names a file, and is required
 abbrev pub file_word : Text → Rule
 file_word name = record (new_rule name) { required = true }
 
@@ -25,7 +25,7 @@ file_word name = record (new_rule name) { required = true }
 abbrev pub file_option : Text → Rule
 file_option name = record (new_rule name) { long = Some name; value_names = 1 }
 
--- `--name N`, a number from 1 to `most`, and what it is where it is left out
+-- `--name N`, a number from 1 to `most`, with a default
 abbrev pub number_option : Text → ℕ → Text → Rule
 number_option name most default = record (new_rule name) {
   long = Some name;
@@ -56,24 +56,25 @@ run_words = with_rule (traced_words (codes "run")) (file_option (codes "visits")
 abbrev pub live_words : App
 live_words = with_rule (with_rule (traced_words (codes "live")) (file_option (codes "record"))) (file_option (codes "visits"))
 
--- what stands above the commands: the first word isn't the program's name
+-- the program without its commands: the first word isn't the program's name
 abbrev pub top_words : App
 top_words = on_top (λ s. record s { no_binary_name = true; has_version = true }) (new_app (codes "clickpull"))
 
--- the four, or no words at all, or a question for help or the version
+-- the words of the program: one of four commands, no words at all, or a question for help or the version
 abbrev pub program_words : App
 program_words = with_subcommand (with_subcommand (with_subcommand (with_subcommand top_words check_words.top) script_words.top) run_words.top) live_words.top
 
--- An argument, and a command with its subcommands, read words as these say.
+-- An argument reads words by this rule.
 pub record IsWord (arg : Arg) (rule : Rule) : Type 0 where
   pub reads : rule_of arg ≡ rule
   pub local : arg.global ≡ false
 
+-- A command with its subcommands reads words by this grammar.
 pub record Reads (command : Command) (app : App) : Type 0 where
   pub reads : app_of command ≡ app
   pub local : (fields_of command).has_globals ≡ false
 
--- what the words ask for: files are named by their paths
+-- what the words ask for; files are named by their paths
 pub data Task : Type 0 where
   builtin : Task
   check : Text → Task
@@ -87,11 +88,11 @@ is_recorded None None = false
 is_recorded None (Some visits) = true
 is_recorded (Some record_file) visits = true
 
--- digits of a number that 32 bits hold
+-- whether these are the digits of a number of 32 bits
 abbrev pub is_number : Text → Bool
 is_number digits = nat_lt 0 (length digits) && list_all (λ d. nat_lt (digit_value d) 10) digits && nat_lt (digits_value 10 digits) (2 ^ 32)
 
--- the number that digits, after a plus sign if there is one, are of, and 1 of any other text
+-- the number whose digits follow a plus sign, if there is one; 1 for any other text
 abbrev pub number_or_one : Text → ℕ
 number_or_one text = if is_number (without_leading_plus text) then digits_value 10 (without_leading_plus text) else 1
 
@@ -99,17 +100,19 @@ number_or_one text = if is_number (without_leading_plus text) then digits_value 
 abbrev pub within_one_and : ℕ → ℕ → ℕ
 within_one_and most n = if nat_lt n 1 then 1 else (if nat_lt most n then most else n)
 
--- the number from 1 to `most` that an option gave
+-- the number from 1 to `most` that an option has, or its default
 abbrev pub number_of : List Row → Text → ℕ → ℕ
 number_of rows name most = within_one_and most (option_map_or number_or_one (one_of name rows) 1)
 
+-- the path that a required word has, or no bytes if the word is missing
 abbrev pub path_of : List Row → Text → Text
 path_of rows name = unwrap_or (first_of name rows) []
 
+-- a borrowed text
 abbrev pub text_of : Bor Text → Text
 text_of t = t.now
 
--- what is asked for, with the paths as they read
+-- what is asked for, with the texts of the paths
 abbrev pub task : Asked → Task
 task Builtin = builtin
 task (Check tree) = check tree.now
@@ -126,6 +129,7 @@ task_by name rows =
     else if bytes_eq name (codes "live") then live (path_of rows (codes "TREE")) (path_of rows (codes "TRACE")) (number_of rows (codes "step") most_step) (number_of rows (codes "limit") most_limit) (first_of (codes "record") rows) (first_of (codes "visits") rows)
     else builtin
 
+-- what the words ask for by their command, if they have one
 abbrev pub task_of : Option (Text × List Row) → Task
 task_of None = builtin
 task_of (Some found) = task_by found.0 found.1

@@ -1,4 +1,4 @@
-//! The whole program, over what stands for standard input, output and error.
+//! The whole program, over values that stand for standard input, output and error.
 
 ghost use Rattle.std.specs.Prelude.{◌≡◌, ◌≢◌, ◌+◌, ◌⊎◌, [], Ok, None, Some, true, false, map, option_map, IfOk, IfErr, OnOk};
 ghost use Rattle.std.specs.String.{string_bytes};
@@ -33,28 +33,29 @@ use std::rt::Files;
 use std::sync::Wait;
 use std::thread::Threads;
 
-/// Does what the words after the program's name ask for, and answers the status that the program ends with: 0 where it
-/// is done, 2 where the words are wrong, which `errors` is told. Help and the version are written to `writer`.
+/// Does what the words after the program's name ask for. Returns the status that the program ends with: 0 if that is done, or 2 if the
+/// words are wrong; then it writes why to `errors`. It writes help and the version to `writer`.
 ///
-/// - No words: the script on `reader` runs over the built-in tree.
-/// - `check TREE`: the canonical text of the tree in the file TREE is written to `writer`.
-/// - `script TREE SCRIPT [--visits FILE]`: the script in the file SCRIPT runs over the tree in the file TREE, which is read
-///   and checked before SCRIPT is opened. After the answer its visits are written to FILE, as CSV, where that is named.
-/// - `run TREE TRACE [--step N] [--limit N] [--visits FILE]`: the trace in the file TRACE runs over the tree in the file TREE, which
-///   is read and checked before TRACE is opened, from a thread for each sender, and the report is written to `writer`. While they
-///   run a device is pulled once each `--step` ticks, `--limit` times at most. The visits go to FILE as those of a script do.
+/// - No words: runs the script on `reader` over the built-in tree.
+/// - `check TREE`: writes the canonical text of the tree in the file TREE to `writer`.
+/// - `script TREE SCRIPT [--visits FILE]`: runs the script in the file SCRIPT over the tree in the file TREE. The tree is read and checked
+///   before SCRIPT is opened. After the answer its visits are written to FILE, as CSV, if a FILE is named.
+/// - `run TREE TRACE [--step N] [--limit N] [--visits FILE]`: runs the trace in the file TRACE over the tree in the file TREE, with a
+///   thread for each sender, and writes the report to `writer`. The tree is read and checked before TRACE is opened. While senders send,
+///   each device is pulled once each `--step` ticks, at most `--limit` times. The visits go to FILE as those of a script do.
 ///
-/// - `live TREE TRACE [--step N] [--limit N] [--record FILE] [--visits FILE]`: as `run`, but each sender offers to an inlet of its own, and
-///   one consumer takes packets from all inlets and pulls the devices. The record of the run is written to the FILE of `--record`, as a
-///   script that ends in the same report, and the visits of that script to the FILE of `--visits`.
+/// - `live TREE TRACE [--step N] [--limit N] [--record FILE] [--visits FILE]`: runs a trace as `run` does, but each sender offers to an
+///   inlet of its own, and one consumer takes packets from all inlets and pulls the devices. The record of the run is written to the FILE
+///   of `--record`, as a script that ends in the same report, and the visits of that script to the FILE of `--visits`.
 ///
-/// `rt` has the files and starts the threads, and `wait` waits for their queues.
+/// `rt` has the files and starts the threads, and `wait` waits for queues.
 ///
 /// # Errors
 ///
-/// 1 where memory or a thread is refused; 19 where a file can't be opened, or it or `reader` can't be read; 20 where `writer` or
-/// `errors` fails or, after the whole answer, FILE can't be made or written; else those of the tree, and then those of the script, or of
-/// the trace and its run. With `live`, FILE may have a front of the record at any fault.
+/// Fault 1 if an allocation fails or a thread can't be started. Fault 19 if a file can't be opened, or if it or `reader` can't be read.
+/// Fault 20 if `writer` or `errors` fails or, after the whole answer, FILE can't be created or written. Otherwise the faults of the tree,
+/// and then those of the script, or of the trace and its run. With `live`, the FILE of `--record` may have a front of the record at any
+/// fault.
 pub fn command<
     H: Files + AllocGlobal + Threads + Wait,
     P: Wait + Sync,
@@ -70,28 +71,28 @@ pub fn command<
     errors: &mut E,
 ) -> Result<u8, Fault>
     ensures status { IfOk result (λ status. (status ≡ 0) ⊎ (status ≡ 2)) }
-    // With status 0 help or the version was asked for, or what the words ask for was done.
+    // With status 0, help or the version was asked for, or what the words ask for was done.
     ensures done { result ≡ Ok 0 → IsQuestion (fault_of program_words (map string_bytes words.items))
         ⊎ ((fault_of program_words (map string_bytes words.items) ≡ [])
         × Does (task_in (map string_bytes words.items)) (R.Source.remaining reader.old) (λ text. Appends (W.Sink.taken writer.old) (W.Sink.taken writer.new) text)) }
-    // With status 2 the words are wrong.
+    // With status 2, the words are wrong.
     ensures mistaken { result ≡ Ok 2 → IsMistake (fault_of program_words (map string_bytes words.items)) }
-    // What is done tells `errors` nothing.
+    // With status 0, nothing is written to `errors`.
     ensures silent { result ≡ Ok 0 → errors.new ≡ errors.old }
-    // Where the words are wrong, nothing is read or written but why.
+    // If the words are wrong, nothing is read, and nothing is written to `writer`.
     ensures refused { result ≡ Ok 2 → (reader.new ≡ reader.old) × (writer.new ≡ writer.old) }
-    // At a fault nothing is written, but where a write failed.
+    // At a fault nothing is written to `writer`, unless a write failed.
     ensures nothing { IfErr result (λ fault. fault ≢ Write → Keeps (W.Sink.taken writer.old) (W.Sink.taken writer.new)) }
-    // At such a fault, but for 1, the words are right, and what they ask for has it.
+    // At a fault other than 1 and 20 the words are right, and what they ask for has the fault.
     ensures fault { IfErr result (λ fault. fault ≢ Write → fault ≢ Memory → (fault_of program_words (map string_bytes words.items) ≡ [])
         × ExplainsTask (task_in (map string_bytes words.items)) (R.Source.remaining reader.old) fault) }
-    // Where `writer` or `errors` failed the fault is 20.
+    // If `writer` or `errors` failed, the fault is 20.
     ensures write_failures { (W.Sink.failures writer.new + E.Sink.failures errors.new ≡ W.Sink.failures writer.old + E.Sink.failures errors.old)
         ⊎ (W.Sink.failures writer.new + E.Sink.failures errors.new ≡ write_failures result (W.Sink.failures writer.old + E.Sink.failures errors.old)) }
-    // Where the words name no file, a read of `reader` failed exactly where the fault is 19. Else `reader` is as it was.
+    // If the words name no file, a read of `reader` failed exactly if the fault is 19. Otherwise `reader` is unchanged.
     ensures read_failures { task_in (map string_bytes words.items) ≡ builtin → R.Source.failures reader.new ≡ read_failures result (R.Source.failures reader.old) }
     ensures unread { (task_in (map string_bytes words.items) ≡ builtin) ⊎ (reader.new ≡ reader.old) }
-    // `reader` is read to one byte past the limit of scripts at most.
+    // At most one byte past the limit of scripts is read from `reader`.
     ensures limit { Takes (most_script_bytes + 1) (R.Source.remaining reader.old) (R.Source.remaining reader.new) }
 {
     match asked_by(rt.alloc(), &words) {
@@ -103,7 +104,7 @@ pub fn command<
     }
 }
 
-/// Does what the words ask for. A file is opened as it is first read or written.
+/// Does what the words ask for. Opens a file when it is first read or written.
 fn perform<H: Files + AllocGlobal + Threads + Wait, P: Wait + Sync, R: Source, W: Sink>(
     rt: &H,
     wait: &P,
@@ -160,7 +161,7 @@ fn script_builtin<R: Source, W: Sink>(
     run_script(alloc, reader, writer, &plan)
 }
 
-/// Runs a script over a tree, both in files, and writes its visits to a third, where that is named.
+/// Runs a script over a tree, both in files, and writes its visits to a third file, if one is named.
 fn script_files<H: Files + AllocGlobal, W: Sink>(
     rt: &H,
     tree: &str,
@@ -184,7 +185,7 @@ fn script_files<H: Files + AllocGlobal, W: Sink>(
     }
 }
 
-/// Runs a trace over a tree, both in files, and writes its visits to a third, where that is named.
+/// Runs a trace over a tree, both in files, and writes its visits to a third file, if one is named.
 fn run_files<H: Files + AllocGlobal + Threads + Wait, P: Wait + Sync, W: Sink>(
     rt: &H,
     wait: &P,
@@ -220,7 +221,7 @@ fn run_files<H: Files + AllocGlobal + Threads + Wait, P: Wait + Sync, W: Sink>(
     }
 }
 
-/// Runs a trace through inlets over a tree, both in files, and writes its record and its visits to two more, where these are named.
+/// Runs a trace through inlets over a tree, both in files, and writes its record and its visits to two more files, if these are named.
 fn live_files<H: Files + AllocGlobal + Threads + Wait, P: Wait + Sync, W: Sink>(
     rt: &H,
     wait: &P,
@@ -247,7 +248,7 @@ fn live_files<H: Files + AllocGlobal + Threads + Wait, P: Wait + Sync, W: Sink>(
     }
 }
 
-/// Runs a trace through inlets over a tree, both in files, and writes the record to a sink if it is to be recorded.
+/// Runs a trace through inlets over a tree, both in files, and writes the record to a sink, if it is to be recorded.
 fn live_to<H: Files + AllocGlobal + Threads + Wait, P: Wait + Sync, R: Sink + Drop, W: Sink>(
     rt: &H,
     wait: &P,
@@ -272,7 +273,7 @@ fn live_to<H: Files + AllocGlobal + Threads + Wait, P: Wait + Sync, R: Sink + Dr
     Ok(())
 }
 
-/// Runs a trace through inlets over a tree, both in files, and writes the record to a sink and its visits to a third file.
+/// Runs a trace through inlets over a tree, both in files. Writes the record to a sink, and the visits of the record to a third file.
 fn live_visits_to<H: Files + AllocGlobal + Threads + Wait, P: Wait + Sync, R: Sink + Drop, W: Sink>(
     rt: &H,
     wait: &P,
@@ -310,12 +311,12 @@ fn nowhere() -> ToWrite<io::Sink> {
     ToWrite::new(io::sink())
 }
 
-/// What the file at a path holds.
+/// A source of what the file at a path holds.
 fn source<'a, H: Files>(rt: &'a H, path: &'a str) -> FromRead<FileToRead<'a, H>> {
     FromRead::new(FileToRead::at(rt, path))
 }
 
-/// What is written to the file at a path.
+/// A sink that writes to the file at a path.
 fn sink<'a, H: Files>(rt: &'a H, path: &'a str) -> ToWrite<FileToWrite<'a, H>> {
     ToWrite::new(FileToWrite::at(rt, path))
 }
@@ -329,7 +330,7 @@ fn builtin_plan(alloc: Global) -> Result<Plan, Fault>
     Plan::read(alloc, builtin::TEXT.as_bytes())
 }
 
-/// Writes why the words are refused to `errors`, and what was asked of clap itself, as help, to `writer`.
+/// Writes why the words are wrong to `errors`, or help or the version to `writer`. Returns the status that the program ends with.
 fn tell<W: Sink, E: Sink>(
     alloc: Global,
     error: &Error,

@@ -1,4 +1,5 @@
-//! Examples of what words ask for, of trees that were read, and of what is written with visits: functions whose contracts tell it.
+//! Examples of what words ask for, of trees that were read, and of what is written with visits. The functions do nothing; their contracts
+//! are the examples.
 
 ghost use Rattle.std.specs.Prelude.{◌≡◌, ◌∷◌, [], List, None, Some, codes};
 ghost use Rattle.clap.specs.Faults.{fault_of};
@@ -11,7 +12,7 @@ ghost use Rattle.clk_tree.specs.Plan.{Planned};
 ghost use Rattle.clk_command.specs.Tasks.{IsPlanIn, WasTreeRead, WroteBoth, builtin_text};
 ghost use Rattle.clk_command.specs.Words.{program_words, task_in, builtin, check, script, run, live};
 
-/// What some words ask for, and which kinds of error come where they are wrong.
+/// What some words ask for, and which kinds of error some wrong words cause.
 pub fn word_examples()
     ensures none { (fault_of program_words [] ≡ []) × (task_in [] ≡ builtin) }
     ensures checks { (fault_of program_words (codes "check" ∷ codes "T" ∷ []) ≡ []) × (task_in (codes "check" ∷ codes "T" ∷ []) ≡ check (codes "T")) }
@@ -37,8 +38,9 @@ pub fn tree_examples()
     ensures not_with_a_fault { ¬ (WasTreeRead (Some (codes "s")) 0 0) }
 {}
 
-/// How no task with visits ends, whose text and visit file have a byte each: it succeeds without its visits, these are written without the
-/// text where a sink failed or memory ran out, or the text is written without them where memory ran out or at another fault.
+/// How no task with visits ends, whose text and visit file have one byte each. It doesn't succeed without its visits; it doesn't write the
+/// visits without the text, whether a sink or an allocation failed; and it doesn't write the text without them if an allocation failed or
+/// at another fault.
 pub fn visits_examples()
     ensures not_without_visits { ¬ (WroteBoth IsOneByteEach (Some []) (Some (65 ∷ [])) success (Some []) (Some [])) }
     ensures not_visits_alone { ¬ (WroteBoth IsOneByteEach (Some []) (Some []) (failed Write) (Some []) (Some (66 ∷ []))) }

@@ -1,4 +1,4 @@
-//! The line that tells a fault.
+//! The line of a fault.
 
 ghost use Rattle.std.specs.Prelude.{◌++◌, codes, decimal};
 ghost use Rattle.std.specs.List.{flat_map};
@@ -8,8 +8,8 @@ ghost use Rattle.clk_packet.specs.Fault.{fields_of, fault_text};
 use clk_packet::{Fault, Sink, write_all};
 use itoa::Buffer;
 
-/// Writes the line of a fault: `fault`, its number, its name and its fields. Takes no memory; where the sink fails, it
-/// has taken a front of the line (fault 20).
+/// Writes the line of a fault: `fault`, its number, its name and its fields. Doesn't allocate. Fault 20 if the sink fails; it has then
+/// taken a front of the line.
 pub fn fault_line<W: Sink>(fault: Fault, writer: &mut W) -> Result<(), Fault>
     ensures { Wrote (W.Sink.taken writer.old) (W.Sink.taken writer.new)
         (W.Sink.failures writer.old) (W.Sink.failures writer.new) result (fault_text fault) }
@@ -22,7 +22,7 @@ pub fn fault_line<W: Sink>(fault: Fault, writer: &mut W) -> Result<(), Fault>
     write_all(writer, b"\n")
 }
 
-/// Writes a space and the number for each field of a fault.
+/// Writes a space and the number of each field of a fault.
 fn write_fields_of<W: Sink>(writer: &mut W, fault: Fault) -> Result<(), Fault>
     ensures { Wrote (W.Sink.taken writer.old) (W.Sink.taken writer.new)
         (W.Sink.failures writer.old) (W.Sink.failures writer.new) result (flat_map (λ n. codes " " ++ decimal n) (fields_of fault)) }

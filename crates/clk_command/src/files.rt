@@ -1,10 +1,10 @@
-//! Files that are opened as they are first read or written, so that a file is opened only once all before it was sound.
+//! Files that are opened when they are first read or written, so that a file is opened only after all before it was sound.
 
 use std::fs;
 use std::io::{Read, Result, Write};
 use std::rt::Files;
 
-/// A file to read, which is opened at its first read. That it can't be opened is an error of that read.
+/// A file to read. Its first read opens it, and fails if it can't be opened.
 #[derive(Drop)]
 pub struct FileToRead<'a, H: Files> {
     rt: &'a H,
@@ -35,7 +35,7 @@ impl<'a, H: Files> Read for FileToRead<'a, H> {
     }
 }
 
-/// A file to write, which is made at its first write, or overwritten where it is there. That it can't be made is an error of that write.
+/// A file to write. Its first write creates it, or overwrites it if it exists, and fails if it can't be created.
 #[derive(Drop)]
 pub struct FileToWrite<'a, H: Files> {
     rt: &'a H,

@@ -3,7 +3,7 @@
 use clk_packet::{Failed, Failures, Sink};
 use std::alloc::Global;
 
-/// A sink that keeps all that it takes in memory, and fails where an allocation does.
+/// A sink that keeps all that it takes in memory. It fails if an allocation fails.
 #[derive(Drop)]
 pub struct Kept {
     pub bytes: Vec<u8>,

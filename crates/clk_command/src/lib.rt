@@ -1,4 +1,5 @@
-//! The program, over what stands for standard input, output and error: what its words ask for, runs of traces, and the lines of faults.
+//! The program, over values that stand for standard input, output and error: what its words ask for, runs of traces, and the lines of
+//! faults.
 #![tactic(auto)]
 
 mod builtin;

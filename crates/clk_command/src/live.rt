@@ -1,4 +1,4 @@
-//! One trace, over a plan, through inlets, and the record of the run.
+//! Running one trace over a plan, through inlets, and the record of the run.
 
 ghost use Rattle.std.specs.Prelude.{◌≡◌, ◌≢◌, ◌+◌, true, Some, IfOk, IfErr, IsOkUnless};
 ghost use Rattle.clk_packet.specs.Bytes.{Takes, read_failures, write_failures};
@@ -27,17 +27,18 @@ use std::sync::Wait;
 use std::thread::Threads;
 
 /// Reads a trace to its end, runs it over a plan through inlets, and writes the report. Each sender, on a thread of its own, offers what it
-/// sends to an inlet, while one consumer takes packets from the inlets and pulls each device at this pace; then what is left is drained.
+/// sends to an inlet. Meanwhile one consumer takes packets from the inlets and pulls each device at this pace. Then the devices are
+/// drained.
 ///
 /// If the run is to be recorded, `sink` takes the script of all that happens while senders send, and of the drain, as it happens. Returns
 /// the sink, and whether it failed. It has then taken a front of the record, and the run went on without it.
 ///
 /// # Errors
 ///
-/// In this order: 1 if an allocation or the start of a thread fails; 19 if the reader fails; 18 for a trace of more than 33,554,432 bytes;
-/// then by records 18 at record 1,000,001 and 14 for one that isn't a sender and a length; 15 with the least sender that the plan doesn't
-/// have; 18 if the run is to be recorded and the packets of the trace and the pulls that the pace lets devices make are 1,000,000 or more;
-/// 20 if the writer fails, which has then taken a front of the report. At any other nothing is written.
+/// Fault 1 if an allocation fails or a thread can't be started. Otherwise, in this order: 19 if the reader fails; 18 for a trace of more
+/// than 33,554,432 bytes; then, by records, 18 for record 1,000,001 and 14 for one that isn't a sender and a length; 15 with the least
+/// sender that the plan doesn't have; 18 if the run is to be recorded and the packets of the trace, with the pulls that the pace allows,
+/// are 1,000,000 or more; 20 if the writer fails. The writer has then taken a front of the report. At any other fault nothing is written.
 pub fn live_trace<H: Threads + Wait, P: Wait + Sync, S: Source, W: Sink, R: Sink + Drop>(
     rt: &H,
     alloc: Global,
@@ -59,14 +60,14 @@ pub fn live_trace<H: Threads + Wait, P: Wait + Sync, S: Source, W: Sink, R: Sink
     ensures read_failures { S.Source.failures trace.new ≡ read_failures result (S.Source.failures trace.old) }
     ensures write_failures { W.Sink.failures writer.new ≡ write_failures result (W.Sink.failures writer.old) }
 
-    // The reader is read to one byte past the limit at most.
+    // At most one byte past the limit is read.
     ensures limit { Takes (most_trace_bytes + 1) (S.Source.remaining trace.old) (S.Source.remaining trace.new) }
 {
     let traces = Traces::read_csv(alloc, trace)?;
     let outcome = run_live(
         rt, alloc, wait, plan, &traces, pace.step, pace.limit, &Free, recording, sink,
     )?;
-    // What the record means, by a law, which does nothing.
+    // This law, which does nothing, says what the record means.
     records_of_plans_mean_their_course(plan);
     let LiveOutcome {
         live,
@@ -89,7 +90,7 @@ pub struct Replayed {
 ///
 /// # Errors
 ///
-/// Those of `live_trace`, for a run that is recorded, but for 20.
+/// Those of `live_trace` for a run that is recorded, except 20.
 pub fn replayed_trace<H: Threads + Wait, P: Wait + Sync, S: Source>(
     rt: &H,
     alloc: Global,
@@ -126,7 +127,7 @@ pub fn replayed_trace<H: Threads + Wait, P: Wait + Sync, S: Source>(
     if write_failed {
         return Err(Fault::Memory);
     }
-    // What the record means, and that it means nothing else, by laws, which do nothing.
+    // These laws, which do nothing, say what the record means, and that it means nothing else.
     records_of_plans_mean_their_course(plan);
     plans_have_at_most_one_meaning(plan);
     let logs = replay(alloc, plan, &sink.bytes)?;
@@ -137,11 +138,11 @@ pub fn replayed_trace<H: Threads + Wait, P: Wait + Sync, S: Source>(
     })
 }
 
-/// The logs of a record that is replayed.
+/// Replays a record, and returns its logs.
 ///
 /// # Errors
 ///
-/// Fault 1 if an allocation fails. Nothing else can: the record has no fault, and stands in memory.
+/// Fault 1 if an allocation fails. There is no other fault: the record has none, and stands in memory.
 fn replay(alloc: Global, plan: &Plan, script: &[u8]) -> Result<Vec<Vec<Visit>>, Fault>
     ensures logs { IfOk result (λ logs. (text : _) × MeansOverWith plan.now script.now text (lists_of logs.items)) }
     ensures fault { IsOkUnless result Memory }

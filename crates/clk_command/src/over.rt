@@ -1,4 +1,4 @@
-//! What each command does, over what stands for its files: sources of a tree, and of a script or a trace, and a sink for the visits.
+//! What each command does, over values that stand for its files: sources of a tree, and of a script or a trace, and a sink for the visits.
 
 ghost use Rattle.std.specs.Prelude.{◌≡◌, ◌≢◌, ◌+◌, ◌⊎◌, true, false, IfOk, IfErr, OnOk};
 ghost use Rattle.std.specs.Io.KnownBytes.{Appends};
@@ -24,11 +24,11 @@ use std::alloc::Global;
 use std::sync::Wait;
 use std::thread::Threads;
 
-/// Reads the plan of a tree text, to one byte past the limit of 1,048,576 at most.
+/// Reads the plan of a tree text. Reads at most one byte past the limit of 1,048,576 bytes.
 ///
 /// # Errors
 ///
-/// In this order: 1 where memory is refused; 19 where the source fails; else those of the text, as of `Plan::read`.
+/// Fault 1 if an allocation fails. Otherwise fault 19 if the source fails, and then the faults of the text, as of `Plan::read`.
 pub fn read_plan<T: Source>(alloc: Global, tree: &mut T) -> Result<Plan, Fault>
     ensures plan { IfOk result (IsPlanIn (T.Source.remaining tree.old)) }
     ensures fault { IfErr result (ExplainsTree (T.Source.remaining tree.old)) }
@@ -44,7 +44,7 @@ pub fn read_plan<T: Source>(alloc: Global, tree: &mut T) -> Result<Plan, Fault>
 ///
 /// # Errors
 ///
-/// Those of `read_plan`, at which nothing is written; 20 where the writer fails, which has taken a front of the text then.
+/// Those of `read_plan`, at which nothing is written. Fault 20 if the writer fails; it has then taken a front of the text.
 pub fn check_tree<T: Source, W: Sink>(
     alloc: Global,
     tree: &mut T,
@@ -60,11 +60,11 @@ pub fn check_tree<T: Source, W: Sink>(
     write_all(writer, &text)
 }
 
-/// Runs a script over a tree, which is read and checked before any byte of the script is read.
+/// Runs a script over a tree. Reads and checks the tree before it reads any byte of the script.
 ///
 /// # Errors
 ///
-/// Those of `read_plan`, and then those of `run_script`. At any but 20 nothing is written.
+/// Those of `read_plan`, and then those of `run_script`. At any other fault than 20 nothing is written.
 pub fn script_over<T: Source, S: Source, W: Sink>(
     alloc: Global,
     tree: &mut T,
@@ -74,25 +74,26 @@ pub fn script_over<T: Source, S: Source, W: Sink>(
     ensures wrote { WroteWhat (WritesOver (T.Source.remaining tree.old) (S.Source.remaining script.old))
         result (W.Sink.taken writer.old) (W.Sink.taken writer.new) }
     ensures fault { IfErr result (ExplainsScriptOver (T.Source.remaining tree.old) (S.Source.remaining script.old)) }
-    // A read of one of the two failed exactly where the fault is 19.
+    // A read of one of the two failed exactly if the fault is 19.
     ensures read_failures { T.Source.failures tree.new + S.Source.failures script.new
         ≡ read_failures result (T.Source.failures tree.old + S.Source.failures script.old) }
     ensures write_failures { W.Sink.failures writer.new ≡ write_failures result (W.Sink.failures writer.old) }
-    // Each source is read to one byte past its limit at most.
+    // At most one byte past its limit is read from each source.
     ensures tree_limit { Takes (most_tree_bytes + 1) (T.Source.remaining tree.old) (T.Source.remaining tree.new) }
     ensures script_limit { Takes (most_script_bytes + 1) (S.Source.remaining script.old) (S.Source.remaining script.new) }
-    // The script is as it was, unless the tree was read.
+    // The script is unchanged, unless the tree was read.
     ensures script_unread { (script.new ≡ script.old) ⊎ WasTreeRead (T.Source.remaining tree.old) (T.Source.failures tree.old) (T.Source.failures tree.new) }
 {
     let plan = read_plan(alloc, tree)?;
     run_script(alloc, script, writer, &plan)
 }
 
-/// The same, and after the answer the visits are written, as CSV.
+/// Runs a script over a tree as `script_over` does, and writes its visits after the answer, as CSV.
 ///
 /// # Errors
 ///
-/// Those of `script_over`; of the visits 20 where their sink fails, after the whole answer. At any but 20 nothing is written.
+/// Those of `script_over`. Fault 20 also if the sink of the visits fails, after the whole answer. At any other fault than 20 nothing is
+/// written.
 pub fn script_with_visits<T: Source, S: Source, W: Sink, V: Sink>(
     alloc: Global,
     tree: &mut T,
@@ -103,15 +104,15 @@ pub fn script_with_visits<T: Source, S: Source, W: Sink, V: Sink>(
     ensures wrote { WroteBoth (WritesWithVisits (T.Source.remaining tree.old) (S.Source.remaining script.old))
         (W.Sink.taken writer.old) (W.Sink.taken writer.new) result (V.Sink.taken visits.old) (V.Sink.taken visits.new) }
     ensures fault { IfErr result (ExplainsScriptOver (T.Source.remaining tree.old) (S.Source.remaining script.old)) }
-    // A read of one of the two failed exactly where the fault is 19.
+    // A read of one of the two failed exactly if the fault is 19.
     ensures read_failures { T.Source.failures tree.new + S.Source.failures script.new
         ≡ read_failures result (T.Source.failures tree.old + S.Source.failures script.old) }
     ensures write_failures { ((W.Sink.failures writer.new ≡ write_failures result (W.Sink.failures writer.old)) × (V.Sink.failures visits.new ≡ V.Sink.failures visits.old))
         ⊎ ((W.Sink.failures writer.new ≡ W.Sink.failures writer.old) × (V.Sink.failures visits.new ≡ write_failures result (V.Sink.failures visits.old))) }
-    // Each source is read to one byte past its limit at most.
+    // At most one byte past its limit is read from each source.
     ensures tree_limit { Takes (most_tree_bytes + 1) (T.Source.remaining tree.old) (T.Source.remaining tree.new) }
     ensures script_limit { Takes (most_script_bytes + 1) (S.Source.remaining script.old) (S.Source.remaining script.new) }
-    // The script is as it was, unless the tree was read.
+    // The script is unchanged, unless the tree was read.
     ensures script_unread { (script.new ≡ script.old) ⊎ WasTreeRead (T.Source.remaining tree.old) (T.Source.failures tree.old) (T.Source.failures tree.new) }
 {
     let plan = read_plan(alloc, tree)?;
@@ -119,11 +120,11 @@ pub fn script_with_visits<T: Source, S: Source, W: Sink, V: Sink>(
     visits_csv(&logs, visits)
 }
 
-/// Runs a trace over a tree, which is read and checked before any byte of the trace is read, and writes the report.
+/// Runs a trace over a tree, and writes the report. Reads and checks the tree before it reads any byte of the trace.
 ///
 /// # Errors
 ///
-/// Those of `read_plan`, and then those of `run_trace`. At any but 20 nothing is written.
+/// Those of `read_plan`, and then those of `run_trace`. At any other fault than 20 nothing is written.
 pub fn run_over<H: Threads + Wait, P: Wait + Sync, T: Source, S: Source, W: Sink>(
     rt: &H,
     alloc: Global,
@@ -136,14 +137,14 @@ pub fn run_over<H: Threads + Wait, P: Wait + Sync, T: Source, S: Source, W: Sink
     ensures wrote { WroteWhat (ReportsOver (T.Source.remaining tree.old) (S.Source.remaining trace.old) pace)
         result (W.Sink.taken writer.old) (W.Sink.taken writer.new) }
     ensures fault { IfErr result (ExplainsRunOver (T.Source.remaining tree.old) (S.Source.remaining trace.old)) }
-    // A read of one of the two failed exactly where the fault is 19.
+    // A read of one of the two failed exactly if the fault is 19.
     ensures read_failures { T.Source.failures tree.new + S.Source.failures trace.new
         ≡ read_failures result (T.Source.failures tree.old + S.Source.failures trace.old) }
     ensures write_failures { W.Sink.failures writer.new ≡ write_failures result (W.Sink.failures writer.old) }
-    // Each source is read to one byte past its limit at most.
+    // At most one byte past its limit is read from each source.
     ensures tree_limit { Takes (most_tree_bytes + 1) (T.Source.remaining tree.old) (T.Source.remaining tree.new) }
     ensures trace_limit { Takes (most_trace_bytes + 1) (S.Source.remaining trace.old) (S.Source.remaining trace.new) }
-    // The trace is as it was, unless the tree was read.
+    // The trace is unchanged, unless the tree was read.
     ensures trace_unread { (trace.new ≡ trace.old) ⊎ WasTreeRead (T.Source.remaining tree.old) (T.Source.failures tree.old) (T.Source.failures tree.new) }
 {
     let plan = read_plan(alloc, tree)?;
@@ -151,11 +152,12 @@ pub fn run_over<H: Threads + Wait, P: Wait + Sync, T: Source, S: Source, W: Sink
     Ok(())
 }
 
-/// The same, and after the report the visits are written, as CSV.
+/// Runs a trace over a tree as `run_over` does, and writes its visits after the report, as CSV.
 ///
 /// # Errors
 ///
-/// Those of `run_over`; of the visits 20 where their sink fails, after the whole report. At any but 20 nothing is written.
+/// Those of `run_over`. Fault 20 also if the sink of the visits fails, after the whole report. At any other fault than 20 nothing is
+/// written.
 pub fn run_with_visits<H: Threads + Wait, P: Wait + Sync, T: Source, S: Source, W: Sink, V: Sink>(
     rt: &H,
     alloc: Global,
@@ -169,15 +171,15 @@ pub fn run_with_visits<H: Threads + Wait, P: Wait + Sync, T: Source, S: Source, 
     ensures wrote { WroteBoth (ReportsWithVisits (T.Source.remaining tree.old) (S.Source.remaining trace.old) pace)
         (W.Sink.taken writer.old) (W.Sink.taken writer.new) result (V.Sink.taken visits.old) (V.Sink.taken visits.new) }
     ensures fault { IfErr result (ExplainsRunOver (T.Source.remaining tree.old) (S.Source.remaining trace.old)) }
-    // A read of one of the two failed exactly where the fault is 19.
+    // A read of one of the two failed exactly if the fault is 19.
     ensures read_failures { T.Source.failures tree.new + S.Source.failures trace.new
         ≡ read_failures result (T.Source.failures tree.old + S.Source.failures trace.old) }
     ensures write_failures { ((W.Sink.failures writer.new ≡ write_failures result (W.Sink.failures writer.old)) × (V.Sink.failures visits.new ≡ V.Sink.failures visits.old))
         ⊎ ((W.Sink.failures writer.new ≡ W.Sink.failures writer.old) × (V.Sink.failures visits.new ≡ write_failures result (V.Sink.failures visits.old))) }
-    // Each source is read to one byte past its limit at most.
+    // At most one byte past its limit is read from each source.
     ensures tree_limit { Takes (most_tree_bytes + 1) (T.Source.remaining tree.old) (T.Source.remaining tree.new) }
     ensures trace_limit { Takes (most_trace_bytes + 1) (S.Source.remaining trace.old) (S.Source.remaining trace.new) }
-    // The trace is as it was, unless the tree was read.
+    // The trace is unchanged, unless the tree was read.
     ensures trace_unread { (trace.new ≡ trace.old) ⊎ WasTreeRead (T.Source.remaining tree.old) (T.Source.failures tree.old) (T.Source.failures tree.new) }
 {
     let plan = read_plan(alloc, tree)?;
@@ -185,13 +187,13 @@ pub fn run_with_visits<H: Threads + Wait, P: Wait + Sync, T: Source, S: Source, 
     visits_csv(&logs, visits)
 }
 
-/// Runs a trace through inlets over a tree, which is read and checked before any byte of the trace is read, and writes the report. If the run
-/// is to be recorded, `sink` takes its record, as it happens, and is returned.
+/// Runs a trace through inlets over a tree, and writes the report. Reads and checks the tree before it reads any byte of the trace. If the
+/// run is to be recorded, `sink` takes its record, as it happens. Returns `sink`.
 ///
 /// # Errors
 ///
-/// Those of `read_plan`, and then those of `live_trace`; 20 too if `sink` failed, after the whole report. At any but 20 nothing is
-/// written to `writer`.
+/// Those of `read_plan`, and then those of `live_trace`. Fault 20 also if `sink` failed, after the whole report. At any other fault than 20
+/// nothing is written to `writer`.
 pub fn live_over<H: Threads + Wait, P: Wait + Sync, T: Source, S: Source, W: Sink, R: Sink + Drop>(
     rt: &H,
     alloc: Global,
@@ -207,16 +209,16 @@ pub fn live_over<H: Threads + Wait, P: Wait + Sync, T: Source, S: Source, W: Sin
         × IfOk result (λ answer. HasRecord recording false (R.Sink.taken sink) (R.Sink.taken answer) script))
         result (W.Sink.taken writer.old) (W.Sink.taken writer.new) }
     ensures fault { IfErr result (ExplainsLiveOver (T.Source.remaining tree.old) (S.Source.remaining trace.old) pace.limit recording) }
-    // A read of one of the two failed exactly where the fault is 19.
+    // A read of one of the two failed exactly if the fault is 19.
     ensures read_failures { T.Source.failures tree.new + S.Source.failures trace.new
         ≡ read_failures result (T.Source.failures tree.old + S.Source.failures trace.old) }
     ensures write_failures { (W.Sink.failures writer.new ≡ W.Sink.failures writer.old)
         ⊎ (W.Sink.failures writer.new ≡ write_failures result (W.Sink.failures writer.old)) }
     ensures record_failures { IfOk result (λ answer. R.Sink.failures answer ≡ R.Sink.failures sink) }
-    // Each source is read to one byte past its limit at most.
+    // At most one byte past its limit is read from each source.
     ensures tree_limit { Takes (most_tree_bytes + 1) (T.Source.remaining tree.old) (T.Source.remaining tree.new) }
     ensures trace_limit { Takes (most_trace_bytes + 1) (S.Source.remaining trace.old) (S.Source.remaining trace.new) }
-    // The trace is as it was, unless the tree was read.
+    // The trace is unchanged, unless the tree was read.
     ensures trace_unread { (trace.new ≡ trace.old) ⊎ WasTreeRead (T.Source.remaining tree.old) (T.Source.failures tree.old) (T.Source.failures tree.new) }
 {
     let plan = read_plan(alloc, tree)?;
@@ -232,8 +234,8 @@ pub fn live_over<H: Threads + Wait, P: Wait + Sync, T: Source, S: Source, W: Sin
 ///
 /// # Errors
 ///
-/// Those of `live_over` for a run that is recorded; 20 too if `visits` fails, after the whole report and the whole script. At any but 20
-/// nothing is written.
+/// Those of `live_over` for a run that is recorded. Fault 20 also if `visits` fails, after the whole report and the whole script. At any
+/// other fault than 20 nothing is written.
 pub fn live_with_visits<
     H: Threads + Wait,
     P: Wait + Sync,
@@ -259,18 +261,18 @@ pub fn live_with_visits<
         (W.Sink.taken writer.old) (W.Sink.taken writer.new) result (V.Sink.taken visits.old) (V.Sink.taken visits.new) }
     ensures unrecorded { IfErr result (λ fault. fault ≢ Write → script.new ≡ script.old) }
     ensures fault { IfErr result (ExplainsLiveOver (T.Source.remaining tree.old) (S.Source.remaining trace.old) pace.limit true) }
-    // A read of one of the two failed exactly where the fault is 19.
+    // A read of one of the two failed exactly if the fault is 19.
     ensures read_failures { T.Source.failures tree.new + S.Source.failures trace.new
         ≡ read_failures result (T.Source.failures tree.old + S.Source.failures trace.old) }
-    // A write of one of the three failed exactly where the fault is 20.
+    // A write of one of the three failed exactly if the fault is 20.
     ensures write_failures { W.Sink.failures writer.new + R.Sink.failures script.new + V.Sink.failures visits.new
         ≡ write_failures result (W.Sink.failures writer.old + R.Sink.failures script.old + V.Sink.failures visits.old) }
     ensures write_failed { (W.Sink.failures writer.new ≡ W.Sink.failures writer.old)
         ⊎ (W.Sink.failures writer.new ≡ write_failures result (W.Sink.failures writer.old)) }
-    // Each source is read to one byte past its limit at most.
+    // At most one byte past its limit is read from each source.
     ensures tree_limit { Takes (most_tree_bytes + 1) (T.Source.remaining tree.old) (T.Source.remaining tree.new) }
     ensures trace_limit { Takes (most_trace_bytes + 1) (S.Source.remaining trace.old) (S.Source.remaining trace.new) }
-    // The trace is as it was, unless the tree was read.
+    // The trace is unchanged, unless the tree was read.
     ensures trace_unread { (trace.new ≡ trace.old) ⊎ WasTreeRead (T.Source.remaining tree.old) (T.Source.failures tree.old) (T.Source.failures tree.new) }
 {
     let plan = read_plan(alloc, tree)?;

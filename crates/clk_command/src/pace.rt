@@ -8,7 +8,7 @@ ghost use Rattle.clk_gate.specs.Limits.{most_limit, most_step};
 pub struct Pace {
     /// How many ticks lie between two pulls of a device, from 1 to 1,000.
     pub step: u32,
-    /// How often a device is pulled at most, from 1 to 1,000,000.
+    /// How often a device is pulled at most while producers run, from 1 to 1,000,000.
     pub limit: u32,
     ghost some_step: { 1 ≤ step },
     ghost step_within: { step ≤ most_step },

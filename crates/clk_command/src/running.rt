@@ -1,4 +1,4 @@
-//! One trace, over a plan, with producers on threads.
+//! Running one trace over a plan, with producers on threads.
 
 ghost use Rattle.std.specs.Prelude.{◌≡◌, ◌+◌, true, map, IfOk, IfErr};
 ghost use Rattle.clk_packet.specs.Bytes.{Takes, read_failures, write_failures};
@@ -17,16 +17,16 @@ use std::alloc::Global;
 use std::sync::Wait;
 use std::thread::Threads;
 
-/// Reads a trace to its end, runs it over a plan, and writes the report. A producer for each sender, on a thread of its own, offers
-/// what the sender sends, while each device is pulled at this pace; then what is left is drained. Answers the log of each device, packed,
-/// where visits are kept; where they aren't, the process keeps freed blocks from then on (`keep_freed`).
+/// Reads a trace to its end, runs it over a plan, and writes the report. A producer for each sender, on a thread of its own, offers what
+/// the sender sends. Meanwhile each device is pulled at this pace. Then the devices are drained. Returns the log of each device, packed, if
+/// `visits` is true; otherwise the process keeps freed blocks from then on (`keep_freed`).
 ///
 /// # Errors
 ///
-/// In this order: 1 at any refused growth of memory, or where a thread is refused; 19 where the reader fails; 18 for a trace of more
-/// than 33,554,432 bytes; then by records 18 at record 1,000,001 and 14 for one that isn't a sender and a length; 15 with the least
-/// sender that the plan hasn't; 21 where a queue lost packets though it accepted fewer than its capacity; 20 where the writer fails,
-/// which has then taken a front of the report. At any other nothing is written.
+/// Fault 1 if an allocation fails or a thread can't be started. Otherwise, in this order: 19 if the reader fails; 18 for a trace of more
+/// than 33,554,432 bytes; then, by records, 18 for record 1,000,001 and 14 for one that isn't a sender and a length; 15 with the least
+/// sender that the plan doesn't have; 21 if a queue lost packets though it accepted fewer than its capacity; 20 if the writer fails. The
+/// writer has then taken a front of the report. At any other fault nothing is written.
 pub fn run_trace<H: Threads + Wait, P: Wait + Sync, R: Source, W: Sink>(
     rt: &H,
     alloc: Global,
@@ -46,7 +46,7 @@ pub fn run_trace<H: Threads + Wait, P: Wait + Sync, R: Source, W: Sink>(
     ensures read_failures { R.Source.failures trace.new ≡ read_failures result (R.Source.failures trace.old) }
     ensures write_failures { W.Sink.failures writer.new ≡ write_failures result (W.Sink.failures writer.old) }
 
-    // The reader is read to one byte past the limit at most.
+    // At most one byte past the limit is read.
     ensures limit { Takes (most_trace_bytes + 1) (R.Source.remaining trace.old) (R.Source.remaining trace.new) }
 {
     if !visits {
@@ -56,7 +56,7 @@ pub fn run_trace<H: Threads + Wait, P: Wait + Sync, R: Source, W: Sink>(
     let outcome = run_with(
         rt, alloc, wait, plan, &traces, pace.step, pace.limit, &Free, visits,
     )?;
-    // How many devices there are at most is known where they are counted.
+    // Counting devices brings into scope how many there are at most.
     let _ = plan.devices();
     let PackedOutcome {
         emitted,

@@ -64,7 +64,7 @@ pub enum Asked<'a> {
 ///
 /// # Errors
 ///
-/// What clap answers: that the words are wrong, that help or the version is asked for, or that memory was refused.
+/// The error that clap returns: the words are wrong, help or the version is asked for, or an allocation failed.
 pub fn asked_by<'a>(alloc: Global, words: &'a [String]) -> Result<Asked<'a>, Error>
     ensures asked { IfOk result (λ asked. task asked ≡ task_in (map string_bytes words.now)) }
     ensures refused { FailsBy (fault_of program_words (map string_bytes words.now)) result }
@@ -102,7 +102,7 @@ fn asked_of<'a>(matches: &ArgMatches<'a>) -> Asked<'a>
     }
 }
 
-/// The path that a required word gave.
+/// The path that a required word has.
 fn path_of<'a>(matches: &ArgMatches<'a>, name: &str) -> &'a str
     ensures { result.now ≡ path_of (rows_of (found_of matches.now)) name.now }
 {
@@ -112,14 +112,14 @@ fn path_of<'a>(matches: &ArgMatches<'a>, name: &str) -> &'a str
     }
 }
 
-/// The path that an option gave, if it was there.
+/// The path that an option has, if it is there.
 fn option_of<'a>(matches: &ArgMatches<'a>, name: &str) -> Option<&'a str>
     ensures { option_map text_of result ≡ first_of name.now (rows_of (found_of matches.now)) }
 {
     matches.get_str(name)
 }
 
-/// The pace that two options gave.
+/// The pace that two options have.
 fn pace_of(matches: &ArgMatches<'_>) -> Pace
     ensures step { result.step ≡ number_of (rows_of (found_of matches.now)) (codes "step") most_step }
     ensures limit { result.limit ≡ number_of (rows_of (found_of matches.now)) (codes "limit") most_limit }
@@ -130,7 +130,7 @@ fn pace_of(matches: &ArgMatches<'_>) -> Pace
     }
 }
 
-/// The number from 1 to `most` that an option gave, or its default. clap lets no other through.
+/// The number from 1 to `most` that an option has, or its default. clap accepts no other number.
 fn number_of(matches: &ArgMatches<'_>, name: &str, most: u32) -> u32
     requires { 1 ≤ most }
     ensures some { 1 ≤ result }
@@ -200,7 +200,7 @@ fn program<'a>(alloc: Global) -> Result<Command<'a>, AllocError>
         .subcommand(live(alloc)?)
 }
 
-/// What stands above the commands.
+/// The program without its commands.
 fn top<'a>(alloc: Global) -> Result<Command<'a>, AllocError>
     ensures { IfOk result (λ c. Reads c top_words) }
 {
@@ -210,7 +210,7 @@ fn top<'a>(alloc: Global) -> Result<Command<'a>, AllocError>
         .bin_name("clickpull")
 }
 
-/// A command of this name without words, and what help says of it.
+/// A command with this name, without words, and what help says of it.
 fn titled<'a>(alloc: Global, name: &'a str, about: &'a str, more: &'a str) -> Command<'a>
     ensures { Reads result (new_app name.now) }
 {
