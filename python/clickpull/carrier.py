@@ -15,7 +15,7 @@ T = TypeVar("T")
 
 @dataclass(frozen=True, slots=True)
 class Carried(Generic[T]):
-    """A packet that came out, with its value and the moment of its pull, in ticks."""
+    """A packet that was emitted, with its value and the moment of its pull, in ticks."""
 
     packet: Packet
     moment: int
@@ -24,7 +24,7 @@ class Carried(Generic[T]):
 
 @dataclass(frozen=True, slots=True)
 class Evicted(Generic[T]):
-    """A packet that its queue put out, with its value."""
+    """A packet that its queue evicted, with its value."""
 
     packet: Packet
     value: T
@@ -32,7 +32,7 @@ class Evicted(Generic[T]):
 
 @dataclass(frozen=True, slots=True)
 class Offer(Generic[T]):
-    """A packet that was offered, whether its queue took it, and what the queue put out for it."""
+    """A packet that was offered, whether its queue accepted it, and the packet that the queue evicted for it."""
 
     packet: Packet
     accepted: bool
@@ -40,7 +40,7 @@ class Offer(Generic[T]):
 
 
 class Given(Generic[T]):
-    """Where a pull stores what it gives, so that an interrupted caller can tell whether it was given."""
+    """Where a pull stores the packet that it gives, so that an interrupted caller can tell whether it was given."""
 
     pair: tuple[Packet, T] | None = None
     """The packet and its value."""
@@ -51,31 +51,31 @@ def _packet(it: library.Packet) -> Packet:
 
 
 class Carrier(Generic[T]):
-    """A router that takes a value with each packet, and gives it back with it.
+    """A router that takes a value with each packet, and returns it with the packet.
 
     A call may be interrupted at any point, as Ctrl-C does by `KeyboardInterrupt`. No value then goes with another packet, and later
     calls work. What an interrupted call means for its caller:
 
     - `offer`: the packet may or may not have been offered. If it was, its value goes with it. Accounts of the router tell: a sender
-      has offered what was accepted and what was refused. A value that was refused or evicted is let go of.
-    - `pull`, `pulls` and `drain`: the next of these calls for the device gives the packet that was pulled, with the moment of that
-      pull. If the interrupt came after the value was taken out, as the call returned, the packet and its value are lost to the caller.
+      has offered what was accepted and what was refused. The carrier drops a value that was refused or evicted.
+    - `pull`, `pulls` and `drain`: the next of these calls for the device returns the packet that was pulled, with the moment of that
+      pull. If the interrupt came after the value was taken out, while the call returned, the caller loses the packet and its value.
     - `close`: calling it again shuts the router.
 
     No value is given twice.
     """
 
     # Values are found by sender and number. A value is stored before its packet is offered, and the library writes what it did into
-    # structures that stay, in the call that does it. So what was done is known after an interrupt, too:
+    # structures that stay, in the call that does it. So what was done is still known after an interrupt:
     #
-    # - The next number of a sender is the one after that of its latest offer. A value whose offer was interrupted before it was made
+    # - The next number of a sender is the one after that of its latest offer. If an interrupt comes before an offer is made, its value
     #   stands under this number, and the next offer's value takes its place.
     # - A packet that the latest pull of a device emitted was given to the caller if its value isn't here any more.
     #
     # The lock keeps other threads out. A thread may take it again, so that an interrupt can't block the thread that it comes to.
 
     def __init__(self, text: str | bytes) -> None:
-        """Makes a router of a text. Raises `TextFault` where it has one, and `MemoryError`."""
+        """Opens a router from a text. Raises `TextFault` if the text has a fault, and `MemoryError`."""
         self._router = Router(text)
         self._lock = RLock()
         self._values: dict[tuple[int, int], T] = {}
@@ -85,11 +85,11 @@ class Carrier(Generic[T]):
 
     @property
     def router(self) -> Router:
-        """The router, to ask about it. What it is offered, and what is pulled of it, goes through the carrier alone."""
+        """The router, to ask about its state. Offers and pulls go through the carrier alone."""
         return self._router
 
     def close(self) -> None:
-        """Shuts the router, and lets go of all values."""
+        """Shuts the router, and drops all values."""
         with self._lock:
             self._router.close()
             self._values.clear()
@@ -101,7 +101,7 @@ class Carrier(Generic[T]):
         self.close()
 
     def offer(self, sender: int, length: int, value: T) -> Offer[T]:
-        """The sender offers its next packet, of so many bytes, with this value."""
+        """The sender offers its next packet, of `length` bytes, with this value."""
         with self._lock:
             it = self._latest_offer(sender, length)
             key = sender, it.packet.number + 1 if it.packet.length else 0
@@ -120,17 +120,17 @@ class Carrier(Generic[T]):
             return Offer(_packet(it.packet), it.outcome != Outcome.REFUSED, evicted)
 
     def pull(self, moment: int, device: int = 0) -> Carried[T] | None:
-        """Pulls the device once, at this moment in ticks or, where that is later, at the greatest so far."""
+        """Pulls the device once, at this moment in ticks, or at the device's latest moment if that is later."""
         self._router._need_moment(moment)
         return self._next(device, lambda it: self._router._pull(moment, device, it.packet))
 
     def pulls(self, moment: int, device: int = 0) -> Iterator[Carried[T]]:
-        """Pulls the device at this moment, once for each packet that is asked for, up to the first pull that gives none."""
+        """Pulls the device at this moment, once for each packet that is asked for, up to the first pull that emits none."""
         while (it := self.pull(moment, device)) is not None:
             yield it
 
     def drain(self, device: int = 0, pulls: int | None = None) -> Iterator[Carried[T]]:
-        """Pulls the device one tick apart until all that is left for it came out, as `Router.drain` does."""
+        """Pulls the device one tick apart until all that is left for it is emitted, as `Router.drain` does."""
         return self._drained(device, self._router._most_pulls(pulls))
 
     def _drained(self, device: int, most: int) -> Iterator[Carried[T]]:
@@ -148,7 +148,7 @@ class Carrier(Generic[T]):
             return it.accepted.packets - it.evicted.packets - it.emitted.packets + waiting
 
     def _latest_offer(self, sender: int, length: int) -> library.Offered:
-        """What became of a sender's latest offer, whose value is let go of where that offer was interrupted before it could be."""
+        """A sender's latest offer. Drops the value that it refused or evicted, if an interrupt kept `offer` from dropping it."""
         self._router._need_open()
         self._router._need_offer(sender, length)
         if sender not in self._offers:
@@ -161,7 +161,7 @@ class Carrier(Generic[T]):
         return it
 
     def _next(self, device: int, pull: Callable[[library.Departure], bool]) -> Carried[T] | None:
-        """The packet that an interrupted call pulled of the device, and else the one that this call pulls."""
+        """The packet that an interrupted call pulled from the device, or else the one that this call pulls."""
         with self._lock:
             packet = self._pulled_packet(device, pull)
             if packet is None:
@@ -172,7 +172,7 @@ class Carrier(Generic[T]):
             return carried
 
     def _give(self, device: int, pull: Callable[[library.Departure], bool], given: Given[T]) -> None:
-        """Does what `_next` does for a caller that holds the lock, and stores the packet in `given`."""
+        """Does what `_next` does, for a caller that holds the lock, and stores the packet in `given`."""
         packet = self._pulled_packet(device, pull)
         if packet is None:
             return
@@ -183,7 +183,7 @@ class Carrier(Generic[T]):
         del self._values[key]
 
     def _pulled_packet(self, device: int, pull: Callable[[library.Departure], bool]) -> Packet | None:
-        """The packet that an interrupted call pulled of the device, and else the one that this call pulls. Its value is still here."""
+        """The packet that an interrupted call pulled from the device, or else the one that this call pulls. Its value is still here."""
         self._router._need_open()
         if not 0 <= device < len(self._pulled):
             raise UnknownDevice(f"there is no device {device}")
@@ -191,9 +191,9 @@ class Carrier(Generic[T]):
         return _packet(it.packet) if self._is_waiting(it.packet) or pull(it) else None
 
     def _waits(self, device: int) -> bool:
-        """Whether an interrupted call pulled a packet of the device that was not given yet."""
+        """Whether an interrupted call pulled a packet from the device that was not given yet."""
         return self._is_waiting(self._pulled[device].packet)
 
     def _is_waiting(self, it: library.Packet) -> bool:
-        """Whether a packet was pulled and not yet given. There is none of length 0 before the first pull."""
+        """Whether a packet was pulled and not yet given. Before the first pull its length is 0."""
         return it.length != 0 and (it.sender, it.number) in self._values

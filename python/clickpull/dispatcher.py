@@ -47,41 +47,41 @@ def _job(packet: Packet, value: T) -> Job[T]:
 class Dispatcher(Generic[T]):
     """Takes jobs from senders, and gives them to threads and tasks in the order in which a tree of schedulers pulls them.
 
-    Any thread may call `submit`, `next`, `next_async` and `close` at any time. `submit` never waits. `next` waits until a job is due: until one
-    is submitted, or a Shaper lets one pass. A tick is the time in which a Shaper of rate 1 lets one job pass.
+    Any thread may call `submit`, `next`, `next_async` and `close` at any time. `submit` never waits. `next` waits until a job is due: until
+    one is submitted, or a Shaper lets one pass. A tick is the time in which a Shaper of rate 1 lets one job pass.
 
     A dispatcher is a context manager, which closes it, and an iterator of the jobs of device 0: `for job in dispatcher` and, in asyncio,
-    `async for job in dispatcher` end once it is closed and all jobs were given. Each job is given once, also if several iterate.
+    `async for job in dispatcher` end once it is closed and all jobs were given. Each job is given once, even if several iterate.
 
     An interrupt, as by Ctrl-C, may come at any point of a call:
 
-    - `submit`: the job was submitted or it was not, and `router.accounts()` tells. A value that was refused or evicted is let go of.
-    - `next`, and a loop over jobs: no job is lost. A job that the interrupted call didn't return is the next one that its device gives. (On
-      Python 3.10 a loop may lose the job that it was about to give.)
+    - `submit`: the job was submitted or it was not; `router.accounts()` tells. The dispatcher drops a value that was refused or evicted.
+    - `next`, and a loop over jobs: no job is lost. The next call for the device returns the job that the interrupted call didn't return.
+      (On Python 3.10 a loop may lose the job that it was about to yield.)
     - `close`: calling it again closes the dispatcher.
 
-    Cancelling a task that waits in `next_async` loses no job either. A signal handler calls no dispatcher that the code which it interrupts may
+    Cancelling a task that waits in `next_async` loses no job either. A signal handler must call no dispatcher that the interrupted code may
     be calling.
     """
 
-    # No wake-up is lost. The takers that wait for a device stand in its line. The first in line watches: it sleeps no longer than to the
-    # moment that `due` told it. The others sleep until they are woken. Whoever wakes a taker takes it out of the line. This holds whenever
+    # No wake-up is lost. The takers that wait for a device stand in its line. The first in line watches: it sleeps only until the
+    # moment that `due` returned. The others sleep until they are woken. Whoever wakes a taker takes it out of the line. This holds whenever
     # the lock is free:
     #
-    #     If takers stand in the line of a device, and jobs are left for it or the dispatcher is closed, then the first in line watches, or a
-    #     taker that was in the line before is about to look.
+    #     If takers stand in the line of a device, and jobs are left for it or the dispatcher is closed, then the first in line watches, or
+    #     a taker that was in the line before is about to look.
     #
-    # - `submit` and `close` wake the first in line. They do so before they change anything, with the lock held. So no interrupt comes between
-    #   the change and the wake-up, and the woken taker looks after the change.
+    # - `submit` and `close` wake the first in line. They do so before they change anything, with the lock held. So no interrupt comes
+    #   between the change and the wake-up, and the woken taker looks after the change.
     # - A taker that gets a job wakes the next in line if there is something left to do. A taker that ends with an error wakes it, too.
     # - A taker that gets no job goes to the front of the line and watches. A new one goes to the back, if somebody watches already. A pull
-    #   that gives none brings no job forward: none is due earlier than the first in line was told.
+    #   that gives none brings no job forward: none is due earlier than `due` returned to the first in line.
     #
-    # Nobody tries again and again. A taker looks twice without sleeping only if a job is due and its pull gave none. Then a DRRSched saves up
-    # for a long job, and each pull adds a quantum.
+    # Nobody tries again and again. A taker looks twice without sleeping only if a job is due and its pull gave none. Then a DRRSched saves
+    # up for a long job, and each pull adds a quantum.
 
     def __init__(self, tree: str | bytes, *, tick: float = 0.001, clock: Clock | None = None) -> None:
-        """Makes a dispatcher of a tree's text, whose ticks take `tick` seconds and are counted from now.
+        """Opens a dispatcher from a tree's text. Its ticks take `tick` seconds and are counted from now.
 
         Raises `TextFault` if the text makes no router, `ValueError` if a tick is shorter than a nanosecond, and `MemoryError`.
         """
@@ -101,7 +101,7 @@ class Dispatcher(Generic[T]):
 
     @property
     def router(self) -> Router:
-        """The router, to ask about its accounts and queues. It is offered to and pulled through the dispatcher alone."""
+        """The router, to ask about its accounts and queues. Offers and pulls go through the dispatcher alone."""
         return self._router
 
     @property
@@ -117,7 +117,7 @@ class Dispatcher(Generic[T]):
     # Submit and close.
 
     def submit(self, sender: int, value: T, size: int = 1) -> Submission[T]:
-        """Submits the sender's next job, and returns what became of it. It never waits.
+        """Submits the sender's next job, and returns the outcome. Never waits.
 
         The size is what a DRRSched shares out: 1 to 65,535. Raises `Shut` if the dispatcher is closed, `UnknownSender`, `BadLength`, and
         `AtEnd` if the sender has submitted 4,294,967,295 jobs. Then nothing was submitted.
@@ -149,7 +149,7 @@ class Dispatcher(Generic[T]):
     def next(self, timeout: float | None = None, device: int = 0) -> Job[T]:
         """Waits until a job of the device is due, and returns it.
 
-        Where `timeout` is given and no job is due within so many seconds, it raises `queue.Empty`, as `queue.Queue.get` does. With a timeout
+        If `timeout` is given and no job is due within so many seconds, it raises `queue.Empty`, as `queue.Queue.get` does. With a timeout
         of 0 it doesn't wait. Raises `Ended` if the dispatcher is closed and no job is left, `UnknownDevice`, and `AtEnd` after 2^44 ticks.
         """
         taker: ThreadTaker[T] = ThreadTaker(self._need_device(device))
@@ -175,7 +175,7 @@ class Dispatcher(Generic[T]):
         return job
 
     def jobs(self, device: int = 0) -> Iterator[Job[T]]:
-        """Gives the jobs of a device as they are due, and ends once the dispatcher is closed and none is left."""
+        """Yields the jobs of a device when they are due, and ends once the dispatcher is closed and none is left."""
         while True:
             try:
                 job = self.next(device=device)
@@ -184,7 +184,7 @@ class Dispatcher(Generic[T]):
             yield job
 
     async def jobs_async(self, device: int = 0) -> AsyncIterator[Job[T]]:
-        """Gives what `jobs` gives, in a task of asyncio."""
+        """Yields the jobs of a device as `jobs` does, in a task of asyncio."""
         while True:
             try:
                 job = await self.next_async(device)
@@ -222,14 +222,17 @@ class Dispatcher(Generic[T]):
             return None
 
     def _due(self, device: int) -> int | None:
-        """The earliest moment at which a job could be given, or None if none is left. Only then does a taker pull: how often takers look
-        must not change what schedulers do, and a DRRSched that finds an input without a packet takes its deficit away."""
+        """The earliest moment at which a job could be given, or None if none is left.
+
+        A taker pulls only from that moment on: how often takers look must not change what schedulers do, and a DRRSched that finds an input
+        without a packet resets the deficit of that input to 0.
+        """
         if self._returned[device] or self._carrier._waits(device):
             return 0
         return self._router.due(device)
 
     def _take(self, taker: Taker[T], moment: int) -> Job[T] | None:
-        """Returns a job that was pulled for a taker that left with an error, or else what a pull gives at this moment."""
+        """Returns a job that was pulled for a taker that left with an error, or else the job that a pull at this moment gives."""
         returned = self._returned[taker.device]
         if returned:
             first = min(returned)
@@ -264,18 +267,18 @@ class Dispatcher(Generic[T]):
         return line[0] is taker
 
     def _step_out(self, taker: Taker[T]) -> None:
-        """Takes a taker out of the line, unless the one who woke it did."""
+        """Takes a taker out of the line, unless whoever woke it did."""
         line = self._lines[taker.device]
         if taker in line:
             line.remove(taker)
 
     def _pass_on(self, device: int) -> None:
-        """Wakes the next in line if it has something to do: a job that is left, or to end."""
+        """Wakes the next in line if it has something to do: take a job that is left, or end."""
         if self._lines[device] and (self._closed or self.left(device)):
             self._wake(device)
 
     def _wake(self, device: int) -> None:
-        """Wakes the first in line that can still run, and takes it out. It is woken before, so that an interrupt in between loses nothing."""
+        """Wakes the first in line that can still run, and then takes it out of the line. So an interrupt in between loses nothing."""
         line = self._lines[device]
         while line:
             runs = line[0].wake()
@@ -283,7 +286,7 @@ class Dispatcher(Generic[T]):
             if runs:
                 return
 
-    # Numbers that are handed in.
+    # Tests of arguments.
 
     def _need_device(self, device: int) -> int:
         if not 0 <= device < len(self._lines):
@@ -291,7 +294,7 @@ class Dispatcher(Generic[T]):
         return device
 
     def _deadline(self, timeout: float | None) -> int | None:
-        """When a wait ends, by the clock."""
+        """When a wait ends, in nanoseconds of the clock."""
         if timeout is None:
             return None
         if timeout < 0:

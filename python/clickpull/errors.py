@@ -39,7 +39,7 @@ class UnknownDevice(Error, LookupError):
 
 
 class BadLength(Error, ValueError):
-    """A packet has 1 to 65,535 bytes."""
+    """The length of the packet isn't from 1 to 65,535 bytes."""
 
 
 class AtEnd(Error, OverflowError):

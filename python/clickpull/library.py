@@ -10,7 +10,7 @@ from pathlib import Path
 NAME = "libclickpull.so"
 VARIABLE = "CLICKPULL_LIBRARY"
 
-# Answers.
+# Statuses.
 OK, NONE, SHUT, NULL, UNKNOWN_SENDER, UNKNOWN_DEVICE, BAD_LENGTH, AT_END, UNKNOWN_QUEUE, FAULT, FULL, BAD_ROOM, HANDED_OUT, RECLAIMED = range(14)
 
 
@@ -22,7 +22,7 @@ class RouterHandle(Structure):
 
 
 class Fault(Structure):
-    """Why a text makes no router."""
+    """Why no router was opened."""
 
     _fields_ = [("number", c_uint32), ("offset", c_uint32)]
     number: int
@@ -39,7 +39,7 @@ class Packet(Structure):
 
 
 class Offered(Structure):
-    """What became of an offer."""
+    """What an offer returns."""
 
     _fields_ = [("packet", Packet), ("evicted", Packet), ("outcome", c_uint32)]
     packet: Packet
@@ -48,7 +48,7 @@ class Offered(Structure):
 
 
 class OfferOf(Structure):
-    """An offer, of many."""
+    """One of several offers."""
 
     _fields_ = [("sender", c_uint32), ("length", c_uint32)]
     sender: int
@@ -56,7 +56,7 @@ class OfferOf(Structure):
 
 
 class Departure(Structure):
-    """A packet that came out in a drain."""
+    """A packet that a drain emitted."""
 
     _fields_ = [("moment", c_uint64), ("packet", Packet)]
     moment: int
@@ -72,7 +72,7 @@ class Total(Structure):
 
 
 class Account(Structure):
-    """What became of all that a sender offered."""
+    """The totals of the packets that a sender offered."""
 
     _fields_ = [
         ("accepted", Total),
@@ -108,7 +108,7 @@ class InletHandle(Structure):
 
 
 class Item(Structure):
-    """A packet for an inlet, of many."""
+    """One of several packets for an inlet."""
 
     _fields_ = [("token", c_uint64), ("length", c_uint32)]
     token: int
@@ -123,7 +123,7 @@ class LiveHandle(Structure):
 
 
 class Taken(Structure):
-    """A packet that was taken from its inlet, and what became of it."""
+    """A packet that was taken from its inlet and offered to its queue, with the outcome."""
 
     _fields_ = [("packet", Packet), ("token", c_uint64), ("evicted", Packet), ("evicted_token", c_uint64), ("outcome", c_uint32)]
     packet: Packet
@@ -155,7 +155,7 @@ INLET = POINTER(InletHandle)
 LIVE = POINTER(LiveHandle)
 COUNT = POINTER(c_size_t)
 
-# What each call takes and answers.
+# The parameters and results of each call.
 CALLS = {
     "clk_router_open": ([POINTER(c_uint8), c_size_t, ROUTER, POINTER(Fault)], c_uint32),
     "clk_router_close": ([RouterHandle], None),
@@ -200,7 +200,7 @@ CALLS = {
 
 
 def places() -> list[str]:
-    """Where the library is looked for, in this order: what the variable names alone, or beside this file and then by the loader."""
+    """Where the library is looked for: only at the path that the variable names, or else beside this file and then by the loader."""
     if named := os.environ.get(VARIABLE):
         return [named]
     beside = sorted(str(it) for it in Path(__file__).parent.glob(NAME + "*"))
@@ -208,7 +208,7 @@ def places() -> list[str]:
 
 
 def loaded() -> ctypes.PyDLL:
-    """The library. Its calls are short and hold the global lock, so that two of them never run at once."""
+    """The library. Its calls are short and hold the global lock, so two of them never run at once."""
     failures = []
     for place in places():
         try:

@@ -13,7 +13,7 @@ from clickpull.library import LIBRARY
 from clickpull.values import Account, Departure, Offered, Outcome, Packet, Queue, Total
 
 END_OF_MOMENTS = 1 << 44
-"""Below which number of ticks a moment is."""
+"""Moments are below this number of ticks."""
 
 _END_OF_NUMBERS = 1 << 16
 _ALL_PULLS = (1 << 64) - 1
@@ -49,10 +49,10 @@ class _Handle(library.RouterHandle):
     """A router in the library's hands. It is closed when nothing refers to it, and so never while a call of another thread uses it."""
 
     closing: "partial[object]"
-    """Closes the router, if there is one. Only the first call does something."""
+    """Closes the router, if there is one. Only the first call does anything."""
 
     # Python calls `__del__` once. A function of Python may be interrupted before its first line, and then the router would never be closed.
-    # This property gives `closing`, and neither that nor what it calls is written in Python. So no interrupt comes in between.
+    # This property returns `closing`, and neither that nor what it calls is written in Python. So no interrupt comes in between.
     __del__ = property(attrgetter("closing"))
 
 
@@ -68,12 +68,12 @@ def _no_router() -> _Handle:
 class Router:
     """The router of a tree in Click's language.
 
-    It is a context manager, which shuts it at its end; one that is let go of is shut, too. What is called of a shut one raises `Shut`.
-    Devices are numbered from 0 as they are declared, and calls take device 0 where none is named.
+    It is a context manager, which shuts it at its end; when the last reference to it is dropped, it is shut, too. Calls on a shut router
+    raise `Shut`. Devices are numbered from 0 in the order of declaration, and calls use device 0 if none is named.
     """
 
     def __init__(self, text: str | bytes) -> None:
-        """Makes a router of a text. Raises `TextFault` where it has one, and `MemoryError`."""
+        """Opens a router from a text. Raises `TextFault` if the text has a fault, and `MemoryError`."""
         code = _code(text)
         handle = _no_router()
         fault = library.Fault()
@@ -85,10 +85,10 @@ class Router:
         self._handle: _Handle | None = handle
         self._senders = frozenset(it.sender for it in self.accounts())
 
-    # How it ends.
+    # Close.
 
     def close(self) -> None:
-        """Shuts it, and gives back all that it has, once no call of another thread uses it."""
+        """Shuts the router. Its memory is freed once no call of another thread uses it."""
         self._handle = None
 
     @property
@@ -108,21 +108,21 @@ class Router:
     # Offers.
 
     def offer(self, sender: int, length: int) -> Offered:
-        """The sender offers its next packet, of so many bytes, to its queue, and what became of it is answered."""
+        """The sender offers its next packet, of `length` bytes, to its queue. Returns the packet with its outcome."""
         offered = library.Offered()
         self._offer(sender, length, offered)
         return _offered(offered)
 
     def _offer(self, sender: int, length: int, offered: library.Offered) -> None:
-        """Offers a packet, and fills `offered` in the same call of the library."""
+        """Offers a packet, and fills in `offered` in one call of the library."""
         handle = self._need_open()
         self._need_offer(sender, length)
         self._need(LIBRARY.clk_router_offer(handle, sender, length, byref(offered)))
 
     def offer_many(self, offers: Iterable[tuple[int, int]]) -> list[Offered]:
-        """Offers many packets, each a sender and a length. Where one can't be offered, nothing is offered.
+        """Offers many packets, each a sender and a length. If one can't be offered, none is offered.
 
-        Only that a sender's numbers are at their end isn't known beforehand: packets before that one have been offered then.
+        The exception is `AtEnd`, which isn't known beforehand: the packets before that one have been offered then.
         """
         handle = self._need_open()
         wanted = list(offers)
@@ -141,27 +141,27 @@ class Router:
     # Pulls.
 
     def pull(self, moment: int, device: int = 0) -> Packet | None:
-        """Pulls the device once, at this moment in ticks or, where that is later, at the greatest so far."""
+        """Pulls the device once, at this moment in ticks, or at the device's latest moment if that is later."""
         packet = library.Packet()
         return _packet(packet) if self._pull(moment, device, packet) else None
 
     def _pull(self, moment: int, device: int, packet: library.Packet) -> bool:
-        """Pulls the device once, fills `packet` in the same call of the library, and answers whether there is one."""
+        """Pulls the device once, and fills in `packet` in one call of the library. Returns whether a packet was emitted."""
         handle = self._need_open()
         self._need_device(device)
         self._need_moment(moment)
         return not self._is_none(LIBRARY.clk_router_pull(handle, device, moment, byref(packet)))
 
     def pull_many(self, moment: int, count: int, device: int = 0) -> list[Packet]:
-        """Pulls the device up to `count` times at this moment, up to the first pull that gives none, and answers the packets.
+        """Pulls the device up to `count` times at this moment, up to the first pull that emits none. Returns the packets.
 
-        A `count` above what is left for the device allocates no more than one below it. A negative one raises `ValueError`.
+        However large `count` is, memory is allocated only for the packets that are left and one more. A negative one raises `ValueError`.
         """
         if count < 0:
             raise ValueError(f"a count of pulls is 0 or more, and not {count}")
         handle = self._need_open()
         self._need_moment(moment)
-        # One pull more than packets are left gives none, and is the last.
+        # After all packets that are left, one more pull emits none, and is the last.
         most = min(count, self.left(device) + 1)
         packets = (library.Packet * max(most, 1))()
         given = ctypes.c_size_t()
@@ -169,15 +169,15 @@ class Router:
         return [_packet(packets[i]) for i in range(given.value)]
 
     def pulls(self, moment: int, device: int = 0) -> Iterator[Packet]:
-        """Pulls the device at this moment, once for each packet that is asked for, up to the first pull that gives none."""
+        """Pulls the device at this moment, once for each packet that is asked for, up to the first pull that emits none."""
         while (it := self.pull(moment, device)) is not None:
             yield it
 
     def drain(self, device: int = 0, pulls: int | None = None) -> Iterator[Departure]:
-        """Pulls the device one tick apart, from one tick after the counted moment, until all that is left for it came out.
+        """Pulls the device one tick apart, from one tick after its latest moment, until all that is left for it is emitted.
 
-        The pulls are made as packets are asked for. Where `pulls` is given it is how many are made in a row that give none, before
-        the iterator ends with some left; one that isn't from 0 to 2^64 - 1 raises `ValueError`.
+        Pulls are made as packets are asked for. If `pulls` is given, the iterator ends early, with packets left, after so many pulls in a
+        row that emit none. If `pulls` isn't from 0 to 2^64 - 1, it raises `ValueError`.
         """
         return self._drained(device, self._most_pulls(pulls))
 
@@ -187,21 +187,21 @@ class Router:
             yield _departure(departure)
 
     def _drain(self, device: int, most: int, departure: library.Departure) -> bool:
-        """Drains the device of a packet, fills `departure` in the same call of the library, and answers whether there is one."""
+        """Drains the device of one packet, and fills in `departure` in one call of the library. Returns whether a packet was emitted."""
         handle = self._need_open()
         self._need_device(device)
         given = ctypes.c_size_t()
         self._is_none(LIBRARY.clk_router_drain(handle, device, byref(departure), 1, most, byref(given)))
         return given.value != 0
 
-    # What there is.
+    # State.
 
     def moment(self, device: int = 0) -> int:
-        """The greatest moment that was handed in at the device so far, in ticks; 0 before its first pull."""
+        """The device's latest moment, in ticks: the greatest at which it was pulled so far, and 0 before its first pull."""
         return self._number(LIBRARY.clk_router_moment, device)
 
     def due(self, device: int = 0) -> int | None:
-        """The earliest moment at which a pull of the device could give a packet, in ticks, as things stand; None if none is left for it."""
+        """The earliest moment at which a pull of the device could emit a packet, in ticks, as things stand; None if none is left for it."""
         handle = self._need_open()
         self._need_device(device)
         it = ctypes.c_uint64()
@@ -217,11 +217,11 @@ class Router:
         return int(LIBRARY.clk_router_devices(self._need_open()))
 
     def accounts(self) -> list[Account]:
-        """What became of the packets of each sender, by rising numbers of senders."""
+        """The totals of the packets of each sender, in the order of the senders' numbers."""
         return [self._account(place) for place in range(LIBRARY.clk_router_senders(self._need_open()))]
 
     def queues(self) -> list[Queue]:
-        """The queues, by number: in order of declaration."""
+        """The queues, by number, that is in the order of declaration."""
         return [self._queue(number) for number in range(LIBRARY.clk_router_queues(self._need_open()))]
 
     def _account(self, place: int) -> Account:
@@ -241,10 +241,10 @@ class Router:
         self._need(call(handle, device, byref(it)))
         return it.value
 
-    # What can't be done. ctypes cuts numbers to what C has room for, so that they are looked at first.
+    # Tests of arguments. ctypes cuts numbers to the size of C's types, so they are tested first.
 
     def _need_open(self) -> _Handle:
-        """The handle, which stays open for as long as the caller refers to it, though another thread shuts the router."""
+        """The handle. It stays open while the caller refers to it, even if another thread shuts the router."""
         if (handle := self._handle) is None:
             raise Shut("the router is shut")
         return handle

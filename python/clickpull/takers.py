@@ -1,4 +1,4 @@
-"""Who waits for a job of a dispatcher: a thread, or a task of asyncio. It stands outside what is proved."""
+"""Those who wait for a job of a dispatcher: threads, and tasks of asyncio. They stand outside what is proved."""
 from threading import Lock
 from typing import TypeVar
 
@@ -8,12 +8,12 @@ T = TypeVar("T")
 
 
 class Taker(Given[T]):
-    """One that waits for a job of a device. It stores here what was pulled for it, until it returns that to its caller."""
+    """A thread or a task that waits for a job of a device. A job that was pulled for it is stored here until it returns to its caller."""
 
     is_new = True
     """Whether it hasn't stood in line yet."""
     sleep: int | None = None
-    """How many nanoseconds it may sleep unless it is woken; without end where this is None."""
+    """How many nanoseconds it may sleep unless it is woken; without end if this is None."""
 
     def __init__(self, device: int) -> None:
         self.device = device

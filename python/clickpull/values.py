@@ -1,4 +1,4 @@
-"""What calls answer. It stands outside what is proved."""
+"""The values that calls return. They stand outside what is proved."""
 from enum import IntEnum
 from typing import NamedTuple
 
@@ -12,32 +12,32 @@ class Packet(NamedTuple):
 
 
 class Outcome(IntEnum):
-    """What became of an offer."""
+    """The outcome of an offer."""
 
     ACCEPTED = 0
-    """The queue took it."""
+    """The queue accepted it."""
     REFUSED = 1
-    """The queue, a Queue, was full."""
+    """The queue, a full Queue, refused it."""
     EVICTED = 2
-    """The queue, a FrontDropQueue, was full, took it, and put out the packet at its front."""
+    """The queue, a full FrontDropQueue, accepted it and evicted the packet at its front."""
 
 
 class Offered(NamedTuple):
-    """A packet that was offered, and what became of it."""
+    """A packet that was offered, with its outcome."""
 
     packet: Packet
     outcome: Outcome
     evicted: Packet | None
-    """What was put out for it, maybe of another sender."""
+    """The packet that was evicted for it, maybe of another sender."""
 
     @property
     def accepted(self) -> bool:
-        """Whether the queue took it."""
+        """Whether the queue accepted it."""
         return self.outcome is not Outcome.REFUSED
 
 
 class Departure(NamedTuple):
-    """A packet that came out in a drain, and the moment of it, in ticks."""
+    """A packet that a drain emitted, with the moment of its pull, in ticks."""
 
     moment: int
     packet: Packet
@@ -51,21 +51,21 @@ class Total(NamedTuple):
 
 
 class Account(NamedTuple):
-    """What became of all that a sender offered; accepted and refused together are what it offered."""
+    """The totals of the packets that a sender offered; accepted and refused together are what it offered."""
 
     sender: int
     queue: int
-    """The number of the queue that it pushes to."""
+    """The number of the queue to which it offers."""
     accepted: Total
     refused: Total
     evicted: Total
-    """Of the accepted ones those that were put out for later packets."""
+    """Those of the accepted packets that were evicted for later ones."""
     emitted: Total
-    """Of the accepted ones those that came out at the device."""
+    """Those of the accepted packets that the device emitted."""
 
 
 class Queue(NamedTuple):
-    """A queue: how many packets it holds at most and now, the device that they go to, and whether it is a FrontDropQueue."""
+    """A queue: how many packets it holds at most and now, the device that emits them, and whether it is a FrontDropQueue."""
 
     capacity: int
     held: int
