@@ -1,4 +1,4 @@
-//! What the program answers to words, over memory in place of standard input, output and error, and over files of the tests.
+//! What the program returns and writes for words, over memory in place of standard input, output and error, and over files of the tests.
 
 use crate::files::{assert_left, write_all};
 use clk_command::command;
@@ -18,8 +18,8 @@ pub fn input() -> &'static [u8] {
     PRIO_TWO_QUEUES.script.as_bytes()
 }
 
-/// Files that are there, each with its path and what it holds; words; what they answer to that script, and write to standard output, where
-/// nothing is told on standard error; and files with what they hold afterwards, or None where they aren't there.
+/// Files that exist before, each with its path and contents; words; what they return for that script, and write to standard output, while
+/// nothing is written to standard error; and files with their contents afterwards, or `None` if they don't exist.
 pub type Row = (
     &'static [(&'static str, &'static str)],
     &'static str,
@@ -28,7 +28,7 @@ pub type Row = (
     &'static [(&'static str, Option<&'static str>)],
 );
 
-/// What words answer, and what they write to standard output and to standard error.
+/// What words return, and what they write to standard output and to standard error.
 #[derive(Drop)]
 pub struct Answered {
     pub outcome: Result<u8, Fault>,
@@ -36,8 +36,8 @@ pub struct Answered {
     pub told: Vec<u8>,
 }
 
-/// What words, with a space between them, answer to a script on standard input, where standard output takes `room` bytes and standard
-/// error `errors_room` before they fail.
+/// What words, with a space between them, return and write for a script on standard input, if standard output takes `room` bytes and
+/// standard error `errors_room` before they fail.
 pub fn answer(
     rt: &(impl Files + AllocGlobal + Threads + Wait + Sync),
     words: &str,
@@ -66,7 +66,7 @@ fn words_of(alloc: Global, words: &str) -> Result<Vec<String>, AllocError> {
     Ok(list)
 }
 
-/// Fails unless words answer this, write this to standard output, and say nothing else.
+/// Fails unless words return this, write this to standard output, and write nothing else.
 pub fn assert_writes(
     rt: &(impl Files + AllocGlobal + Threads + Wait + Sync + Abort),
     words: &str,
@@ -79,7 +79,7 @@ pub fn assert_writes(
     assert!(rt; answered.told.is_empty(), "at {words}");
 }
 
-/// Fails unless each row is answered so.
+/// Fails unless each row has the answer that it says.
 pub fn assert_rows(rt: &(impl Files + AllocGlobal + Threads + Wait + Sync + Abort), rows: &[Row]) {
     for (files, words, outcome, written, left) in rows {
         write_all(rt, files).expect(rt, "files");

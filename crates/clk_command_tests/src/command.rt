@@ -10,13 +10,13 @@ use std::sync::Wait;
 use std::thread::Threads;
 use std::{fs, str};
 
-/// A queue alone.
+/// A tree of a sender and a queue.
 const ALONE: (&str, &str) = (
     "out/alone.click",
     "q :: Queue; d :: ToDevice(link); s :: Sender(0); s -> q -> d;",
 );
 
-/// A tree of a class that isn't known.
+/// A tree with an unknown class.
 const BAD: (&str, &str) = ("out/bad.click", "q :: Que;");
 
 const BAD_FAULT: Fault = Fault::UnknownClass { offset: 5 };
@@ -36,7 +36,7 @@ const ROWS: [Row; 9] = [
         "3#0 10 accepted\n3#1 20 accepted evicted 3#0\npull 0: 3#1 20\n",
         &[],
     ),
-    // What isn't there can't be read, and a folder neither.
+    // A missing file can't be read, and neither can a folder.
     (&[], "check missing.click", Err(Fault::Read), "", &[]),
     (&[], "check out/folder", Err(Fault::Read), "", &[]),
     (
@@ -60,7 +60,7 @@ const ROWS: [Row; 9] = [
         "",
         &[],
     ),
-    // A bad tree is told before the script is opened.
+    // A fault of the tree is reported before the script is opened.
     (&[BAD], "check out/bad.click", Err(BAD_FAULT), "", &[]),
     (
         &[("out/empty.click", "")],
@@ -90,7 +90,7 @@ fn words_are_answered(rt: HostRuntime) {
     ] {
         assert_rows(&rt, rows);
     }
-    // What an example writes is the same without its visits.
+    // Without its visits an example writes the same text.
     for (files, words, outcome, written, _) in examples::ROWS {
         write_all(&rt, files).expect(&rt, "files");
         let words = words.trim_end_matches(" --visits out/example.csv");
@@ -98,8 +98,8 @@ fn words_are_answered(rt: HostRuntime) {
     }
 }
 
-/// Words with the status that they answer, how what is said begins, and a part of it. With status 2 that is said on standard error, and
-/// with 0 on standard output.
+/// Words with the status that they return, how the text that they write begins, and a part of it. With status 2 they write it to standard
+/// error, and with 0 to standard output.
 pub type Said = (&'static str, u8, &'static str, &'static str);
 
 const SAID: [Said; 32] = [
@@ -194,7 +194,7 @@ fn begins_and_has(text: &[u8], begin: &str, part: &str) -> bool {
     }
 }
 
-// Fails unless these words are answered so.
+// Fails unless these words have this answer.
 pub fn assert_said(
     rt: &(impl Files + AllocGlobal + Threads + Wait + Sync + Abort),
     words: &str,

@@ -1,4 +1,4 @@
-//! Standard output and standard error that fail in mid-stream: a front of the text went out.
+//! Standard output and standard error that fail in mid-stream: a front of the text was written.
 
 use crate::answer::{AMPLE, Answered, answer, input};
 use crate::files::write;
@@ -12,7 +12,7 @@ use std::thread::Threads;
 
 const REPORT: &str = "sender 0: sent 2 30, accepted 2 30, refused 0 0, evicted 0 0, emitted 2 30\n";
 
-// What words come to.
+// What words return and write.
 fn answered<H: Files + AllocGlobal + Threads + Wait + Sync + Abort>(
     rt: &H,
     words: &str,
@@ -22,7 +22,7 @@ fn answered<H: Files + AllocGlobal + Threads + Wait + Sync + Abort>(
     answer(rt, words, input(), room, errors_room).expect(rt, "ample memory")
 }
 
-// Fails unless words write this text to standard output, or as much of it as is taken before a failure, and nothing else.
+// Fails unless words write this text to standard output, or as much of it as standard output takes before it fails, and nothing else.
 fn assert_written_so_far<H: Files + AllocGlobal + Threads + Wait + Sync + Abort>(
     rt: &H,
     words: &str,

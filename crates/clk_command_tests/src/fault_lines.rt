@@ -58,7 +58,7 @@ fn line_of(rt: &impl Abort, alloc: Global, fault: Fault) -> Vec<u8> {
     writer.taken().to_vec(alloc).expect(rt, "ample memory")
 }
 
-// The derive that shows a fault has no contract, and says what `fault_line` writes.
+// The derive that shows a fault has no contract. This test shows that it says what `fault_line` writes.
 #[test]
 fn a_fault_has_a_line(rt: HostRuntime) {
     for (fault, text) in FAULTS {

@@ -1,4 +1,4 @@
-//! Every front of each file of the examples: it is read, or refused by a fault that such a text can have.
+//! Every front of each file of the examples: it is read, or fails with a fault that such a text can have.
 
 use crate::answer::AMPLE;
 use crate::examples::ROWS;
@@ -9,14 +9,16 @@ use std::alloc::Global;
 use std::process::Abort;
 use std::test::Fail;
 
-/// The faults of a tree, of a script and of a trace, but for memory, reads and writes.
+/// The faults of a tree, except those of allocations, reads and writes.
 const OF_TREES: [u8; 12] = [2, 3, 4, 5, 6, 7, 8, 9, 10, 11, 13, 18];
 
+/// The faults of a script, except those of allocations, reads and writes.
 const OF_SCRIPTS: [u8; 3] = [15, 16, 18];
 
+/// The faults of a trace, except those of allocations, reads and writes.
 const OF_TRACES: [u8; 2] = [14, 18];
 
-// Fails unless this is no fault, or one of these.
+// Fails unless there is no fault, or one of these.
 fn assert_listed(rt: &impl Abort, fault: Option<Fault>, listed: &[u8], bytes: usize) {
     let fine = match fault {
         Some(fault) => listed.contains(&fault.number()),
@@ -39,7 +41,7 @@ fn assert_traces(rt: &impl Abort, alloc: Global, text: &[u8]) {
     }
 }
 
-// Where a script is refused nothing is written.
+// Fails unless each front of a script is run, or has a listed fault. Then nothing is written.
 fn assert_scripts(rt: &impl Abort, alloc: Global, plan: &Plan, text: &[u8]) -> Result<(), Fail> {
     for bytes in 0..=text.len() {
         let mut reader = FailingSource::new(text[..bytes].to_vec(alloc)?, usize::MAX);

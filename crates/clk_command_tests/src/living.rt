@@ -20,12 +20,13 @@ const TREE: (&str, &str) = (
     "s :: Sender(0); q :: Queue(1000); d :: ToDevice(link); s -> q -> d;",
 );
 
-/// A trace over it, and its report.
+/// A trace over that tree.
 const SENT: (&str, &str) = ("out/live.trace", "0,10\n0,20\n");
 
+/// The report of that trace.
 const REPORT: &str = "sender 0: sent 2 30, accepted 2 30, refused 0 0, evicted 0 0, emitted 2 30\n";
 
-/// Words for a trace that is wrong, and the files that aren't made then.
+/// Words for a trace with a fault, and the files that aren't created then.
 const WRONG: &str =
     "live out/live.click out/unlive.trace --record out/unlive.script --visits out/unlive.csv";
 
@@ -40,7 +41,7 @@ pub const ROWS: [Row; 12] = [
         REPORT,
         &[],
     ),
-    // A run that isn't recorded may pull as often as one may.
+    // A run that isn't recorded may pull as often as the limit allows at most.
     (
         &[TREE, SENT],
         "live --step=1000 --limit=1000000 out/live.click out/live.trace",
@@ -70,7 +71,7 @@ pub const ROWS: [Row; 12] = [
         "",
         &[("out/longer.csv", None)],
     ),
-    // A trace that is wrong runs nothing.
+    // A trace with a fault runs nothing.
     (
         &[TREE, ("out/unlive.trace", "9,10\n0,10\n7,10\n")],
         WRONG,
@@ -100,7 +101,7 @@ pub const ROWS: [Row; 12] = [
         "",
         &[],
     ),
-    // A file that can't be made is told after the report.
+    // A file that can't be created is reported after the report of the run.
     (
         &[TREE, SENT],
         "live out/live.click out/live.trace --record out/folder",
@@ -217,7 +218,7 @@ fn a_record_tells_the_run(rt: HostRuntime) -> Result<(), Fail> {
     Ok(())
 }
 
-// Fails unless the record of a run, with its visits or without, prints what ends in the report, and makes the same visits.
+// Fails unless the record of a run, with its visits or without, prints a text that ends in the report, and makes these visits.
 fn assert_told<H: Files + AllocGlobal + Threads + Wait + Sync + Abort>(
     rt: &H,
     name: &str,

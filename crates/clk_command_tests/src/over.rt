@@ -17,12 +17,12 @@ const PACE: Pace = Pace {
     limit: 1000,
 };
 
-/// A source of this text, which fails once it has given so many bytes.
+/// A source of this text, which fails after it has given `limit` bytes.
 fn source(alloc: Global, text: &str, limit: usize) -> Result<FailingSource, AllocError> {
     Ok(FailingSource::new(text.as_bytes().to_vec(alloc)?, limit))
 }
 
-/// A sink that fails once it has taken so many bytes.
+/// A sink that fails after it has taken `room` bytes.
 fn sink(alloc: Global, room: usize) -> Result<FailingSink, AllocError> {
     Ok(FailingSink::new(vec![in alloc; 0; room]?))
 }
@@ -62,7 +62,7 @@ impl Task {
     }
 }
 
-/// The sources and sinks of a task. A task without visits leaves the last alone.
+/// The sources and sinks of a task. A task without visits doesn't use the last.
 #[derive(Drop)]
 struct Files {
     tree: FailingSource,
@@ -72,7 +72,8 @@ struct Files {
 }
 
 impl Files {
-    /// Files of a task that fail once the tree has given `tree_limit` bytes, the input `limit`, and the visits have taken `room`.
+    /// The sources and sinks of a task. They fail after the tree has given `tree_limit` bytes, the input `limit`, and after the visits have
+    /// taken `room`.
     fn new(
         alloc: Global,
         task: Task,
@@ -112,7 +113,7 @@ impl Files {
     }
 }
 
-/// Fails unless the task ends by fault 19, and writes nothing. Returns the rest of its input.
+/// Fails unless the task ends with fault 19, and writes nothing. Returns the rest of its input.
 fn assert_not_read<H: Threads + Wait + Sync + AllocGlobal + Abort>(
     rt: &H,
     task: Task,
@@ -160,7 +161,7 @@ fn either_source_may_fail_after_any_byte(rt: HostRuntime) {
     }
 }
 
-/// How the script with visits ends where the visits' sink takes `room` bytes, and its files.
+/// How a script with visits ends if the visits' sink takes `room` bytes, and its sources and sinks after that.
 fn visited<H: Threads + Wait + Sync + AllocGlobal>(
     rt: &H,
     room: usize,

@@ -15,7 +15,7 @@ use std::test::Fail;
 use std::thread::Threads;
 use std::{fs, str};
 
-/// Fails unless words before the names of two files, with a tree and this input, answer so and write this.
+/// Fails unless words before the names of two files, with a tree and this input, return this and write this.
 pub fn assert_row<H: Files + AllocGlobal + Threads + Wait + Sync + Abort>(
     rt: &H,
     tree: &str,
@@ -61,7 +61,7 @@ fn runs_are_reported(rt: HostRuntime) -> Result<(), Fail> {
     for (row, words) in [
         (NO_SENDER, "run"),
         (EMPTY_TRACE_TWO_QUEUES, "run"),
-        // Nearly all pulls are made after the one while the producer runs.
+        // Nearly all pulls are made in the drain, after the one pull while the producer runs.
         (LONG_RUN, "run --step 1 --limit 1 --visits out/row.csv"),
         (EIGHT_SENDERS_ONE_QUEUE, "run"),
         (EIGHT_SENDERS_ONE_QUEUE, "run --step 1 --limit 1"),
@@ -73,7 +73,7 @@ fn runs_are_reported(rt: HostRuntime) -> Result<(), Fail> {
         let trace = row.records.repeat(rt.alloc(), row.times)?;
         assert_row(&rt, row.tree, words, &trace, Ok(0), row.report)?;
     }
-    // The long closing is given 131,072 pulls, and the one before makes one more.
+    // The long drain may take at most 131,072 pulls; the one pull before it makes one more, and pulls are counted from 0.
     assert!(rt; last_pull(&rt, "out/row.csv")? <= 131_072);
     assert_apart(&rt)
 }
@@ -87,7 +87,7 @@ fn last_pull(rt: &(impl Files + AllocGlobal + Abort), path: &str) -> Result<u64,
     Ok(pull.parse().expect(rt, "a number"))
 }
 
-// Fails unless 800 packets came out in the visits of two devices, those of the first four senders at the first.
+// Fails unless the visits of two devices show 800 emitted packets, those of the first four senders at the first device.
 fn assert_apart(rt: &(impl Files + AllocGlobal + Abort)) -> Result<(), Fail> {
     let text = fs::read(rt, "out/row.devices.csv")?;
     let mut packets = 0_u32;

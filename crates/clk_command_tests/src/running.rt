@@ -13,21 +13,23 @@ use std::process::Abort;
 use std::sync::Wait;
 use std::thread::Threads;
 
-/// A sender with a queue of its own.
+/// A tree of a sender and a queue.
 const ALONE: &str = "s :: Sender(0); q :: Queue(1000); d :: ToDevice(link); s -> q -> d;";
 
 const TREE: (&str, &str) = ("out/sound.click", ALONE);
 
-/// A trace over it, and its report.
+/// A trace over that tree.
 const TRACE: &str = "0,10\n0,20\n";
 
+/// The report of that trace.
 const REPORT: &str = "sender 0: sent 2 30, accepted 2 30, refused 0 0, evicted 0 0, emitted 2 30\n";
 
 const SENT: (&str, &str) = ("out/sent.trace", TRACE);
 
-/// Words for a trace that is wrong, and the visit file that isn't made then.
+/// Words for a trace with a fault.
 const WRONG: &str = "run out/sound.click out/wrong.trace --visits out/wrong.csv";
 
+/// The visit file that isn't created then.
 const UNMADE: (&str, Option<&str>) = ("out/wrong.csv", None);
 
 /// Runs of traces, and words that run none.
@@ -61,7 +63,7 @@ pub const ROWS: [Row; 13] = [
         REPORT,
         &[],
     ),
-    // A trace that is wrong runs nothing.
+    // A trace with a fault runs nothing.
     (
         &[TREE, ("out/wrong.trace", "9,10\n")],
         WRONG,
@@ -119,7 +121,7 @@ pub const ROWS: [Row; 13] = [
         "",
         &[],
     ),
-    // A visit file that can't be made is told after the report.
+    // A visit file that can't be created is reported after the report of the run.
     (
         &[TREE, SENT],
         "run out/sound.click out/sent.trace --visits out/folder",
@@ -129,8 +131,8 @@ pub const ROWS: [Row; 13] = [
     ),
 ];
 
-/// How a run of that trace ends, and what it wrote, where the trace fails once it has given `limit` bytes, and the writer once it has
-/// taken `room`.
+/// How a run of that trace ends, and what it wrote, if the trace fails after it has given `limit` bytes, and the writer after it has taken
+/// `room`.
 fn run_within<H: Threads + Wait + Sync + AllocGlobal>(
     rt: &H,
     limit: usize,
@@ -148,7 +150,7 @@ fn run_within<H: Threads + Wait + Sync + AllocGlobal>(
     Ok((outcome, writer.taken().to_vec(alloc)?))
 }
 
-/// Fails unless it ends by this fault, with this written.
+/// Fails unless the run ends with this fault, and has written this.
 fn assert_fails<H: Threads + Wait + Sync + AllocGlobal + Abort>(
     rt: &H,
     limit: usize,
@@ -209,7 +211,7 @@ fn the_logs_of_a_run_are_read_back(rt: HostRuntime) {
     }
 }
 
-// A device over a queue makes a visit a pull.
+// A device over a queue makes one visit in each pull.
 #[test]
 fn visits_go_at_the_pace_of_the_run(rt: HostRuntime) {
     write_all(&rt, &[TREE, ("out/visited.trace", "0,10\n0,20\n0,30\n")]).expect(&rt, "files");
@@ -222,7 +224,7 @@ fn visits_go_at_the_pace_of_the_run(rt: HostRuntime) {
     assert_eq!(rt; lengths.as_slice(), &[10, 20, 30][..]);
 }
 
-// Pulls are seven ticks apart, and one once the drain has begun, and each packet passes.
+// Fails unless pulls are seven ticks apart, and one tick once the drain has begun, and each packet passes.
 fn assert_paced(rt: &impl Abort, rows: &[Numbers]) {
     let (mut last, mut ticks) = (0, 7);
     for row in rows {
@@ -234,7 +236,7 @@ fn assert_paced(rt: &impl Abort, rows: &[Numbers]) {
     }
 }
 
-// The lengths of the packets that came out.
+// The lengths of the packets that were emitted, in bytes.
 fn lengths_of(alloc: Global, rows: &[Numbers]) -> Result<Vec<u64>, AllocError> {
     let mut lengths = Vec::new(alloc);
     for row in rows {

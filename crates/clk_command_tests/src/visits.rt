@@ -25,18 +25,20 @@ const ALONE: (&str, &str) = (
     "s :: Sender(3); q :: Queue; d :: ToDevice(link); s -> q -> d;",
 );
 
-/// A script over it, and what that writes.
+/// A script over that tree.
 const SAME: (&str, &str) = ("out/same.script", "send 3 10\npull 5\npull 4\n");
 
+/// What that script writes.
 const ANSWER: &str = "3#0 10 accepted\npull 5: 3#0 10\npull 4: none\n";
 
-/// Another, which closes.
+/// A script over that tree with a drain.
 const CLOSED: (&str, &str) = ("out/closed.script", "send 3 10\ndrain 0\n");
 
+/// What the script with a drain writes.
 const CLOSING: &str = "3#0 10 accepted\npull 1: 3#0 10\n\
     sender 3: sent 1 10, accepted 1 10, refused 0 0, evicted 0 0, emitted 1 10\n";
 
-/// What is longer than the visits of that script.
+/// A text that is longer than the visits of the first script.
 const LONG: &str =
     "xxxxxxxxxxxxxxxxxxxxxxxxxxxxxxxxxxxxxxxxxxxxxxxxxxxxxxxxxxxxxxxxxxxxxxxxxxxxxxxxxxxxxxxxxxxxxxxxxxxxxxxxxxxxxxxxxxxxxxxxxxxxxxxx";
 
@@ -50,7 +52,7 @@ pub const ROWS: [Row; 5] = [
         ANSWER,
         &[],
     ),
-    // What is there is overwritten.
+    // A file that exists is overwritten.
     (
         &[ALONE, SAME, ("out/same.csv", LONG)],
         "script --visits=out/same.csv out/same.click out/same.script",
@@ -63,7 +65,7 @@ pub const ROWS: [Row; 5] = [
             ),
         )],
     ),
-    // A visit file that can't be made is told after the answer.
+    // A visit file that can't be created is reported after the answer.
     (
         &[ALONE, CLOSED],
         "script out/same.click out/closed.script --visits out/folder",
@@ -78,7 +80,7 @@ pub const ROWS: [Row; 5] = [
         CLOSING,
         &[],
     ),
-    // A script that is refused makes none.
+    // A script with a fault creates none.
     (
         &[ALONE, ("out/refused.script", "send 3 10\npush\n")],
         "script out/same.click out/refused.script --visits out/refused.csv",
@@ -88,7 +90,7 @@ pub const ROWS: [Row; 5] = [
     ),
 ];
 
-/// A row of a visit file, by the order of the columns: its numbers, None where there is none.
+/// A row of a visit file, in the order of its columns: its numbers, or `None` for an empty field.
 pub type Numbers = [Option<u64>; 9];
 
 /// The rows of a file of one device's visits, as `csv` reads them.
@@ -123,7 +125,7 @@ fn numbers_of(rt: &impl Abort, row: &StringRecord) -> Numbers {
     ]
 }
 
-// The number in a field of a row, or None where the field is empty.
+// The number in a field of a row, or `None` if the field is empty.
 fn number(rt: &impl Abort, row: &StringRecord, place: usize) -> Option<u64> {
     let field = row.get(place).expect(rt, "a field");
     match field {

@@ -1,4 +1,4 @@
-//! Sessions that are closed, with what they come to.
+//! Sessions that are drained, and what the drains return.
 
 use crate::shared::{assert_drained, close, line, packet, queues};
 use clk_packet::{Fault, Kind, Packet};
@@ -7,7 +7,7 @@ use std::alloc::Global;
 use std::process::Abort;
 use std::sync::Wait;
 
-// A look of node 1 at an input, asked or not, with what it saw and whether it passed that on.
+// A visit of node 1 to an input, fresh or not, with what it got and whether it passed that on.
 fn look(
     pull: u64,
     moment: u64,
@@ -43,7 +43,7 @@ fn close_and_drain_one(rt: HostRuntime) -> Result<(), Fault> {
     Ok(())
 }
 
-// It is closed at the last moment that a script may name, after a sender that sent nothing.
+// It is drained from the last moment that a script may name, after a sender that sent nothing.
 #[test]
 fn a_late_moment_is_drained(rt: HostRuntime) -> Result<(), Fault> {
     let alloc = rt.alloc();
@@ -92,7 +92,7 @@ fn each_evicted_packet_is_its_own_senders(rt: HostRuntime) -> Result<(), Fault> 
     Ok(())
 }
 
-// tests/refuse-memory has each allocation of it refused in turn.
+// tests/refuse-memory makes each allocation of this test fail in turn.
 #[test]
 fn held_heads_are_drained(rt: HostRuntime) {
     assert_eq!(rt; held_heads(&rt, rt.alloc()).err(), None);
@@ -114,7 +114,7 @@ fn held_heads<R: Abort + Wait>(rt: &R, alloc: Global) -> Result<(), Fault> {
         look(0, 0, 1, true, Some(of_1), false),
         look(0, 0, 2, true, Some(of_9), true),
         Visit::asking(0, 0, 0, 0, Some(of_9)),
-        // It goes on at the input that passed, where nothing is left.
+        // The pull goes on at the input that passed, where nothing is left.
         look(1, 1, 2, true, None, false),
         look(1, 1, 0, false, Some(of_5), true),
         Visit::asking(1, 1, 0, 0, Some(of_5)),

@@ -17,9 +17,10 @@ use std::process::Abort;
 use std::sync::Wait;
 use std::thread::Threads;
 
-/// How many devices there are where there are many, how many senders each has, and how many packets each of these sends.
+/// How many devices a plan of many devices has.
 const DEVICES: u16 = 8;
 
+/// How many senders each of many devices has.
 const SENDERS: u16 = 8;
 
 const PACKETS: u32 = 3;
@@ -46,7 +47,7 @@ fn many_devices(alloc: Global) -> Result<String, Fault> {
     Ok(text)
 }
 
-// Some packets from each of their senders.
+// Some packets of each sender of the many devices.
 fn many_records(alloc: Global) -> Result<Vec<u8>, Fault> {
     let mut text = Vec::new(alloc);
     for number in 0..DEVICES * SENDERS {
@@ -58,8 +59,8 @@ fn many_records(alloc: Global) -> Result<Vec<u8>, Fault> {
     Ok(text)
 }
 
-// Fails unless there are so many devices, and each emits packets of its own senders alone, so many of which follow those of the
-// device before.
+// Fails unless there are `devices` devices, and each emits packets of its own senders alone: `senders` senders, whose numbers follow those
+// of the device before.
 fn assert_own_senders(rt: &impl Abort, outcome: &Outcome, devices: u16, senders: u16)
     requires { 1 ≤ senders }
 {
@@ -74,7 +75,7 @@ fn assert_own_senders(rt: &impl Abort, outcome: &Outcome, devices: u16, senders:
     assert_eq!(rt; device, devices);
 }
 
-// Fails unless the packets that a device emits are those that it got in its log.
+// Fails unless each device emits the packets that it got in its log.
 fn assert_logged(rt: &impl Abort, alloc: Global, outcome: &Outcome) -> Result<(), Fault> {
     let mut logged = Vec::new(alloc);
     for log in &outcome.logs {
@@ -127,8 +128,8 @@ fn two_devices_threads(rt: HostRuntime) -> Result<(), Fault> {
     Ok(())
 }
 
-// Runs many devices round after round, each pulled so often at most while producers run. Fails unless in each round all that is sent
-// is accepted, and comes out at its own device.
+// Runs many devices round after round, each pulled at most `limit` times while producers run. Fails unless in each round all that is sent
+// is accepted, and emitted by its own device.
 fn assert_rounds<R: Threads + Wait + Abort + Sync>(
     rt: &R,
     alloc: Global,

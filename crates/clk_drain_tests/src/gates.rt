@@ -1,16 +1,16 @@
-//! Gates that hold threads until others have come as far. They wait by turns, never by time.
+//! Gates that hold threads until others have come as far. They wait for turns, never for a time.
 
 use clk_drain::Gate;
 use std::sync::atomic::{AtomicU64, Ordering};
 use std::thread;
 
-/// How many turns a gate waits for.
+/// How many turns a gate waits at most.
 const TURNS: u32 = 1_000_000;
 
-/// How many turns are waited to see that no more calls come.
+/// How many turns a gate waits to see that no more calls come.
 const TURNS_AFTER: u32 = 1_000;
 
-/// How often something was called, and how often a wait for it was given up.
+/// How often something was called, and how often a wait for a call was given up.
 #[derive(Drop)]
 pub struct Calls {
     count: AtomicU64,
@@ -25,12 +25,12 @@ impl Calls {
         }
     }
 
-    /// It was called once more.
+    /// Counts a call.
     pub fn add(&self) {
         self.count.fetch_add(1, Ordering::SeqCst);
     }
 
-    /// Waits until it was called so often, for some turns at most.
+    /// Waits until it was called `count` times, but gives up after some turns.
     pub fn wait_for(&self, count: u64) {
         for _ in 0..TURNS {
             if self.count.load(Ordering::SeqCst) >= count {
@@ -46,7 +46,7 @@ impl Calls {
         self.count.load(Ordering::SeqCst)
     }
 
-    /// Whether no more calls come, as far as some turns tell.
+    /// Whether no more calls come, as far as waiting for some turns can tell.
     pub fn have_ended(&self) -> bool {
         let count = self.count();
         for _ in 0..TURNS_AFTER {
@@ -55,13 +55,13 @@ impl Calls {
         self.count() == count
     }
 
-    /// Whether each wait for it has come to its end.
+    /// Whether no wait was given up.
     pub fn came(&self) -> bool {
         self.given_up.load(Ordering::SeqCst) == 0
     }
 }
 
-/// All calls are counted.
+/// A gate that counts all calls.
 #[derive(Drop)]
 pub struct Counted {
     pub calls: Calls,
@@ -77,7 +77,7 @@ impl Gate for Counted {
     }
 }
 
-/// Each of two senders' second offer and the first pull wait for one another.
+/// The second offers of two senders and the first pull wait for one another.
 #[derive(Drop)]
 pub struct AllMeet {
     pub calls: Calls,
@@ -127,7 +127,7 @@ impl Gate for InTurns {
     }
 }
 
-/// The second offer comes only after two pulls, and once it was seen for some turns whether more are made.
+/// The second offer comes only after two pulls, and after some turns in which more pulls may be made.
 #[derive(Drop)]
 pub struct HeldForTwoPulls {
     pub pulls: Calls,

@@ -1,5 +1,4 @@
-//! Tests of clk_drain, by its public calls alone: what sessions come to that are closed over their lines, and what runs of producers on
-//! threads come to.
+//! Tests of clk_drain, by its public calls alone: drains of sessions over their lines, and runs of producers on threads.
 #![tactic(auto)]
 
 #[cfg(test)]

@@ -13,7 +13,7 @@ fn a_trace_runs_over_a_tree(rt: HostRuntime) -> Result<(), Fault> {
     let plan = Plan::read(alloc, TREE.as_bytes())?;
     let mut trace = FromRead::new(b"1,1500\n2,64\n1,40\n".as_slice());
     let traces = Traces::read_csv(alloc, &mut trace)?;
-    // Each sender has a thread. Meanwhile the device is pulled once a tick, 1,000 times at most, and then all that is left comes out.
+    // Each sender has a thread. Meanwhile the device is pulled once a tick, 1,000 times at most, and then all that is left is emitted.
     let outcome = run(&rt, alloc, &rt, &plan, &traces, 1, 1000, &Free)?;
     for tally in &outcome.tallies {
         let accepted = tally.accepted.as_slice().len();

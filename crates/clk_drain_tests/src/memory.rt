@@ -1,4 +1,4 @@
-//! A run where memory is refused. tests/refuse-memory has each allocation of the test refused in turn.
+//! A run in which an allocation fails. tests/refuse-memory makes each allocation of the test fail in turn.
 
 use crate::gates::{Calls, Counted};
 use crate::running::{records, traces};
@@ -11,7 +11,7 @@ use std::process::Abort;
 use std::sync::Wait;
 use std::thread::Threads;
 
-/// What is called, and may be refused.
+/// The calls whose allocations may fail.
 #[derive(Clone, Copy, Debug, PartialEq, Eq)]
 enum Call {
     Run,
@@ -19,14 +19,14 @@ enum Call {
     Setup,
 }
 
-// The first refusal is the only one, since it is one allocation that fails.
+// Only the first call fails, since only one allocation does.
 #[test]
 fn a_refused_call_is_made_again(rt: HostRuntime) {
     let refused = met_refusal(&rt, rt.alloc());
     assert_eq!(rt; refused, None);
 }
 
-// Runs eight senders, and again where the run was refused, and answers what was refused.
+// Runs eight senders, and runs them again if that failed. Returns which call failed.
 fn met_refusal<R: Threads + Wait + Abort + Sync>(rt: &R, alloc: Global) -> Option<Call> {
     match eight_senders(alloc) {
         Ok((plan, traces)) => refused_run(rt, alloc, &plan, &traces),
@@ -44,8 +44,7 @@ fn eight_senders(alloc: Global) -> Result<(Plan, Traces), Fault> {
     Ok((plan, traces))
 }
 
-// Once a run was refused all its threads have ended, so that none calls its gate. With one pull at most a run always asks for memory as
-// often.
+// After a run has failed all its threads have ended, so none calls its gate. With one pull at most, a run always allocates equally often.
 fn refused_run<R: Threads + Wait + Abort + Sync>(
     rt: &R,
     alloc: Global,
@@ -70,7 +69,7 @@ fn refused_run<R: Threads + Wait + Abort + Sync>(
     }
 }
 
-// Fails unless all packets of the eight senders were accepted and came out.
+// Fails unless all packets of the eight senders were accepted and emitted.
 fn assert_all_emitted(rt: &impl Abort, outcome: &Outcome) {
     assert_eq!(rt; outcome.emitted.len(), 1);
     for emitted in &outcome.emitted {

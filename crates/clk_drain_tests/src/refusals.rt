@@ -1,5 +1,5 @@
-//! Runs of two devices, and runs that keep no visits, where memory or a thread is refused. tests/refuse-memory has each allocation and
-//! each thread of these tests refused in turn.
+//! Runs of two devices, and runs that keep no visits, in which an allocation or the start of a thread fails. tests/refuse-memory makes each
+//! allocation and each start of a thread of these tests fail in turn.
 
 use crate::gates::{Calls, Counted};
 use crate::running::{records, traces};
@@ -19,7 +19,7 @@ const TWO_DEVICES: &str =
 /// How many packets each of the four senders sends.
 const EACH: u32 = 50;
 
-/// What is called, and may be refused.
+/// The calls that may fail.
 #[derive(Clone, Copy, Debug, PartialEq, Eq)]
 enum Call {
     Run,
@@ -27,7 +27,7 @@ enum Call {
     Setup,
 }
 
-// The first refusal is the only one, since it is one allocation or one thread that fails.
+// Only the first call fails, since only one allocation or one start of a thread does.
 #[test]
 fn two_devices_are_run_again(rt: HostRuntime) {
     assert_eq!(rt; met_refusal(&rt, rt.alloc(), true), None);
@@ -38,7 +38,7 @@ fn a_run_without_visits_is_made_again(rt: HostRuntime) {
     assert_eq!(rt; met_refusal(&rt, rt.alloc(), false), None);
 }
 
-// Runs the devices, and again where the run was refused, and answers what was refused.
+// Runs the devices, and runs them again if that failed. Returns which call failed.
 fn met_refusal<R: Threads + Wait + Abort + Sync>(
     rt: &R,
     alloc: Global,
@@ -60,8 +60,7 @@ fn four_senders(alloc: Global) -> Result<(Plan, Traces), Fault> {
     Ok((plan, traces))
 }
 
-// Once a run was refused all its threads have ended, so that none calls its gate. With one pull at most a run always asks for memory as
-// often.
+// After a run has failed all its threads have ended, so none calls its gate. With one pull at most, a run always allocates equally often.
 fn refused_run<R: Threads + Wait + Abort + Sync>(
     rt: &R,
     alloc: Global,
@@ -81,7 +80,7 @@ fn refused_run<R: Threads + Wait + Abort + Sync>(
     Some(Call::Run)
 }
 
-// Fails unless all packets come out, each at the device of its sender, where the run isn't refused.
+// Fails unless all packets are emitted, each by the device of its sender, if the run succeeds.
 fn run_once<R: Threads + Wait + Abort + Sync>(
     rt: &R,
     alloc: Global,

@@ -29,7 +29,7 @@ const TWO_AT_A_QUEUE: &str =
 
 const ONE_AT_A_QUEUE: &str = "s :: Sender(0); q :: Queue(1); d :: ToDevice(link); s -> q -> d;";
 
-/// The records of so many packets of 64 bytes from each of these senders, each named by a digit.
+/// The records of `packets` packets of 64 bytes from each of these senders, each named by a digit.
 pub fn records(alloc: Global, senders: &[u8], packets: u32) -> Result<Vec<u8>, Fault> {
     let mut text = Vec::new(alloc);
     for sender in senders {
@@ -51,7 +51,7 @@ pub fn traces_of(alloc: Global, row: &Run) -> Result<Traces, Fault> {
     traces(alloc, row.records.repeat(alloc, row.times)?.into_bytes())
 }
 
-/// Runs the plan of a text over traces, a tick between two pulls.
+/// Runs the plan of a text over traces, with a tick between two pulls.
 pub fn run_text<R: Threads + Wait + Sync, G: Gate + Sync>(
     rt: &R,
     alloc: Global,
@@ -98,7 +98,7 @@ fn emitted_of(alloc: Global, outcome: &Outcome, sender: u16) -> Result<Vec<Packe
     Ok(packets)
 }
 
-// Fails unless a tally shares out all that its sender sends, and all that was accepted and not evicted came out, in order.
+// Fails unless a tally accounts for all that its sender sends, and all that was accepted and not evicted was emitted, in order.
 fn assert_accounted(
     rt: &impl Abort,
     alloc: Global,
@@ -121,7 +121,7 @@ fn assert_accounted(
     Ok(())
 }
 
-/// Fails unless each of so many senders is accounted for.
+/// Fails unless all that each of `senders` senders sends is accounted for.
 pub fn assert_all_accounted(
     rt: &impl Abort,
     alloc: Global,
@@ -178,7 +178,7 @@ fn eight_senders_one_queue(rt: HostRuntime) -> Result<(), Fault> {
     assert_all_accepted(&rt, alloc, &traces, &outcome)
 }
 
-// Without visits all is accounted for as ever, and no device has a log.
+// Without visits all packets are accounted for too, and no device has a log.
 #[test]
 fn a_run_may_keep_no_visits(rt: HostRuntime) -> Result<(), Fault> {
     let alloc = rt.alloc();
@@ -235,7 +235,7 @@ fn threads_really_run(rt: HostRuntime) -> Result<(), Fault> {
     assert_all_accounted(&rt, alloc, &traces, &outcome, 2)
 }
 
-// A producer that is held has its queue's baton, and the other goes on without it.
+// A producer that is held has its queue's baton, and the other producer goes on without it.
 #[test]
 fn no_producer_waits_for_one_that_is_held(rt: HostRuntime) -> Result<(), Fault> {
     let alloc = rt.alloc();
@@ -251,7 +251,7 @@ fn no_producer_waits_for_one_that_is_held(rt: HostRuntime) -> Result<(), Fault> 
     assert_all_accounted(&rt, alloc, &traces, &outcome, 2)
 }
 
-// Each passes the baton on once before its last packet.
+// Each producer passes the baton on once before its last packet.
 #[test]
 fn producers_of_one_queue_pass_the_baton_on(rt: HostRuntime) -> Result<(), Fault> {
     let alloc = rt.alloc();
@@ -286,7 +286,7 @@ fn queues_are_asked_while_producers_run(rt: HostRuntime) -> Result<(), Fault> {
     Ok(())
 }
 
-// While its producer is held a device is pulled as often as the limit says, and no more.
+// While its producer is held, a device is pulled as often as the limit says, and no more.
 #[test]
 fn no_device_is_pulled_beyond_the_limit(rt: HostRuntime) -> Result<(), Fault> {
     let alloc = rt.alloc();
@@ -336,7 +336,7 @@ fn a_plan_without_senders_runs(rt: HostRuntime) -> Result<(), Fault> {
     Ok(())
 }
 
-// Nearly all pulls are made after the one while its producer runs.
+// Nearly all pulls are made in the drain, after the one pull while its producer runs.
 #[test]
 fn a_drain_may_take_long(rt: HostRuntime) -> Result<(), Fault> {
     let alloc = rt.alloc();

@@ -19,9 +19,10 @@ use std::alloc::Global;
 use std::process::Abort;
 use std::sync::Wait;
 
-/// How many packets are accepted at most, and the moment before which a drain begins.
+/// How many packets may be accepted at most.
 const MOST_LEFT: usize = 1_000_000;
 
+/// The moment before which a drain has to begin.
 const END_OF_DRAINS: u64 = (1 << 43) - 1;
 
 /// The packet of this number from this sender, of 1 to 65,535 bytes.
@@ -65,7 +66,7 @@ fn offer<R: Abort + Wait>(
     seat.offer(queue, rt, next);
 }
 
-/// The line of a queue at this leaf, once these offers were made, each of the seat at a place and of a length.
+/// The line of a queue at this leaf, after these offers: each is made by the seat at a place, of a packet of a length.
 pub fn line<R: Abort + Wait>(
     rt: &R,
     alloc: Global,
@@ -102,7 +103,7 @@ pub fn line<R: Abort + Wait>(
     })
 }
 
-// Fails unless no sender stands twice.
+// Fails unless no sender is there twice.
 fn assert_apart(rt: &impl Abort, senders: &[u16])
     ensures { are_distinct senders.now ≡ true }
 {
@@ -131,8 +132,8 @@ fn senders(rt: &impl Abort, alloc: Global, lines: &[Line]) -> Result<Vec<u16>, F
     Ok(senders)
 }
 
-/// Closes a session of this tree over its lines. First it is pulled at moment 0 as often as there are packets, and fails unless it
-/// gives these.
+/// Drains a session of this tree over its lines. Before that it pulls the session at moment 0 once for each of these packets, and fails
+/// unless the pulls give them.
 pub fn close<R: Abort + Wait>(
     rt: &R,
     alloc: Global,
@@ -157,10 +158,10 @@ pub fn close<R: Abort + Wait>(
     close_and_drain(alloc, rt, session, lines, moment)
 }
 
-/// A tally that is expected: its sender, and the packets that were accepted, refused and evicted.
+/// An expected tally: its sender, and the packets that were accepted, refused and evicted.
 pub type Expected<'a> = (u16, &'a [Packet], &'a [Packet], &'a [Packet]);
 
-/// Fails unless a session came to these packets, these visits and these tallies.
+/// Fails unless a drained session has these packets, these visits and these tallies.
 pub fn assert_drained(
     rt: &impl Abort,
     drained: &Drained,

@@ -61,8 +61,8 @@ pub record LiveRunOf (plan : List Planned) (traces : List (List Packet)) (step l
 abbrev pub MayBeTooLong : List Planned → List (List Packet) → ℕ → Type 0
 MayBeTooLong plan traces limit = most_lines < sent_in traces (senders_in plan) + device_count plan * limit + 1
 
--- Why a run fails: an allocation or the start of a thread failed; the trace has a sender that the plan does not have, and the fault names the
--- least such sender; or the run was to be recorded, and its record may be too long.
+-- Why a run fails: an allocation or the start of a thread failed; the trace has a sender that the plan does not have, and the fault names
+-- the least such sender; or the run was to be recorded, and its record may be too long.
 abbrev pub IsFaultOfLive : List Planned → List (List Packet) → ℕ → Bool → Fault → Type 0
 IsFaultOfLive plan traces limit recording Memory = ⊤
 IsFaultOfLive plan traces limit recording (UnknownSender s) = IsFirstUnknown (senders_in plan) traces s

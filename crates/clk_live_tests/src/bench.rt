@@ -1,4 +1,4 @@
-//! A live router and its inlets, to which the steps of a row are done on one thread.
+//! A live router and its inlets, for which a test does the steps of a row on one thread.
 
 ghost use Rattle.std.specs.Prelude.{◌<◌, length};
 
@@ -45,7 +45,7 @@ pub struct Bench {
 }
 
 impl Bench {
-    /// Opens a live router over the plan of a text, whose inlets have room for eight packets each.
+    /// Opens a live router over the plan of a text. Its inlets have room for eight packets each.
     pub fn open(alloc: Global, text: &str) -> Result<Bench, Fault> {
         let plan = Plan::read(alloc, text.as_bytes())?;
         let (live, inlets) = Live::open(alloc, &plan, 8)?;
@@ -88,7 +88,7 @@ impl Bench {
         self.live.take(place)
     }
 
-    // Whether a round takes these packets, and all are accepted.
+    // Whether a round takes these packets, and their queues accept all of them.
     fn takes(&mut self, only_fitting: bool, each: usize, room: usize, expected: &[Sent]) -> bool {
         let mut slots = [EMPTY_SLOT; 8];
         let taken = &mut slots[..room.min(8)];
@@ -100,7 +100,7 @@ impl Bench {
         are_accepted(&taken[..count], expected)
     }
 
-    // Whether so many places are filled with these packets of a sender, and all are accepted.
+    // Whether `room` places get these packets of a sender, and its queue accepts all of them.
     fn takes_many(&mut self, rt: &impl Abort, sender: u16, room: usize, expected: &[Sent]) -> bool {
         let place = self.place_of(rt, sender);
         let mut slots = [EMPTY_SLOT; 8];
@@ -115,7 +115,7 @@ impl Bench {
         self.live.pull(0, 0)
     }
 
-    // Whether pulls of the one device fill so many places at most, with these packets.
+    // Whether pulls of the one device fill at most `room` places, with these packets.
     fn pulls_many(&mut self, rt: &impl Abort, room: usize, expected: &[Sent]) -> bool {
         assert!(rt; self.live.router().can_pull(0, 0));
         let mut places = [NONE_EMITTED; 8];
@@ -128,9 +128,9 @@ impl Bench {
                 .all(|(one, sent)| is_sent(one.packet, one.token, *sent))
     }
 
-    // Whether a drain of the one device emits these packets at these moments, and ends so.
+    // Whether a drain of the one device emits these packets at these moments, and ends in this way.
     fn drains(&mut self, room: usize, pulls: u64, expected: &[(u64, Sent)], end: DrainEnd) -> bool {
-        // There is a device.
+        // By this law, which does nothing, there is a device.
         let _ = self.live.router().devices();
         let mut places = [NONE_DEPARTED; 8];
         let departed = &mut places[..room.min(8)];
@@ -144,12 +144,12 @@ impl Bench {
 
     // From which moment on the one device could emit a packet.
     fn due(&self) -> Option<u64> {
-        // There is a device.
+        // By this law, which does nothing, there is a device.
         let _ = self.live.router().devices();
         self.live.router().due(0)
     }
 
-    // Whether so many packets of a sender were accepted, refused, evicted and emitted.
+    // Whether these numbers of a sender's packets were accepted, refused, evicted and emitted.
     fn counts(&self, rt: &impl Abort, sender: u16, expected: [u64; 4]) -> bool {
         let place = self.place_of(rt, sender);
         let account = self
@@ -167,7 +167,7 @@ impl Bench {
         account.sender == sender && totals.map(|total| total.packets) == expected
     }
 
-    /// Does a step. Returns whether it came to what it says.
+    /// Does a step. Returns whether it has the result that the row says.
     pub fn does(&mut self, rt: &impl Abort, step: Step) -> bool {
         match step {
             Step::Offers(sent) => self.offers(rt, sent),
@@ -214,7 +214,8 @@ impl Bench {
     }
 }
 
-/// Fails unless each step of each row comes to what it says, and the packets that are inside after them are reclaimed.
+/// Fails unless each step of each row has the result that the row says, and the tokens of the packets that are inside at the end are
+/// reclaimed.
 pub fn assert_rows(rt: &impl Abort, alloc: Global, rows: &[Row]) {
     for row in rows {
         let mut bench = Bench::open(alloc, row.tree).expect(rt, "a live router");
@@ -223,7 +224,7 @@ pub fn assert_rows(rt: &impl Abort, alloc: Global, rows: &[Row]) {
     }
 }
 
-/// Fails unless each of these steps comes to what it says.
+/// Fails unless each of these steps has the result that it says.
 pub fn assert_steps(rt: &impl Abort, bench: &mut Bench, name: &str, steps: &[Step]) {
     for (at, step) in steps.iter().enumerate() {
         assert!(rt; bench.does(rt, *step), "{name}, step {at}: {step:?}");

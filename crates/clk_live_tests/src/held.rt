@@ -15,7 +15,7 @@ use std::thread::Threads;
 /// How many turns a sender waits at most.
 const TURNS: u32 = 1_000_000;
 
-/// Senders wait until so many pulls were made.
+/// A gate at which senders wait until this many pulls were made.
 #[derive(Drop)]
 struct HeldForPulls {
     pulls: AtomicU64,
@@ -46,7 +46,7 @@ const TWO_DEVICES: &str =
     "s :: Sender(3); t :: Sender(5); q, r :: Queue(2); d :: ToDevice(one); e :: ToDevice(two);
     s -> q -> d; t -> r -> e;";
 
-/// What a run is given, with the number of pulls for which its senders wait.
+/// A run, with the number of pulls for which its senders wait.
 struct Held {
     tree: &'static str,
     trace: &'static str,
@@ -87,7 +87,7 @@ const ROWS: [Held; 4] = [
     },
 ];
 
-// Runs a trace over the plan of a text, with two pulls of each device at most, 5 ticks apart. The record's sink takes so many bytes.
+// Runs a trace over the plan of a text, with at most two pulls of each device, 5 ticks apart. The record's sink takes `room` bytes.
 fn run<R: Threads + Wait + Sync, G: Gate + Sync>(
     rt: &R,
     alloc: Global,
@@ -133,7 +133,7 @@ fn held_runs_are_recorded(rt: HostRuntime) -> Result<(), Fault> {
     Ok(())
 }
 
-/// A sink that fails has a front of the record, and the run goes on. A run that is not recorded leaves its sink as it was.
+/// A sink that fails has a front of the record, and the run goes on. A run that is not recorded leaves its sink unchanged.
 #[test]
 fn a_run_goes_on_without_its_record(rt: HostRuntime) -> Result<(), Fault> {
     let trace = "3,10\n3,20\n";
@@ -159,7 +159,7 @@ fn a_run_goes_on_without_its_record(rt: HostRuntime) -> Result<(), Fault> {
     Ok(())
 }
 
-/// A sender that the plan lacks is told first.
+/// A sender that the plan lacks is reported first.
 #[test]
 fn an_unknown_sender_runs_nothing(rt: HostRuntime) -> Result<(), Fail> {
     let outcome = run(&rt, rt.alloc(), QUEUE, "9,1\n4,1\n3,1\n", &Free, true, 0);

@@ -25,8 +25,8 @@ const ONE_SENDER: Row = Row {
     inside: &[(1, 0), (1, 1), (2, 0), (1, 2)],
 };
 
-/// Pulls end once their places are filled, or after the first that emits none. The first input gets 500 bytes in the first pull and twice in
-/// the pull that emits none, so the next pull emits its packet.
+/// Pulls end once their places are filled, or after the first that emits none. The first input gets 500 bytes in the first pull and twice
+/// in the pull that emits none, so the next pull emits its packet.
 const MANY_PULLS: Row = Row {
     name: "many pulls",
     tree: "a :: Sender(1); b :: Sender(2); p, q :: Queue; x :: DRRSched(500); d :: ToDevice(link);
@@ -48,8 +48,8 @@ const MANY_PULLS: Row = Row {
     inside: &[],
 };
 
-/// A drain pulls one tick apart, from one tick after the latest moment. The pull at 4 ticks emits none. A drain that fills its last place with
-/// the last packet has emptied the router.
+/// A drain pulls one tick apart, from one tick after the latest moment. The pull at 4 ticks emits none. A drain that fills its last place
+/// with the last packet has emptied the router.
 const DRAINS: Row = Row {
     name: "drains",
     tree: "a :: Sender(1); b :: Sender(2); p, q :: Queue; x :: DRRSched(500); d :: ToDevice(link);
@@ -102,7 +102,7 @@ const LEFT_INSIDE: Row = Row {
     inside: &[(2, 0), (2, 2), (1, 1), (1, 2)],
 };
 
-/// What calls that take or emit many packets come to.
+/// What calls that take or emit many packets return.
 const ROWS: [Row; 4] = [ONE_SENDER, MANY_PULLS, DRAINS, LEFT_INSIDE];
 
 #[test]

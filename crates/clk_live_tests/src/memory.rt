@@ -1,4 +1,4 @@
-//! Opening a live router where an allocation fails. tests/refuse-memory has each allocation of the test refused in turn.
+//! Opening a live router when an allocation fails. tests/refuse-memory makes each allocation of the test fail in turn.
 
 use crate::bench::{Bench, assert_steps};
 use crate::steps::Step;
@@ -20,7 +20,7 @@ const STEPS: [Step; 4] = [
     Step::IsDrained(true),
 ];
 
-/// What is called, and may be refused.
+/// The calls whose allocations may fail.
 #[derive(Clone, Copy, Debug, PartialEq, Eq)]
 enum Call {
     Open,
@@ -28,14 +28,14 @@ enum Call {
     Plan,
 }
 
-// The first refusal is the only one, since it is one allocation that fails.
+// Only the first call fails, since only one allocation does.
 #[test]
 fn a_refused_call_is_made_again(rt: HostRuntime) {
     let refused = met_refusal(&rt, rt.alloc());
     assert_eq!(rt; refused, None);
 }
 
-// Opens a live router, and again where that was refused, and returns which call was.
+// Opens a live router, and opens it again if that failed. Returns which call failed.
 fn met_refusal(rt: &impl Abort, alloc: Global) -> Option<Call> {
     match Plan::read(alloc, TREE.as_bytes()) {
         Ok(plan) => refused_open(rt, alloc, &plan),
@@ -46,7 +46,7 @@ fn met_refusal(rt: &impl Abort, alloc: Global) -> Option<Call> {
     }
 }
 
-// Opens a live router over a plan, and again where that was refused. Returns whether it was.
+// Opens a live router over a plan, and opens it again if that failed. Returns whether it failed.
 fn refused_open(rt: &impl Abort, alloc: Global, plan: &Plan) -> Option<Call> {
     let mut refused = None;
     let (live, inlets) = match Live::open(alloc, plan, 2) {

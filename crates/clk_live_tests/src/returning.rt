@@ -1,4 +1,4 @@
-//! Senders whose threads give their inlets back, and a live router that is settled beside them.
+//! Senders whose threads return their inlets, and a live router that is settled beside them.
 
 ghost use Rattle.std.specs.Prelude.{◌≡◌, [], ◌∷◌, map, IfOk, IfSome};
 ghost use Rattle.std.specs.List.{AllByRecursion, AllZip};
@@ -22,7 +22,7 @@ use std::sync::Wait;
 use std::thread;
 use std::thread::{Promise, PromisedHandle, Scope, Threads};
 
-/// What a sender's thread is given: its inlet, and the packets that it sends.
+/// What a sender's thread gets: its inlet, and the packets that it sends.
 #[derive(Drop)]
 struct Sender {
     inlet: Inlet,
@@ -118,7 +118,7 @@ fn join_all(
     Ok(inlets)
 }
 
-/// What a run gives back.
+/// What a run returns.
 #[derive(Drop)]
 struct Ended {
     live: Live,
@@ -154,7 +154,8 @@ fn run<R: Threads + Wait + Abort + Sync>(
     )
 }
 
-// Sends all packets from threads. Returns `None` unless all of them were taken, with their tokens, and are settled once the inlets are back.
+// Sends all packets from threads. Returns `None` unless all of them were taken, with their tokens, and are settled once the inlets are
+// back.
 fn send_and_settle<R: Threads + Wait + Abort + Sync>(
     rt: &R,
     alloc: Global,
@@ -189,7 +190,7 @@ fn packets_of(alloc: Global, sender: u16, count: u32) -> Result<Vec<Item>, Alloc
     Ok(packets)
 }
 
-// What each sender's thread is given, by the places of these inlets.
+// What each sender's thread gets, by the places of these inlets.
 fn senders_with(
     rt: &impl Abort,
     alloc: Global,
@@ -206,7 +207,7 @@ fn senders_with(
     Ok(senders)
 }
 
-// A live router over the plan of a text, and what each sender's thread is given.
+// A live router over the plan of a text, and what each sender's thread gets.
 fn opened(rt: &impl Abort, alloc: Global, text: &str) -> Result<(Live, Vec<Sender>), Fault>
     ensures halves { IfOk result (λ r. AllZip AreHalves (map (λ sender. sender.inlet) r.1.items) r.0.outlets) }
     ensures none { IfOk result (λ r. AllByRecursion (λ inlet. offered inlet ≡ []) (map (λ sender. sender.inlet) r.1.items)) }

@@ -41,7 +41,7 @@ const ROUNDS: Row = Row {
 };
 
 /// With only what fits, a packet waits in its inlet while its queue is full. So none is refused or evicted. A sender whose queue has room
-/// gives as many as it may, also while another sender's queue is full.
+/// gives as many as it may, even while another sender's queue is full.
 const FITTING: Row = Row {
     name: "only what fits",
     tree: "a :: Sender(1); b :: Sender(2); q :: Queue(1); f :: FrontDropQueue(2); x :: PrioSched;

@@ -125,8 +125,8 @@ const ROUND_ROBIN: Row = Row {
     inside: &[],
 };
 
-/// A packet that waits in its inlet is not due. Once taken it is due when the Shaper has room: at once, and one tick after a packet was
-/// emitted.
+/// A packet that waits in its inlet is not due. After it is taken, it is due when the Shaper has a token: at once, or one tick after a
+/// packet was emitted.
 const DUE: Row = Row {
     name: "due moments",
     tree: "s :: Sender(1); q :: Queue; x :: Shaper(1, 1); d :: ToDevice(link); s -> q -> [0] x; x -> d;",

@@ -40,7 +40,7 @@ fn take_round(live: &mut Live, only_fitting: bool, slots: &mut [Taken]) -> usize
     live.take_in(2, slots)
 }
 
-// What a round and a pull came to.
+// The result of a round and a pull.
 enum Turn {
     Moved,
     Idle,
@@ -70,7 +70,7 @@ fn is_over(live: &Live) -> bool {
     live.is_ended() && live.is_drained()
 }
 
-/// Takes and pulls in turn, until all senders have ended and no packet is left, or until so many packets were emitted.
+/// Takes and pulls in turn, until all senders have ended and no packet is left, or until `count` packets were emitted.
 pub fn take_and_pull(
     rt: &impl Wait,
     live: &mut Live,
@@ -93,7 +93,7 @@ pub fn take_and_pull(
     Ok(())
 }
 
-// Fails unless this is the packet that came with this token, of the length that its sender gave it. It returns the token.
+// Fails unless this packet came with this token and has the length that its sender gave it. Returns the token.
 fn assert_token(rt: &impl Abort, packet: Packet, token: u64) -> u64 {
     assert_eq!(rt; token, token_of(packet.sender, packet.number));
     assert_eq!(rt; packet.length, length_of(packet.number));

@@ -14,13 +14,13 @@ pub const PACKETS: u32 = 3000;
 /// The senders, and how many packets each sends. The last ends at once.
 pub const SENDERS: [(u16, u32); 4] = [(2, PACKETS), (4, PACKETS), (6, PACKETS), (8, 0)];
 
-// The sender that drops its inlet in place of ending it.
+// The sender that drops its inlet instead of ending it.
 const DROPS: u16 = 2;
 
-// How many turns a gate waits for.
+// How many turns a gate waits at most.
 const TURNS: u32 = 1_000_000;
 
-/// The length of the packet of this number.
+/// The length of the packet with this number, in bytes.
 pub fn length_of(number: u32) -> u16
     ensures { 1 ≤ result }
 {
@@ -35,7 +35,7 @@ pub struct Job {
     pub packets: u32,
 }
 
-// Offers the packet of this number until it is accepted, and says whether it was.
+// Offers the packet with this number until it is accepted. Returns whether it was accepted under this number.
 fn offer(rt: &impl Wait, inlet: &mut Inlet, sender: u16, number: u32) -> bool {
     for _ in rt.forever() {
         match inlet.offer(length_of(number), token_of(sender, number)) {
@@ -47,7 +47,7 @@ fn offer(rt: &impl Wait, inlet: &mut Inlet, sender: u16, number: u32) -> bool {
     false
 }
 
-/// Offers all packets of a sender, and ends its inlet or drops it. It returns how many were accepted under their numbers.
+/// Offers all packets of a sender, and ends its inlet or drops it. Returns how many were accepted under their numbers.
 pub fn send(rt: &impl Wait, job: Job) -> u32 {
     let Job {
         mut inlet,
@@ -63,7 +63,7 @@ pub fn send(rt: &impl Wait, job: Job) -> u32 {
     accepted as u32
 }
 
-/// A gate that holds a thread until another opens it. It waits by turns, never by time.
+/// A gate that holds a thread until another opens it. It waits for turns, never for a time.
 #[derive(Drop)]
 pub struct Gate {
     opened: AtomicU64,
@@ -82,7 +82,7 @@ impl Gate {
         self.opened.store(1, Ordering::SeqCst);
     }
 
-    // Waits for some turns at most until the gate is open, and says whether it is.
+    // Waits until the gate is open, but only for some turns. Returns whether it is open.
     fn wait(&self) -> bool {
         for _ in 0..TURNS {
             if self.opened.load(Ordering::SeqCst) == 1 {
@@ -94,7 +94,7 @@ impl Gate {
     }
 }
 
-/// Offers a packet, and a second once the gate is open. It returns whether the gate was opened and both were accepted.
+/// Offers a packet, and a second after the gate is open. Returns whether the gate was opened and both were accepted.
 pub fn send_through(rt: &impl Wait, inlet: Inlet, sender: u16, gate: &Gate) -> bool {
     let mut inlet = inlet;
     let first = offer(rt, &mut inlet, sender, 0);

@@ -41,7 +41,7 @@ fn send_at(rt: &impl Abort, live: &Live, inlets: &mut [Inlet], place: usize)
     send(rt, &mut inlets[place]);
 }
 
-// Takes the next packet of the sender at this place, and says whether one was there.
+// Takes the next packet of the sender at this place. Returns whether one was there.
 #[tactic(auto, using(clk_live::proofs::Callers::Halves::all_go_on))]
 fn takes(rt: &impl Abort, live: &mut Live, inlets: &[Inlet], place: usize) -> bool
     requires halves { AllZip AreHalves inlets.now live.old.outlets }
@@ -51,7 +51,7 @@ fn takes(rt: &impl Abort, live: &mut Live, inlets: &[Inlet], place: usize) -> bo
     live.take(place).is_some()
 }
 
-// Pulls the device, and says whether it emitted a packet.
+// Pulls the device. Returns whether it emitted a packet.
 fn emits(rt: &impl Abort, live: &mut Live, inlets: &[Inlet]) -> bool
     requires halves { AllZip AreHalves inlets.now live.old.outlets }
     ensures halves { AllZip AreHalves inlets.now live.new.outlets }
@@ -69,8 +69,8 @@ fn assert_settled(rt: &impl Abort, live: &mut Live, inlets: &mut [Inlet], expect
     assert_eq!(rt; is_settled, expected);
 }
 
-// The sender at this place sends its one packet, which goes through. The router is not settled while the packet is inside, and is or is not
-// after, as expected.
+// The sender at this place sends its one packet, which goes through. The router is not settled while the packet is inside; whether it is
+// settled after that is as expected.
 fn go_through(rt: &impl Abort, live: &mut Live, inlets: &mut [Inlet], place: usize, expected: bool)
     requires halves { AllZip AreHalves inlets.old live.old.outlets }
     ensures halves { AllZip AreHalves inlets.new live.new.outlets }
@@ -86,7 +86,7 @@ fn go_through(rt: &impl Abort, live: &mut Live, inlets: &mut [Inlet], place: usi
     assert_settled(rt, live, inlets, expected);
 }
 
-// It is settled once the second sender has ended too.
+// The router is settled once the second sender has ended too.
 #[test]
 fn it_is_settled_at_the_end(rt: HostRuntime) -> Result<(), Fault> {
     let (mut live, mut inlets) = opened(rt.alloc())?;

@@ -6,7 +6,7 @@ use clk_packet::Packet;
 /// A packet of a row: its sender, its number and its length in bytes.
 pub type Sent = (u16, u32, u16);
 
-/// A step of a row, with what it comes to.
+/// A step of a row, with its expected result.
 #[derive(Clone, Copy, Debug)]
 pub enum Step {
     /// The packet's sender offers it to its inlet, which accepts it.
@@ -21,19 +21,22 @@ pub enum Step {
     Evicts(Sent, Sent),
     /// No packet is taken from the inlet of this sender.
     NoneWaits(u16),
-    /// A round takes at most the first number from each sender, and at most the second from all. These are taken, and accepted.
+    /// A round takes at most the first number of packets from each sender, and at most the second from all. It takes these packets, and all
+    /// are accepted.
     TakesIn(usize, usize, &'static [Sent]),
-    /// A round that takes only what fits takes at most the first number from each sender, and at most the second from all.
+    /// A round that takes only what fits takes at most the first number of packets from each sender, and at most the second from all. It
+    /// takes these.
     TakesFitting(usize, usize, &'static [Sent]),
-    /// At most so many packets of a sender are taken. These are, and accepted.
+    /// At most this number of packets of a sender are taken. These are taken, and accepted.
     TakesMany(u16, usize, &'static [Sent]),
     /// A pull emits this packet.
     Emits(Sent),
     /// A pull emits no packet.
     EmitsNone,
-    /// Pulls that fill at most so many places emit these packets.
+    /// Pulls that fill at most this number of places emit these packets.
     EmitsMany(usize, &'static [Sent]),
-    /// A drain with so many places makes at most so many pulls. These packets are emitted at these moments, and the drain ends so.
+    /// A drain with this number of places makes at most this number of pulls. It emits these packets at these moments, and ends in this
+    /// way.
     Drains(usize, u64, &'static [(u64, Sent)], DrainEnd),
     /// From which moment on the one device could emit a packet, if it could.
     IsDue(Option<u64>),

@@ -53,7 +53,7 @@ fn take_all(
     Ok(seen)
 }
 
-// Runs the senders on threads of their own, and takes and pulls on this.
+// Runs the senders on threads of their own, and takes and pulls on this one.
 fn run<R: Threads + Wait + Sync>(
     rt: &R,
     alloc: Global,
@@ -85,8 +85,8 @@ fn full_queues_hold_senders_back(rt: HostRuntime) -> Result<(), Fault> {
     Ok(())
 }
 
-// Emits the first packet, and opens the gate once no packet is left and no sender has ended. Then it emits all. It returns what was
-// emitted, and whether the router was idle and not ended when the gate was opened.
+// Emits the first packet, and opens the gate once no packet is left and no sender has ended. Then it emits all. Returns what was emitted,
+// and whether the router was idle and not ended when the gate was opened.
 fn open_gate(
     rt: &impl Wait,
     alloc: Global,

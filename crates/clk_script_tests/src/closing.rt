@@ -1,4 +1,4 @@
-//! The last line of a script, which closes the router.
+//! The last line of a script, which drains the devices.
 
 use crate::trees::{ONE, PRIO_OVER_ONE, PRIO_OVER_TWO, SHARED_BY_FIRST_AND_LAST};
 use clk_rows::Row;

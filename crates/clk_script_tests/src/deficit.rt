@@ -5,7 +5,7 @@ use clk_rows::Row;
 
 /// Scripts, and what they write.
 pub const ROWS: [Row; 2] = [
-    // The packet comes out at half of the pulls that a closing is given, which are 131,072.
+    // The packet is emitted at half of the pulls that the drain may take at most, which are 131,072.
     Row {
         name: "the least quantum tells how long a drain may take",
         tree: DRR_500_1,
@@ -15,7 +15,7 @@ pub const ROWS: [Row; 2] = [
         sender 1: sent 1 65535, accepted 1 65535, refused 0 0, evicted 0 0, emitted 1 65535\n",
         visits: "",
     },
-    // The mark of the queue at input 5 still stands while its packet is held as a head.
+    // The mark of the queue at input 5 still says that it may hold a packet, while its packet is held as a head.
     Row {
         name: "queues that have nothing are visited up to one whose head is held",
         tree: DRR_OVER_TWELVE,

@@ -17,7 +17,7 @@ pub const ANSWERED: [Answer; 6] = [
           sender 0: sent 2 15, accepted 2 15, refused 0 0, evicted 0 0, emitted 2 15\n\
           sender 1: sent 2 50, accepted 2 50, refused 0 0, evicted 0 0, emitted 2 50\n",
     ),
-    // And the other way round: the closing of device 1 begins later, though device 0 is closed first.
+    // Here the drain of device 1 begins later, though device 0 is drained first: device 1 was pulled at 9, and device 0 at 4.
     (
         TWO_DEVICES,
         b"send 0 10\nsend 0 11\nsend 1 20\npull 9 1\npull 9 1\nsend 1 21\npull 4\npull 7 1\nsend 1 22\ndrain 5\n",
@@ -38,7 +38,7 @@ pub const ANSWERED: [Answer; 6] = [
           sender 0: sent 0 0, accepted 0 0, refused 0 0, evicted 0 0, emitted 0 0\n\
           sender 1: sent 0 0, accepted 0 0, refused 0 0, evicted 0 0, emitted 0 0\n",
     ),
-    // The device between the others has no sender, so that its pulls find nothing, and no line is written at its closing.
+    // The device between the others has no sender, so its pulls find nothing, and its drain writes no line.
     (
         THREE_DEVICES,
         b"send 0 10\nsend 1 20\npull 4 1\npull 1 2\nsend 1 30\ndrain 2\n",
@@ -48,7 +48,7 @@ pub const ANSWERED: [Answer; 6] = [
           sender 0: sent 1 10, accepted 1 10, refused 0 0, evicted 0 0, emitted 1 10\n\
           sender 1: sent 2 50, accepted 2 50, refused 0 0, evicted 0 0, emitted 2 50\n",
     ),
-    // What the first sender sends comes out at the second device.
+    // The second device emits what the first sender sends.
     (
         CROSSED_DEVICES,
         b"send 0 10\nsend 1 20\npull 1\npull 1 1\npull 2\nsend 0 11\nsend 1 21\nsend 1 22\ndrain 2\n",
@@ -59,7 +59,7 @@ pub const ANSWERED: [Answer; 6] = [
           sender 0: sent 2 21, accepted 2 21, refused 0 0, evicted 0 0, emitted 2 21\n\
           sender 1: sent 3 63, accepted 3 63, refused 0 0, evicted 0 0, emitted 3 63\n",
     ),
-    // Packets are put out at device 0 and refused at device 1, and the report goes by the senders' numbers.
+    // Device 0's queue evicts packets and device 1's refuses some, and the report goes by the senders' numbers.
     (
         FULL_AT_TWO_DEVICES,
         b"send 7 100\nsend 5 50\nsend 3 30\nsend 3 31\nsend 7 101\nsend 5 51\npull 1 1\nsend 3 32\ndrain 0\n",
@@ -74,7 +74,7 @@ pub const ANSWERED: [Answer; 6] = [
     ),
 ];
 
-/// The first line that names a device that isn't there is told.
+/// The fault is that of the first line that names an unknown device.
 pub const REFUSED: [Answer; 5] = [
     (
         TWO_DEVICES,

@@ -1,4 +1,4 @@
-//! Moments from which on a device of a router could emit a packet: worked rows, and random steps.
+//! The moments from which on a device of a router could emit a packet: worked rows, and random steps.
 
 ghost use Rattle.std.specs.Prelude.{◌<◌};
 ghost use Rattle.clk_sched.specs.Limits.{end_of_moments};
@@ -15,7 +15,7 @@ use std::process::Abort;
 /// How many steps are taken at random with each router.
 const RANDOM_STEPS: u32 = 300;
 
-/// A step of a row over a router, with what it comes to.
+/// A step of a row over a router, with its expected result.
 #[derive(Clone, Copy)]
 enum Step {
     /// The sender at this place offers a packet of this length.
@@ -30,7 +30,7 @@ enum Step {
     IsIdle(u16),
 }
 
-/// A router, and a session of the tree of its first device, which is never pulled and gives the closing bound.
+/// A router, and a session of the tree of its first device. The session is never pulled, and has the closing bound.
 #[derive(Drop)]
 struct Bench {
     router: CountingRouter,
@@ -60,7 +60,8 @@ impl Bench {
         self.router.pull(device, moment)
     }
 
-    // The due moment of a device. There is one exactly where a packet is left for it, and it is the device's moment or the next.
+    // The due moment of a device. There is one exactly if a packet is left for the device, and it is the device's latest moment or the next
+    // tick.
     fn due(&self, rt: &impl Abort, device: u16) -> Option<u64> {
         assert!(rt; usize::from(device) < self.router.devices());
         let due = self.router.due(device);
@@ -72,7 +73,7 @@ impl Bench {
         due
     }
 
-    // Does a step. Returns whether it came to what it says.
+    // Does a step. Returns whether it has the result that the row says.
     fn does(&mut self, rt: &impl Abort, step: Step) -> bool {
         match step {
             Offers(place, length) => {
@@ -88,8 +89,8 @@ impl Bench {
         }
     }
 
-    // Pulls the first device at a moment that is so many ticks after its own. Returns whether packets were left for it and none was due. Then
-    // a pull emits none.
+    // Pulls the first device `after` ticks after its latest moment. Returns whether packets were left for it and none was due; then the
+    // pull has to emit none.
     fn is_early(&mut self, rt: &impl Abort, after: u16) -> bool {
         let due = self.due(rt, 0);
         let moment = self.moment(rt) + u64::from(after);
@@ -103,7 +104,7 @@ impl Bench {
         }
     }
 
-    // The moment of the first device.
+    // The latest moment of the first device.
     fn moment(&self, rt: &impl Abort) -> u64
         ensures { result < end_of_moments }
     {
@@ -142,7 +143,7 @@ fn assert_steps(rt: &impl Abort, alloc: Global, name: &str, text: &str, steps: &
     }
 }
 
-// Each device has its own moment, its own packets and its own Shapers.
+// Each device has its own latest moment, its own packets and its own Shapers.
 #[test]
 fn devices_are_due_by_themselves(rt: HostRuntime) {
     let text =
@@ -256,14 +257,14 @@ fn routers_that_keep_visits_are_due(rt: HostRuntime) -> Result<(), Fault> {
     Ok(())
 }
 
-/// What random steps came upon: pulls before the due moment, and packets for which a DRRSched saved up at the due moment.
+/// What random steps met: pulls before the due moment, and packets for which a DRRSched saved up at the due moment.
 #[derive(Drop)]
 struct Met {
     early: u32,
     saved_up: u32,
 }
 
-// Takes a step: a packet is offered, or the first device is pulled at its own moment or the next, or at its due moment.
+// Takes a step: a packet is offered, or the first device is pulled at its latest moment or the next tick, or at its due moment.
 fn step_at_random(rt: &impl Abort, bench: &mut Bench, random: &mut Random, met: &mut Met) {
     match random.below(5) {
         0 | 1 => bench.offer(rt, usize::from(random.below(3)), 1 + random.below(1500)),

@@ -102,7 +102,7 @@ fn sink(rt: &impl Abort, alloc: Global) -> FailingSink {
     FailingSink::new(vec![in alloc; 0; AMPLE].expect(rt, "ample memory"))
 }
 
-// A script over two queues ends by this fault.
+// Fails unless a script over two queues ends with this fault.
 fn assert_refused(
     rt: &impl Abort,
     alloc: Global,
@@ -114,8 +114,8 @@ fn assert_refused(
     assert_eq!(rt; run_script(alloc, reader, writer, &plan), Err(fault));
 }
 
-// Fails unless a run of a script that closes ends so, and has written this, where the reader fails once it has given `limit` bytes, and
-// the writer once it has taken `room`.
+// Fails unless a run of a script with a drain ends in this way and has written this, if the reader fails after it has given `limit` bytes,
+// and the writer after it has taken `room`.
 fn assert_ends_within(
     rt: &impl Abort,
     alloc: Global,
@@ -142,7 +142,7 @@ fn a_failing_reader_is_told(rt: HostRuntime) {
     }
 }
 
-// After 53 bytes that is within the report, behind its first word.
+// After 53 bytes the writer is within the report, behind its first word.
 #[test]
 fn a_report_may_be_cut_off(rt: HostRuntime) {
     let alloc = rt.alloc();

@@ -49,7 +49,7 @@ pub const ROWS: [Row; 4] = [
         2,1,3,1,,,,0,0\n2,1,4,1,,,,0,0\n2,1,5,1,,,,0,0\n2,1,6,1,,,,0,0\n2,1,7,1,,,,0,0\n\
         2,1,8,1,,,,0,0\n2,1,9,1,,,,0,0\n2,0,0,1,,,,0,0\n",
     },
-    // When the third pull comes to the schedulers, no queue of theirs is marked: both are visited without asking.
+    // When the third pull visits the schedulers, none of their queues is marked: both are visited without asking.
     Row {
         name: "schedulers whose queues have nothing are visited from where their turn is",
         tree: DRR_OVER_TWO_SCHEDULERS,

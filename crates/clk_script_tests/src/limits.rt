@@ -6,17 +6,17 @@ use clk_packet::Fault;
 use clk_rows::trees::PRIO_OVER_ROOM_FOR_TWO;
 use std::alloc::{AllocError, Global};
 
-/// How many lines a script may have.
+/// How many lines a script may have at most.
 const LINES: usize = 1_000_000;
 
-/// How many bytes a script may have.
+/// How many bytes a script may have at most.
 const BYTES: usize = 33_554_432;
 
-/// What a drain writes where nothing has happened.
+/// What a drain writes if nothing has happened.
 const REPORT: &[u8] = b"sender 0: sent 0 0, accepted 0 0, refused 0 0, evicted 0 0, emitted 0 0\n\
     sender 1: sent 0 0, accepted 0 0, refused 0 0, evicted 0 0, emitted 0 0\n";
 
-/// A script, which is a text with so many line feeds before it and after it, how a run of it ends, and what it writes.
+/// A script, which is a text with a number of line feeds before it and after it, how a run of it ends, and what it writes.
 type Long = (
     &'static [u8],
     usize,
@@ -28,10 +28,10 @@ type Long = (
 const SCRIPTS: [Long; 6] = [
     (b"", LINES, 0, Ok(()), b""),
     (b"", LINES + 1, 0, Err(Fault::TooLarge), b""),
-    // A line too many may hold anything.
+    // A line too many may have any text.
     (b"x", LINES, 0, Err(Fault::TooLarge), b""),
     (b"drain 0\n", LINES - 1, 0, Ok(()), REPORT),
-    // Blank lines after a drain are counted.
+    // Blank lines after a drain count.
     (b"drain 0\n", 0, LINES - 1, Ok(()), REPORT),
     (b"drain 0\n", 0, LINES, Err(Fault::TooLarge), b""),
 ];
@@ -77,7 +77,7 @@ fn a_script_has_32_mebibytes_at_most(rt: HostRuntime) {
     );
 }
 
-/// A PrioSched over four, over which queues are spread, with a sender to the first. With the device these are seven elements more than
+/// A PrioSched over four, over which queues are spread, with a sender to the first. With the device these are seven elements besides the
 /// queues.
 const WIDE: Pieces = (
     "s :: Sender(0); x :: PrioSched; d :: ToDevice(link); x -> d; s -> q0_0;",

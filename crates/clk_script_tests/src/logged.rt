@@ -1,4 +1,4 @@
-//! Scripts whose visits are kept: each ends as it does where none are, and writes the same.
+//! Scripts whose visits are kept: each ends and writes as it does if none are kept.
 
 use clk_packet::{FailingSink, FailingSource, Fault};
 use clk_script::run_script_logged;
@@ -6,7 +6,7 @@ use clk_tree::Plan;
 use std::alloc::Global;
 use std::process::Abort;
 
-/// Fails unless a script whose visits are kept ends so over a tree, and writes just this.
+/// Fails unless a script whose visits are kept ends in this way over a tree, and writes exactly this.
 pub fn assert_logged(
     rt: &impl Abort,
     alloc: Global,
@@ -24,7 +24,7 @@ pub fn assert_logged(
     );
 }
 
-// How it ends, and what it writes, where the writer fails once it has taken `room` bytes.
+// How the script ends, and what it writes, if the writer fails after it has taken `room` bytes.
 fn logged(
     alloc: Global,
     tree: &str,

@@ -1,4 +1,4 @@
-//! A reader that gives a script in pieces: where these end changes nothing.
+//! A reader that gives a script in pieces: where the pieces end changes nothing.
 
 use crate::row::{AMPLE, assert_visits, run_within};
 use clk_packet::{Failed, FailingSource, Fault, Source};
@@ -6,7 +6,7 @@ use clk_rows::{PRIO_TWO_QUEUES, SCRIPTS};
 use std::alloc::Global;
 use std::process::Abort;
 
-// A source that gives a script, at most so many bytes at a time.
+// A source that gives a script, at most `most` bytes at a time.
 #[derive(Drop)]
 struct InPieces {
     script: FailingSource,
@@ -26,7 +26,7 @@ impl Source for InPieces {
     }
 }
 
-// Fails unless a script ends so, and writes this, where the reader gives at most so many bytes at a time, and fails once it has given
+// Fails unless a script ends in this way and writes this, if the reader gives at most `most` bytes at a time, and fails after it has given
 // `limit` bytes.
 fn assert_ends_in_pieces(
     rt: &impl Abort,
@@ -133,7 +133,7 @@ fn a_line_may_be_longer_than_a_piece(rt: HostRuntime) {
 
 const WRONG: &[u8] = b"send 0 40\nsend 0\npull 3\nsend 9 40\n";
 
-// The first line that has something wrong is told, whatever follows it, once the reader has come to its end.
+// The fault is that of the first line that has one, whatever follows it, and comes only at the end of the source.
 #[test]
 fn what_is_wrong_with_a_line_waits_for_the_end(rt: HostRuntime) {
     for most in 1..=WRONG.len() {
@@ -157,7 +157,7 @@ fn what_is_wrong_with_a_line_waits_for_the_end(rt: HostRuntime) {
 
 const WRONG_AT_END: &[u8] = b"send 0 40\npull 3\n\npull";
 
-// The last line has something wrong, and no line feed at its end.
+// The last line has a fault, and no line feed at its end.
 #[test]
 fn a_last_line_may_be_wrong_without_a_line_feed(rt: HostRuntime) {
     for most in 1..=WRONG_AT_END.len() {
@@ -173,7 +173,7 @@ fn a_last_line_may_be_wrong_without_a_line_feed(rt: HostRuntime) {
     }
 }
 
-// The lines before the wrong one are more than is read at a time, and lines stand across the ends of what is.
+// The lines before the one with the fault are more than is read at a time, and some lines cross the ends of pieces.
 #[test]
 fn the_number_of_a_wrong_line_counts_those_of_all_pieces(rt: HostRuntime) {
     let alloc = rt.alloc();

@@ -1,4 +1,4 @@
-//! A queue that is full.
+//! Full queues.
 
 use clk_rows::Row;
 use clk_rows::trees::SHARED_FRONT_DROP;

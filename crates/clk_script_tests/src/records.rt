@@ -9,7 +9,7 @@ use clk_packet::{FailingSink, Fault, Sink};
 use clk_rows::trees::PRIO_OVER_ROOM_FOR_TWO;
 use clk_script::{Command, ScriptWriter};
 
-/// Writes the record of some commands, and of the drain from this moment on, in ticks.
+/// Writes the record of these commands, and of the drain from this moment on, in ticks.
 fn write_record<W: Sink>(commands: &[Command], drain: u64, sink: &mut W) -> Result<(), Fault>
     ensures whole { OnOk result (Appends (W.Sink.taken sink.old) (W.Sink.taken sink.new) (record_text commands.now (Some drain))) }
 {
@@ -48,7 +48,7 @@ fn each_command_has_its_line(rt: HostRuntime) -> Result<(), Fault> {
     Ok(())
 }
 
-/// What a router did, recorded and run again: a refusal, a packet that came out, an empty pull, and the closing.
+/// Records what a router did, and runs the record again: a refusal, a packet that was emitted, an empty pull, and the drain.
 #[test]
 fn a_record_is_run_again(rt: HostRuntime) -> Result<(), Fault> {
     let commands = [
@@ -74,7 +74,7 @@ fn a_record_is_run_again(rt: HostRuntime) -> Result<(), Fault> {
     Ok(())
 }
 
-/// A moment that no script can name is refused, and leaves the record as it was.
+/// A moment that no script can name is not recorded, and leaves the record unchanged.
 #[test]
 fn a_late_moment_is_not_recorded(rt: HostRuntime) -> Result<(), Fault> {
     let mut sink = FailingSink::new(vec![in rt.alloc(); 0; 1024]?);
@@ -107,7 +107,7 @@ fn a_record_has_a_million_lines_at_most(rt: HostRuntime) -> Result<(), Fault> {
     Ok(())
 }
 
-/// Where the sink fails it has taken a front of the record, and the fault is told at once or at the end.
+/// If the sink fails, it has taken a front of the record, and the fault is returned at once or at the end.
 #[test]
 fn a_sink_that_fails_has_a_front(rt: HostRuntime) -> Result<(), Fault> {
     for room in [0, 1, 12] {

@@ -1,4 +1,4 @@
-//! What is done with a script over a tree.
+//! What tests do with a script over a tree.
 
 use crate::logged::assert_logged;
 use crate::{closing, deficit, devices, in_order, queues, scripts, shaper, stride};
@@ -14,7 +14,7 @@ use std::process::Abort;
 /// How many bytes a writer takes that isn't meant to fail, beside those that it is meant to take.
 pub const AMPLE: usize = 4096;
 
-/// A tree, a script over it, how that ends, and what it writes.
+/// A tree, a script over it, how the script ends, and what it writes.
 pub type Answer = (
     &'static str,
     &'static [u8],
@@ -22,7 +22,7 @@ pub type Answer = (
     &'static [u8],
 );
 
-/// Fails unless a script over a tree ends so, and writes what is expected.
+/// Fails unless a script over a tree ends in this way, and writes what is expected.
 pub fn assert_ends(
     rt: &impl Abort,
     alloc: Global,
@@ -41,7 +41,7 @@ pub fn assert_ends(
     );
 }
 
-/// Fails unless each script is answered so, whether its visits are kept or not.
+/// Fails unless each script has this answer, whether its visits are kept or not.
 fn assert_answers(rt: &impl Abort, alloc: Global, answers: &[Answer]) {
     for (tree, script, outcome, expected) in answers {
         assert_ends(rt, alloc, tree, script, *outcome, expected);
@@ -49,7 +49,7 @@ fn assert_answers(rt: &impl Abort, alloc: Global, answers: &[Answer]) {
     }
 }
 
-/// How a run of a script over a tree ends, and what it wrote, where the writer fails once it has taken `room` bytes.
+/// How a run of a script over a tree ends, and what it wrote, if the writer fails after it has taken `room` bytes.
 pub fn run_within(
     alloc: Global,
     tree: &str,
@@ -64,7 +64,7 @@ pub fn run_within(
     Ok((outcome, writer.taken().to_vec(alloc)?))
 }
 
-/// Fails unless each script is answered as its row says, and makes the visits that it shows.
+/// Fails unless each script has the answer of its row, and makes the visits that the row shows.
 fn assert_rows(rt: &impl Abort, alloc: Global, rows: &[Row]) {
     for row in rows {
         let (script, answer) = (row.script.as_bytes(), row.answer.as_bytes());

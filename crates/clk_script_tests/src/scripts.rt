@@ -1,4 +1,4 @@
-//! What scripts write, and what they are refused for.
+//! What scripts write, and the faults that they have.
 
 use crate::row::{Answer, assert_ends};
 use clk_packet::Fault;
@@ -14,14 +14,14 @@ pub const ANSWERED: [Answer; 7] = [
         b"pull 1099511627775: none\n",
     ),
     (TREE, b"pull 0 \r\n", Ok(()), b"pull 0: none\n"),
-    // The one device may be named.
+    // The only device may be named.
     (
         TREE,
         b"send 0 10\npull 3 0\npull\t2  00000 \r\n",
         Ok(()),
         b"0#0 10 accepted\npull 3: 0#0 10\npull 2: none\n",
     ),
-    // A queue of two packets refuses the third, which takes a number all the same.
+    // A queue of two packets refuses the third, which still takes a number.
     (
         TREE,
         b"send 0 10\nsend 0 20\nsend 0 30\nsend 1 5\npull 1\npull 1\npull 1\nsend 0 40\n",
@@ -29,8 +29,8 @@ pub const ANSWERED: [Answer; 7] = [
         b"0#0 10 accepted\n0#1 20 accepted\n0#2 30 refused\n1#0 5 accepted\n\
           pull 1: 0#0 10\npull 1: 0#1 20\npull 1: 1#0 5\n0#3 40 accepted\n",
     ),
-    // Each sender numbers its own packets, and queue 0 goes before an older packet of queue 1. A pull's line has the
-    // moment that was handed in, also where an earlier pull had a greater one.
+    // Each sender numbers its own packets, and queue 0 goes before an older packet of queue 1. A pull's line has the moment that was handed
+    // in, even if an earlier pull had a greater one.
     (
         TREE,
         b"send 1 5\nsend 0 6\nsend 1 7\nsend 0 8\nsend 1 9\npull 3\npull 3\npull 2\npull 2\npull 2\n",
@@ -76,7 +76,7 @@ const MALFORMED: [&[u8]; 32] = [
     // 2^64, and ten times 2^128.
     b"pull 18446744073709551616\n",
     b"pull 3402823669209384634633746074317682114560\n",
-    // An unknown sender, but no length.
+    // An unknown sender, but no valid length.
     b"send 7 0\n",
     b"pull\nsend 7 10\n",
     // Only one carriage return, and only before a line feed, is part of a line's end.
@@ -89,7 +89,7 @@ const MALFORMED: [&[u8]; 32] = [
     b"\xff",
 ];
 
-/// Other scripts, and why each is refused.
+/// Other scripts, and the fault of each.
 pub const REFUSED: [Answer; 11] = [
     (
         TREE,
@@ -128,7 +128,7 @@ pub const REFUSED: [Answer; 11] = [
         Err(Fault::UnknownSender { sender: 7 }),
         b"",
     ),
-    // There is no device but device 0.
+    // There is only device 0.
     (TREE, b"pull 0 1\n", Err(Fault::BadScript { line: 1 }), b""),
     (
         TREE,
@@ -136,7 +136,7 @@ pub const REFUSED: [Answer; 11] = [
         Err(Fault::BadScript { line: 2 }),
         b"",
     ),
-    // The first line that is wrong decides.
+    // The first line with a fault decides.
     (
         TREE,
         b"send 7 10\npull\n",

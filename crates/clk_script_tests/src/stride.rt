@@ -104,7 +104,7 @@ const MANY: [Pieces; 3] = [
     ("pull 0\n", 0, 32_771),
 ];
 
-/// What that script writes: pull 1 and the last give the packets of sender 1, and all others those of sender 0.
+/// What the script of `MANY` writes: pull 1 and the last give the packets of sender 1, and all others those of sender 0.
 const LINES_OF_MANY: [Pieces; 6] = [
     ("0#% 10 accepted\n", 0, 32_769),
     ("1#% 10 accepted\n", 0, 2),
@@ -114,7 +114,7 @@ const LINES_OF_MANY: [Pieces; 6] = [
     ("pull 0: 1#1 10\n", 0, 1),
 ];
 
-// Before the last pull but one both passes are 65,536, and the first input is asked first.
+// Before the last pull but one, both passes are 65,536, and the first input is asked first.
 #[test]
 fn tickets_may_be_far_apart(rt: HostRuntime) {
     let script = text_of(rt.alloc(), &MANY).expect(&rt, "ample memory");

@@ -2,10 +2,10 @@
 
 use std::alloc::{AllocError, Global};
 
-/// A piece of a text for each number from the first to the one before the second, which stands in it for each `%`.
+/// A piece of a text, which is repeated for each number from the first to the one before the second. The number replaces each `%` in it.
 pub type Pieces = (&'static str, u32, u32);
 
-/// The text that pieces make.
+/// The text of these pieces.
 pub fn text_of(alloc: Global, pieces: &[Pieces]) -> Result<String, AllocError> {
     let mut text = String::new(alloc);
     for (piece, from, to) in pieces {

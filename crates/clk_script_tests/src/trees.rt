@@ -1,4 +1,4 @@
-//! Trees of rows that stand in this crate alone.
+//! Trees of rows that only this crate has.
 
 /// A queue.
 pub const ONE: &str = "s0 :: Sender(0); q0 :: Queue; d :: ToDevice(link); s0 -> q0 -> d;";
@@ -79,11 +79,11 @@ s -> q -> y -> x -> d;";
 pub const SHAPER_1_3: &str =
     "s0 :: Sender(0); q0 :: Queue; x :: Shaper(1, 3); d :: ToDevice(link); s0 -> q0 -> [0] x; x -> d;";
 
-/// The same of rate 2 and burst 2.
+/// A Shaper of rate 2 and burst 2 over a queue.
 pub const SHAPER_2_2: &str =
     "s0 :: Sender(0); q0 :: Queue; x :: Shaper(2, 2); d :: ToDevice(link); s0 -> q0 -> [0] x; x -> d;";
 
-/// The same of rate 5 and burst 2.
+/// A Shaper of rate 5 and burst 2 over a queue.
 pub const SHAPER_5_2: &str =
     "s0 :: Sender(0); q0 :: Queue; x :: Shaper(5, 2); d :: ToDevice(link); s0 -> q0 -> [0] x; x -> d;";
 
@@ -92,12 +92,12 @@ pub const STRIDE_1_1: &str =
     "s0 :: Sender(0); q0 :: Queue; s1 :: Sender(1); q1 :: Queue; x :: StrideSched(1, 1); d :: ToDevice(link);
 s0 -> q0 -> [0] x; s1 -> q1 -> [1] x; x -> d;";
 
-/// The same with three tickets for the first.
+/// A StrideSched over two queues, with three tickets for the first and one for the second.
 pub const STRIDE_3_1: &str =
     "s0 :: Sender(0); q0 :: Queue; s1 :: Sender(1); q1 :: Queue; x :: StrideSched(3, 1); d :: ToDevice(link);
 s0 -> q0 -> [0] x; s1 -> q1 -> [1] x; x -> d;";
 
-/// The same over two queues of 40,000 packets, with as many tickets for the first as there may be.
+/// A StrideSched over two queues of 40,000 packets, with 32,768 tickets for the first, the most that there may be, and one for the second.
 pub const STRIDE_32768_1: &str =
     "s0 :: Sender(0); q0 :: Queue(40000); s1 :: Sender(1); q1 :: Queue(40000); x :: StrideSched(32768, 1); d :: ToDevice(link);
 s0 -> q0 -> [0] x; s1 -> q1 -> [1] x; x -> d;";
@@ -107,11 +107,11 @@ pub const STRIDE_OVER_DEFICIT: &str =
     "s :: Sender(0); t :: Sender(1); q, r :: Queue; y :: DRRSched(10); x :: StrideSched(1, 1); d :: ToDevice(l);
 t -> r -> x -> d; s -> q -> y -> [1] x;";
 
-/// Two devices, of which the first sender's queue goes to the second, and the second sender's to the first.
+/// Two devices. The first sender's queue goes to the second, and the second sender's to the first.
 pub const CROSSED_DEVICES: &str =
     "s :: Sender(0); p :: Queue; t :: Sender(1); q :: Queue; a, b :: ToDevice(x); s -> p -> b; t -> q -> a;";
 
-/// Three devices, of which the second has a queue without a sender.
+/// Three devices. The second has a queue without a sender.
 pub const THREE_DEVICES: &str =
     "s :: Sender(0); t :: Sender(1); p, n, q :: Queue; a, b, c :: ToDevice(x);
 s -> p -> a; n -> b; t -> q -> c;";
