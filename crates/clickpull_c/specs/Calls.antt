@@ -62,8 +62,8 @@ pub record GivesOne (device moment : ℕ) (c : Course) (filled : CPacket) (next 
   pub pulled : IsPulled c next device moment (Some packet)
   pub filled_is : filled ≡ packet_in_c packet
 
--- Pulls at a moment ended: as many packets were emitted as there are places; or fewer were, and the last pull emitted none; or at least one
--- was, and no more pulls can be made.
+-- Pulls at a moment ended: all places are filled; or the last pull emitted none; or at least one packet was emitted, and no more pulls can
+-- be made.
 pub data EndsPulls (device moment count : ℕ) (last new : Course) (given : ℕ) : Type 0 where
   full : given ≡ count → new ≡ last → EndsPulls device moment count last new given
   gave_none : given < count → IsPulled last new device moment None → EndsPulls device moment count last new given
@@ -110,8 +110,8 @@ departures_of (pull ∷ pulls) = with_departure pull.moment pull.got (departures
 abbrev pub HasRoom : ℕ → List DrainPull → Type 0
 HasRoom places pulls = (made : ℕ) → made < length pulls → length (departures_of (take made pulls)) < places
 
--- A drain ended: nothing is left; or packets are left, and all places are filled or all pulls made; or packets are left, and the device
--- can't be pulled one tick later.
+-- A drain ended: nothing is left; or all places are filled or all pulls made, and packets are left; or the device can't be pulled one tick
+-- later.
 pub data EndsDrain (new : Course) (device count most made given status : ℕ) : Type 0 where
   empty : status ≡ OK → IsEmptied new device → EndsDrain new device count most made given status
   full : status ≡ NONE → HasLeft new device → (given ≡ count) ⊎ (made ≡ most) → EndsDrain new device count most made given status

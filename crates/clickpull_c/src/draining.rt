@@ -10,8 +10,8 @@ use crate::statuses::{AT_END, NONE, OK, UNKNOWN_DEVICE};
 use crate::values::{CDeparture, packet_for_c};
 use clk_router::CountingRouter;
 
-/// Drains the device with this number: pulls it one tick apart, the first time one tick after its latest moment, until nothing is left for
-/// it, `pulls` pulls were made, or all places for departures are filled. Fills in how many packets were emitted.
+/// Drains the device with this number: pulls it one tick apart, the first time one tick after its latest moment. Stops when nothing is left
+/// for it, `pulls` pulls were made, or all places for departures are filled. Fills in how many packets were emitted.
 #[unsafe(no_mangle)]
 pub extern "C" fn clk_router_drain(
     router: &mut Handle,

@@ -23,8 +23,8 @@ pub record Tells (trace : List ℕ) (traces : List (List Packet)) : Type 0 where
   pub sound : trace_fault trace ≡ None
   pub sent : (s : ℕ) → shown (sent_by traces s) ≡ sent s (pairs_of trace)
 
--- Running a trace over a plan writes this text, with these logs: the report of a run of the plan over what the trace says, or over some
--- packets if its bytes aren't known. There may be several such texts, since runs may differ.
+-- Running a trace over a plan writes this text, with these logs. It is the report of a run of the plan over what the trace says, or over
+-- some packets if its bytes aren't known. There may be several such texts, since runs may differ.
 pub record RunWrites (plan : List Planned) (pace : Pace) (trace : Option (List ℕ)) (text : List ℕ) (logs : List (List Visit)) : Type 0 where
   pub traces : List (List Packet)
   pub tells : IfSome trace (λ bytes. Tells bytes traces)
@@ -56,8 +56,8 @@ pub record LiveWrites (plan : List Planned) (pace : Pace) (trace : Option (List 
   pub came_to : LiveRunOf plan traces pace.step pace.limit course (λ setup events closed. (text ≡ ending_text setup (Some 0) (events ++ closed)) × (script ≡ run_record events))
   pub means : recording ≡ true → (logs : List (List Visit)) × EndsIn plan script text logs
 
--- A sink that had taken `old` before has this of the script that records a run: nothing if the run was not to be recorded, otherwise all of
--- it, or a front of it if the sink failed.
+-- A sink that had taken `old` before has its part of the script that records a run. That is nothing if the run was not to be recorded,
+-- otherwise all of it, or a front of it if the sink failed.
 pub record HasRecord (recording failed : Bool) (old new : Option (List ℕ)) (script : List ℕ) : Type 0 where
   pub unrecorded : recording ≡ false → (new ≡ old) × (failed ≡ false)
   pub whole : recording ≡ true → failed ≡ false → Appends old new script

@@ -40,13 +40,13 @@ use std::thread::Threads;
 /// - `check TREE`: writes the canonical text of the tree in the file TREE to `writer`.
 /// - `script TREE SCRIPT [--visits FILE]`: runs the script in the file SCRIPT over the tree in the file TREE. The tree is read and checked
 ///   before SCRIPT is opened. After the answer its visits are written to FILE, as CSV, if a FILE is named.
-/// - `run TREE TRACE [--step N] [--limit N] [--visits FILE]`: runs the trace in the file TRACE over the tree in the file TREE, with a
-///   thread for each sender, and writes the report to `writer`. The tree is read and checked before TRACE is opened. While senders send,
-///   each device is pulled once each `--step` ticks, at most `--limit` times. The visits go to FILE as those of a script do.
+/// - `run TREE TRACE [--step N] [--limit N] [--visits FILE]`: runs the trace in the file TRACE over the tree in the file TREE, and writes
+///   the report to `writer`. Each sender has a thread. The tree is read and checked before TRACE is opened. While senders send, each device
+///   is pulled once each `--step` ticks, at most `--limit` times. The visits go to FILE as those of a script do.
 ///
-/// - `live TREE TRACE [--step N] [--limit N] [--record FILE] [--visits FILE]`: runs a trace as `run` does, but each sender offers to an
-///   inlet of its own, and one consumer takes packets from all inlets and pulls the devices. The record of the run is written to the FILE
-///   of `--record`, as a script that ends in the same report, and the visits of that script to the FILE of `--visits`.
+/// - `live TREE TRACE [--step N] [--limit N] [--record FILE] [--visits FILE]`: runs a trace as `run` does, but through inlets. Each sender
+///   offers to an inlet of its own, and one consumer takes packets from all inlets and pulls the devices. The FILE of `--record` gets the
+///   record of the run, as a script that ends in the same report. The FILE of `--visits` gets the visits of that script.
 ///
 /// `rt` has the files and starts the threads, and `wait` waits for queues.
 ///

@@ -38,9 +38,9 @@ pub fn tree_examples()
     ensures not_with_a_fault { ¬ (WasTreeRead (Some (codes "s")) 0 0) }
 {}
 
-/// How no task with visits ends, whose text and visit file have one byte each. It doesn't succeed without its visits; it doesn't write the
-/// visits without the text, whether a sink or an allocation failed; and it doesn't write the text without them if an allocation failed or
-/// at another fault.
+/// How no task with visits ends, whose text and visit file have one byte each. It doesn't succeed without its visits. It doesn't write the
+/// visits without the text, whether a sink or an allocation failed. It doesn't write the text without them if an allocation failed or at
+/// another fault.
 pub fn visits_examples()
     ensures not_without_visits { ¬ (WroteBoth IsOneByteEach (Some []) (Some (65 ∷ [])) success (Some []) (Some [])) }
     ensures not_visits_alone { ¬ (WroteBoth IsOneByteEach (Some []) (Some []) (failed Write) (Some []) (Some (66 ∷ []))) }

@@ -31,14 +31,17 @@ use std::thread::Threads;
 /// drained.
 ///
 /// If the run is to be recorded, `sink` takes the script of all that happens while senders send, and of the drain, as it happens. Returns
-/// the sink, and whether it failed. It has then taken a front of the record, and the run went on without it.
+/// the sink, and whether it failed. A sink that failed has taken a front of the record, and the run went on without it.
 ///
 /// # Errors
 ///
-/// Fault 1 if an allocation fails or a thread can't be started. Otherwise, in this order: 19 if the reader fails; 18 for a trace of more
-/// than 33,554,432 bytes; then, by records, 18 for record 1,000,001 and 14 for one that isn't a sender and a length; 15 with the least
-/// sender that the plan doesn't have; 18 if the run is to be recorded and the packets of the trace, with the pulls that the pace allows,
-/// are 1,000,000 or more; 20 if the writer fails. The writer has then taken a front of the report. At any other fault nothing is written.
+/// Fault 1 if an allocation fails or a thread can't be started. Otherwise, in this order:
+/// - fault 19 if the reader fails;
+/// - fault 18 for a trace of more than 33,554,432 bytes;
+/// - the fault of the first record that has one: 18 for record 1,000,001, and 14 for one that isn't a sender and a length;
+/// - fault 15 with the least sender that the plan doesn't have;
+/// - fault 18 if the run is to be recorded and the packets of the trace, with the pulls that the pace allows, are 1,000,000 or more;
+/// - fault 20 if the writer fails. It has then taken a front of the report. At any other fault nothing is written.
 pub fn live_trace<H: Threads + Wait, P: Wait + Sync, S: Source, W: Sink, R: Sink + Drop>(
     rt: &H,
     alloc: Global,

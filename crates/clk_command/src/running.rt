@@ -23,10 +23,13 @@ use std::thread::Threads;
 ///
 /// # Errors
 ///
-/// Fault 1 if an allocation fails or a thread can't be started. Otherwise, in this order: 19 if the reader fails; 18 for a trace of more
-/// than 33,554,432 bytes; then, by records, 18 for record 1,000,001 and 14 for one that isn't a sender and a length; 15 with the least
-/// sender that the plan doesn't have; 21 if a queue lost packets though it accepted fewer than its capacity; 20 if the writer fails. The
-/// writer has then taken a front of the report. At any other fault nothing is written.
+/// Fault 1 if an allocation fails or a thread can't be started. Otherwise, in this order:
+/// - fault 19 if the reader fails;
+/// - fault 18 for a trace of more than 33,554,432 bytes;
+/// - the fault of the first record that has one: 18 for record 1,000,001, and 14 for one that isn't a sender and a length;
+/// - fault 15 with the least sender that the plan doesn't have;
+/// - fault 21 if a queue lost packets though it accepted fewer than its capacity;
+/// - fault 20 if the writer fails. It has then taken a front of the report. At any other fault nothing is written.
 pub fn run_trace<H: Threads + Wait, P: Wait + Sync, R: Source, W: Sink>(
     rt: &H,
     alloc: Global,

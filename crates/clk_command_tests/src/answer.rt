@@ -18,8 +18,8 @@ pub fn input() -> &'static [u8] {
     PRIO_TWO_QUEUES.script.as_bytes()
 }
 
-/// Files that exist before, each with its path and contents; words; what they return for that script, and write to standard output, while
-/// nothing is written to standard error; and files with their contents afterwards, or `None` if they don't exist.
+/// Files that exist before, each with its path and contents. Words, what they return for that script, and what they write to standard
+/// output; they write nothing to standard error. Files with their contents afterwards, or `None` if they don't exist.
 pub type Row = (
     &'static [(&'static str, &'static str)],
     &'static str,

@@ -78,8 +78,8 @@ pub record IsUnsettledRun (plan : List Planned) (traces : List (List Packet)) (f
   pub offered : AllByRecursion (HasOffered traces) queues
   pub names : NamesFirstLost queues fault
 
--- Why a run fails: fault 1 (an allocation or the start of a thread failed), 15 (a sender of the trace is none of the plan's) or 21 (a queue
--- lost packets below its capacity). It has no other fault: a drain never stops short.
+-- Why a run fails: an allocation or the start of a thread failed (fault 1), the plan lacks a sender of the trace (15), or a queue lost
+-- packets below its capacity (21). It has no other fault, since a drain never stops short.
 abbrev pub IsFaultOfRun : List Planned → List (List Packet) → Fault → Type 0
 IsFaultOfRun plan traces Memory = ⊤
 IsFaultOfRun plan traces (UnknownSender s) = IsFirstUnknown (senders_in plan) traces s

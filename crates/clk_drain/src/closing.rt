@@ -22,12 +22,12 @@ use clk_sched::{Session, runs_conserve_packets};
 use std::alloc::Global;
 use std::sync::Wait;
 
-/// Drains a session whose lines are all closed, and settles each queue. It pulls the device one tick apart, the first time one tick after
-/// the later of this moment and the session's latest, until nothing is left in the queues and the tree. It gathers every seat before the
-/// first pull, so the drain always ends: a tap that gives none has then given all.
+/// Drains a session whose lines are all closed, and settles each queue. It pulls the device one tick apart until nothing is left in the
+/// queues and the tree. The first pull is one tick after the later of this moment and the session's latest. It gathers every seat before
+/// the first pull, so the drain always ends: a tap that gives none has then given all.
 ///
-/// The device emits, before or in the drain, exactly those packets of each sender that its queue accepted and didn't evict, each once, in
-/// the order in which they were sent.
+/// The device emits, before or in the drain, exactly those packets of each sender that its queue accepted and didn't evict. It emits each
+/// once, in the order in which they were sent.
 ///
 /// # Errors
 ///

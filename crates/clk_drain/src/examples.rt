@@ -43,8 +43,8 @@ pub fn outcome_examples()
     ensures not_other_gave { ¬ (IsSettledOutcome sent (other_gave ∷ []) tallies) }
 {}
 
-/// What draining a queue may tell, which accepted the first packet of its sender and refused the second: these two, and not the other way
-/// round.
+/// What a drain of a queue may return that accepted the first packet of its sender and refused the second: these outcomes, and not the
+/// other way round.
 pub fn drain_examples()
     ensures is_drained { MayDrainTo p0_0 p0_1 }
     ensures not_other_accepted { NeverDrainsTo p0_1 p0_0 }
@@ -76,7 +76,7 @@ pub fn lost_examples()
     ensures not_other_capacity { NeverNames (refusing 3 ∷ []) (Unsettled 0 1 4) }
 {}
 
-/// Which lists a run of a worked plan with two devices may come to.
+/// Which lists a run of a worked plan with two devices may return.
 pub fn run_examples()
     ensures is_run { MayComeTo plan run_lists }
     ensures not_of_wider_plan { NeverComesTo wider_plan run_lists }

@@ -77,9 +77,9 @@ pub fn run<R: Threads + Wait, W: Wait + Sync, G: Gate + Sync>(
     run_keeping(rt, alloc, wait, plan, traces, step, limit, gate, keeps)?.unpack(alloc)
 }
 
-/// Runs a plan over a trace as `run` does. If `visits` is true it keeps visits packed, in seven tenths of the memory; otherwise it keeps
-/// none, and the outcome has no logs. Contracts say that each device made a run of its tree, which fixes what it emitted: of the outcome's
-/// logs if visits are kept, otherwise of visits that only contracts know.
+/// Runs a plan over a trace as `run` does. If `visits` is true it keeps visits packed, in seven tenths of the memory. Otherwise it keeps
+/// none, and the outcome has no logs. Contracts say that each device made a run of its tree, which fixes what it emitted. They say it of
+/// the outcome's logs if visits are kept, otherwise of visits that only contracts know.
 ///
 /// # Errors
 ///

@@ -1,5 +1,5 @@
-//! Runs of two devices, and runs that keep no visits, in which an allocation or the start of a thread fails. tests/refuse-memory makes each
-//! allocation and each start of a thread of these tests fail in turn.
+//! Runs of two devices, and runs that keep no visits, in which an allocation or the start of a thread fails. The script tests/refuse-memory
+//! makes each of these of the tests here fail in turn.
 
 use crate::gates::{Calls, Counted};
 use crate::running::{records, traces};

@@ -1,5 +1,5 @@
-//! What runs with producers on threads have in common: their limits, the gate that can follow or hold up each step, and the check that the
-//! plan has all senders of the trace.
+//! What runs with producers on threads have in common: their limits, the gate that can follow or hold up each step, and the check of the
+//! senders of a trace.
 #![tactic(auto)]
 
 mod gate;

@@ -21,8 +21,8 @@ pub record IsPulledLive (device moment : ℕ) (old : Seen) (got : Option Emitted
 abbrev pub Emits : (device moment : ℕ) → Seen → Emitted → Seen → Type 0
 Emits device moment old e new = IsPulledLive device moment old (Some e) new
 
--- Pulls at a moment ended: as many packets were emitted as there are places; or the last pull emitted none; or at least one packet was
--- emitted, and no more pulls can be made.
+-- Pulls at a moment ended: all places are filled; or the last pull emitted none; or at least one packet was emitted, and no more pulls can
+-- be made.
 pub data EndsPulls (device moment count : ℕ) (last new : Seen) (given : ℕ) : Type 0 where
   full : given ≡ count → new ≡ last → EndsPulls device moment count last new given
   gave_none : given < count → IsPulledLive device moment last None new → EndsPulls device moment count last new given

@@ -49,8 +49,8 @@ pub record IsTokenOf (setup : Setup) (items : List (List Item)) (p : Packet) (to
 abbrev pub starts_at : LiveState → ℕ
 starts_at l = if nat_lt l.turn (length l.outlets) then l.turn else 0
 
--- An outlet went on: it is still the other half of its inlet; what was popped is kept, and is still in order; what was seen in the ring
--- still comes next.
+-- An outlet went on: what was popped is kept, in order, and what was seen in the ring still comes next. It is still the other half of its
+-- inlet.
 pub record GoesOn (old new : Outlet) : Type 0 where
   pub halves : (i : Inlet) → AreHalves i old → AreHalves i new
   pub in_order : Allowed MayFollow [] (popped old) → Allowed MayFollow [] (popped new)

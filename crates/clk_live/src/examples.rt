@@ -9,8 +9,8 @@ ghost use Rattle.clk_live.specs.Taking.{IsTaken, IsQueueFull, AreSharesOr};
 ghost use Rattle.clk_live.specs.Pulling.{IsPulledLive};
 ghost use Rattle.clk_live.specs.Examples.{two_and_one, nothing_taken, one_taken, one_kept, told, before_eviction, after_eviction, one_emitted, emitted_with, one_held, two_held, one_left, one_of_each, two_of_first, filled, with_room};
 
-/// A token came with the packet whose number is its place, and with no other: not with the next packet, not with another sender's, not with
-/// one of an unknown sender, and not with one that was not taken.
+/// A token came with the packet whose number is its place, and with no other. It came not with the next packet, not with another sender's,
+/// not with one of an unknown sender, and not with one that was not taken.
 pub fn token_examples()
     ensures first { IsTokenOf two_devices two_and_one p0_0 7 }
     ensures second { IsTokenOf two_devices two_and_one p0_1 8 }
@@ -34,8 +34,8 @@ pub fn taken_examples()
     ensures not_evicted_with_own { ¬ (IsTaken 1 before_eviction (told p1_1 6 (Evicted p1_0 6)) after_eviction) }
 {}
 
-/// A pull returns the packet that the device emitted, with the packet's own token. It does not return another token, `None`, or a packet that
-/// was not emitted.
+/// A pull returns the packet that the device emitted, with the packet's own token. It does not return another token, `None`, or a packet
+/// that was not emitted.
 pub fn pulled_examples()
     ensures emitted { IsPulledLive 0 0 one_taken (emitted_with 7) one_emitted }
     ensures not_other_token { ¬ (IsPulledLive 0 0 one_taken (emitted_with 8) one_emitted) }

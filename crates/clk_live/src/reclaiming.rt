@@ -56,8 +56,8 @@ impl Live {
     ghost use Rattle.clk_live.specs.State.{seen};
     ghost use Rattle.clk_live.specs.Reclaiming.{AreTokensInside};
 
-    /// Gives up the router, and returns the tokens of all packets that are inside it: queue by queue, and in each queue the packet first that
-    /// would have been emitted first. What still waits in the inlets is not among them.
+    /// Gives up the router, and returns the tokens of all packets that are inside it, queue by queue. In each queue the packet comes first
+    /// that would have been emitted first. Tokens that still wait in the inlets are not among them.
     pub fn reclaim(self) -> Reclaimed
         ensures { AreTokensInside (seen self) result }
     {

@@ -56,13 +56,13 @@ pub record LiveRunOf (plan : List Planned) (traces : List (List Packet)) (step l
   pub run : IsLiveRun traces step limit c.setup events closed
   pub told : Told c.setup events closed
 
--- The record of a run may take more lines than a script may have: one for each packet that is sent, for each pull that may be made while
--- senders send, and for the drain.
+-- The record of a run may take more lines than a script may have. It takes one for each packet that is sent, one for each pull that may be
+-- made while senders send, and one for the drain.
 abbrev pub MayBeTooLong : List Planned → List (List Packet) → ℕ → Type 0
 MayBeTooLong plan traces limit = most_lines < sent_in traces (senders_in plan) + device_count plan * limit + 1
 
--- Why a run fails: an allocation or the start of a thread failed; the trace has a sender that the plan does not have, and the fault names
--- the least such sender; or the run was to be recorded, and its record may be too long.
+-- Why a run fails: an allocation or the start of a thread failed, the plan lacks a sender of the trace, or its record may be too long.
+-- Fault 15 names the least sender that the plan lacks. Only a run that is to be recorded has a record.
 abbrev pub IsFaultOfLive : List Planned → List (List Packet) → ℕ → Bool → Fault → Type 0
 IsFaultOfLive plan traces limit recording Memory = ⊤
 IsFaultOfLive plan traces limit recording (UnknownSender s) = IsFirstUnknown (senders_in plan) traces s

@@ -37,7 +37,7 @@ use std::thread::Threads;
 /// How many packets an inlet has room for.
 const ROOM: u32 = 1024;
 
-/// Runs a plan over a trace through inlets: each sender, on a thread of its own, offers all that it sends, in order, and yields to other
+/// Runs a plan over a trace through inlets. Each sender, on a thread of its own, offers all that it sends, in order. It yields to other
 /// threads while its inlet is full. One consumer, on the calling thread, works in rounds. A round takes at most 64 packets of each sender.
 /// In each of the first `limit` rounds every device is then pulled once, in the n-th at moment `n * step`. Once all that was sent is taken,
 /// the devices are drained, one after the other.
@@ -49,8 +49,10 @@ const ROOM: u32 = 1024;
 ///
 /// # Errors
 ///
-/// In this order: fault 15 with the least sender that the trace has and the plan has not; fault 18 if the run is to be recorded and its
-/// record may have more lines than a script; fault 1 if an allocation or the start of a thread fails. All threads have ended then.
+/// In this order; all threads have ended then:
+/// - fault 15 with the least sender that the trace has and the plan has not;
+/// - fault 18 if the run is to be recorded and its record may have more lines than a script;
+/// - fault 1 if an allocation or the start of a thread fails.
 pub fn run_live<H: Threads + Wait, P: Wait + Sync, G: Gate + Sync, R: Sink + Drop>(
     rt: &H,
     alloc: Global,

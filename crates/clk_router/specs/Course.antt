@@ -86,8 +86,8 @@ pub record CanPull (c : Course) (device moment : ℕ) : Type 0 where
   pub moments : moment < end_of_moments
   pub pulls : pulls_at c device < end_of_pulls
 
--- A device can be drained from a moment on: it exists, no more is left than a drain emits at most, and neither moments nor its pulls are
--- near their end.
+-- A device can be drained from a moment on: it exists, no more is left than a drain may emit, and neither moments nor its pulls are near
+-- their end.
 pub record CanClose (c : Course) (device moment : ℕ) : Type 0 where
   pub there : device < length c.setup.trees
   pub left : accepted_at c device ≤ evicted_at c device + emitted_at c device + most_left

@@ -12,7 +12,7 @@ HasLeft c device = evicted_at c device + emitted_at c device < accepted_at c dev
 abbrev pub drained_by : Course → (device moment : ℕ) → List (List Visit) → Course
 drained_by c device moment pulls = after c (closing_pulls device moment (events_of c device) pulls)
 
--- A drain that can be made can go on to its end: as long as packets are left after some of its pulls, the device can be pulled once more,
+-- A drain that can be made can go on to its end. As long as packets are left after some of its pulls, the device can be pulled once more,
 -- one tick later.
 abbrev pub DrainsEnd : Course → (device moment : ℕ) → Type 0
 DrainsEnd c device moment =

@@ -167,8 +167,8 @@ pub record RunsTree (tree : Tree) (events : List Event) : Type 0 where
   pub pull_by_pull : pulls (log_of events) ≡ filter_map pull_in events
   pub moments : map moment_of (filter_map pull_in events) ≡ counted 0 (filter_map moment_in events)
 
--- These events can happen one after another: offers are of senders of the setup, each numbering its packets from 0; the pulls of each
--- device are a run of its tree; and what happened to each queue is a history of it. Pulls are of devices that exist, and refusals name the
+-- These events can happen one after another: the pulls of each device are a run of its tree, and what happened to each queue is a history
+-- of it. Offers are of senders of the setup, each numbering its packets from 0. Pulls are of devices that exist, and refusals name the
 -- packets that were offered.
 pub record CanHappen (setup : Setup) (events : List Event) : Type 0 where
   pub senders : AllByRecursion (IsOfSender setup) events
@@ -183,8 +183,8 @@ abbrev pub pulls_from : ℕ → ℕ → List (List Visit) → List Event
 pulls_from device moment [] = []
 pulls_from device moment (visits ∷ more) = pulled device moment visits ∷ pulls_from device (moment + 1) more
 
--- The pulls of a drain of a device after its events, from a moment on: one tick apart, the first one tick after the later of that moment
--- and the device's latest.
+-- The pulls of a drain of a device after its events, from a moment on. They are one tick apart, the first one tick after the later of that
+-- moment and the device's latest.
 abbrev pub closing_pulls : ℕ → ℕ → List Event → List (List Visit) → List Event
 closing_pulls device moment events closing = pulls_from device (max (fold max 0 (filter_map moment_in events)) moment + 1) closing
 

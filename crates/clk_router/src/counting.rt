@@ -179,9 +179,9 @@ impl CountingRouter {
         got
     }
 
-    /// The earliest moment, in ticks, at which a pull of a device could emit a packet, as things stand: the device's latest moment, or the
-    /// next tick if every packet is below a Shaper that has no token for it yet. `None` if no packet is left for the device. No pull before
-    /// that moment emits a packet. A pull at that moment may still emit none, while a DRRSched saves up for the packet.
+    /// The earliest moment, in ticks, at which a pull of a device could emit a packet, as things stand. It is the device's latest moment,
+    /// or the next tick if every packet is below a Shaper that has no token for it yet. `None` if no packet is left for the device. No pull
+    /// before that moment emits a packet. A pull at that moment may still emit none, while a DRRSched saves up for the packet.
     pub fn due(&self, device: u16) -> Option<u64>
         requires { device < length self.now.setup.trees }
         ensures due { IsDeviceDue self.now device result }

@@ -16,8 +16,8 @@ pub fn event_examples()
 {}
 
 /// A course is settled if its one packet is emitted by the device of its queue. It is not settled if the packet is emitted elsewhere or not
-/// at all, a refused packet is emitted, packets are swapped, a queue of either kind does what only the other kind does, a packet of an
-/// unknown sender is emitted or held, or a log is no run.
+/// at all, if a refused packet is emitted, or if packets are swapped. Nor is it if a queue of either kind does what only the other kind
+/// does. Nor is it if a packet of an unknown sender is emitted or held, or if a log is no run.
 pub fn settled_examples()
     ensures emitted_there { IsCourseSettled two_devices emitted_there }
     ensures not_emitted_elsewhere { ¬ (IsCourseSettled two_devices emitted_elsewhere) }
@@ -34,8 +34,8 @@ pub fn settled_examples()
 {}
 
 /// A course is accounted for if one packet is held as a head and one in the queue. It is not accounted for if a packet is emitted
-/// elsewhere, was never accepted, is emitted out of order, together with another in one pull, or after it was evicted, or if a queue of
-/// either kind does what only the other kind does.
+/// elsewhere, was never accepted, or is emitted out of order. Nor is it if a packet is emitted together with another in one pull, or after
+/// it was evicted. Nor is it if a queue of either kind does what only the other kind does.
 pub fn accounted_examples()
     ensures head_held { IsCourseAccounted one_drr head_held }
     ensures not_emitted_elsewhere { ¬ (IsCourseAccounted two_devices emitted_elsewhere) }

@@ -207,9 +207,9 @@ impl Router {
         Ok(got)
     }
 
-    /// The earliest moment, in ticks, at which a pull of a device could emit a packet, as things stand: the device's latest moment, or the
-    /// next tick if every packet is below a Shaper that has no token for it yet. `None` if no packet is left for the device. No pull before
-    /// that moment emits a packet. A pull at that moment may still emit none, while a DRRSched saves up for the packet.
+    /// The earliest moment, in ticks, at which a pull of a device could emit a packet, as things stand. It is the device's latest moment,
+    /// or the next tick if every packet is below a Shaper that has no token for it yet. `None` if no packet is left for the device. No pull
+    /// before that moment emits a packet. A pull at that moment may still emit none, while a DRRSched saves up for the packet.
     pub fn due(&self, device: u16) -> Option<u64>
         requires { device < length self.now.setup.trees }
         ensures due { IsDeviceDue self.now device result }
@@ -220,8 +220,8 @@ impl Router {
         self.parts.due(device)
     }
 
-    /// Drains a device: pulls it one tick apart, the first time one tick after the later of this moment and the device's latest, until all
-    /// packets that were accepted at it are evicted or emitted. Returns the packets that these pulls emitted, each with its moment.
+    /// Drains a device: pulls it one tick apart until all packets that were accepted at it are evicted or emitted. The first pull is one
+    /// tick after the later of this moment and the device's latest. Returns the packets that these pulls emitted, each with its moment.
     ///
     /// # Errors
     ///

@@ -28,8 +28,8 @@ at_its_queue setup tree q (pulled device moment visits) = flat_map (λ (v : Visi
 abbrev pub its_history : Setup → Tree → ℕ → List Event → List QueueEvent
 its_history setup tree q events = flat_map (at_its_queue setup tree q) events
 
--- These events can happen one after another: each sender numbers its packets from 0 on, the pulls are a run of the tree, each at the latest
--- moment so far, refusals name the packets that were offered, and what happened to each queue is a history of it.
+-- These events can happen one after another: the pulls are a run of the tree, and what happened to each queue is a history of it. Each pull
+-- is made at the latest moment so far. Each sender numbers its packets from 0 on, and refusals name the packets that were offered.
 pub record CanHappenAlone (setup : Setup) (tree : Tree) (events : List Event) : Type 0 where
   pub numbered : (s : ℕ) → numbers_of s events ≡ range_with_len 0 (length (numbers_of s events))
   pub runs : RunsTree tree events

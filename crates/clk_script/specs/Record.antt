@@ -51,8 +51,7 @@ pub record FitsLimits (events : List Event) (drain : Option ℕ) : Type 0 where
   pub last : IfSome drain (λ moment. moment ≤ most_moment)
   pub few : length events + drain_count drain ≤ most_lines
 
--- A line can name the sender of an offer, which is one of the setup with a number in range, or the device of a pull, which has a number in
--- range.
+-- A line can name the sender of an offer, or the device of a pull. The sender is one of the setup, and both have numbers in range.
 abbrev pub FitsNames : Setup → Event → Type 0
 FitsNames setup (offered p outcome) = IsOfSender setup (offered p outcome) × (p.sender ≤ most_sender)
 FitsNames setup (pulled device moment visits) = device ≤ most_device

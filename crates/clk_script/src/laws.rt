@@ -48,8 +48,9 @@ pub fn plans_have_at_most_one_meaning(plan: &Plan)
     scripts_have_at_most_one_meaning();
 }
 
-/// The record of what happened, with the drain at its end if there was one, is a script that means exactly that: the lines of the events,
-/// of the drain and of the report, with the logs of the devices. Only events that fit a script have a record that means anything.
+/// The record of what happened, with the drain at its end if there was one, is a script that means exactly that. Its meaning is the lines
+/// of the events, of the drain and of the report, with the logs of the devices. Only events that fit a script have a record that means
+/// anything.
 pub fn records_mean_their_course()
     ensures course { (setup : _) → RecordsMeanTheirCourse setup }
     ensures fitting { (setup : _) → OnlyFittingRecordsMean setup }
@@ -134,9 +135,9 @@ pub fn closing_examples()
     ensures not_on { ¬ (CloseFirst two_devices 4 2 one_at_each closed_on) }
 {}
 
-/// What the words of `run_script`'s contract exclude: more bytes are read than the limit; bytes are written that are no front of the text;
-/// the text is cut short though the call succeeds; only its end is written when the sink fails; something is written at another fault; or a
-/// fault is that of another script.
+/// What the words of `run_script`'s contract exclude. No more bytes are read than the limit, and no bytes are written that are no front of
+/// the text. The text isn't cut short if the call succeeds, and not only its end is written if the sink fails. Nothing is written at
+/// another fault, and no fault is that of another script.
 pub fn word_examples()
     ensures not_taken { ¬ (Takes 1 (Some (65 ∷ 66 ∷ [])) (Some [])) }
     ensures not_front { ¬ (AppendsFront (Some []) (Some (66 ∷ [])) (65 ∷ 66 ∷ [])) }
@@ -147,8 +148,8 @@ pub fn word_examples()
     ensures not_too_large_over_a_plan { (plan : _) → ¬ (ExplainsPlan plan (Some (codes "pull 0\n")) TooLarge) }
 {}
 
-/// A record byte for byte, events that fit at the greatest moments, and near misses: an unknown sender, a sender or a device above 65,535,
-/// a pull or a drain at 2^40, and line 1,000,001. The record of each near miss means nothing, though that pull can happen.
+/// A record byte for byte, and events that fit at the greatest moments. The near misses are an unknown sender, a sender or a device above
+/// 65,535, a pull or a drain at 2^40, and line 1,000,001. The record of each near miss means nothing, though that pull can happen.
 pub fn record_examples()
     ensures lines { record_text (map command_of (pulled_at 3)) (Some 4) ≡ codes "send 1 50\npull 3\npull 3 1\ndrain 4\n" }
     ensures fits { FitsScript two_devices (pulled_at 1099511627775) (Some 1099511627775) }

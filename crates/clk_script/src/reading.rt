@@ -233,8 +233,12 @@ impl Reading {
 }
 
 /// The row of the line with this number, counted from 1, or `None` if the line holds no command. `drained` says whether a drain came
-/// before. Fault 18 if the line is not one of the first 1,000,000; fault 16 if it is neither blank, a command nor a drain, follows a drain
-/// and isn't blank, or names an unknown device; fault 15 if it names an unknown sender.
+/// before.
+///
+/// # Errors
+///
+/// Fault 18 if the line is not one of the first 1,000,000. Fault 16 if it is no line of a script, names an unknown device, or follows a
+/// drain and isn't blank. Fault 15 if it names an unknown sender.
 #[inline(always)]
 fn row_in(
     numbers: &[u16],

@@ -123,8 +123,8 @@ impl Recorder {
         Ok(())
     }
 
-    /// Drains a device: pulls it one tick apart, the first time one tick after the later of this moment and the device's latest, until all
-    /// packets that are left for it are emitted. Returns these packets, each with its moment. Fault 1 if an allocation fails.
+    /// Drains a device: pulls it one tick apart until all packets that are left for it are emitted. The first pull is one tick after the
+    /// later of this moment and the device's latest. Returns these packets, each with its moment. Fault 1 if an allocation fails.
     pub fn drain(
         &mut self,
         alloc: Global,

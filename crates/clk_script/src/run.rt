@@ -23,10 +23,12 @@ use std::alloc::Global;
 ///
 /// # Errors
 ///
-/// Fault 1 if an allocation fails. Otherwise, in this order: fault 19 if the reader fails; fault 18 for a script of more than 33,554,432
-/// bytes; then the fault of the first line that has one: 16 if it is no line of a script, follows a drain, or names an unknown device, 15
-/// if it names an unknown sender, and 18 if it is line 1,000,001; and fault 20 if the writer fails. The writer has then taken a front of
-/// the meaning.
+/// Fault 1 if an allocation fails. Otherwise, in this order:
+/// - fault 19 if the reader fails;
+/// - fault 18 for a script of more than 33,554,432 bytes;
+/// - the fault of the first line that has one: 18 if it is line 1,000,001, 15 if it names an unknown sender, and 16 if it is no line of a
+///   script, follows a drain, or names an unknown device;
+/// - fault 20 if the writer fails. It has then taken a front of the meaning.
 pub fn run_script<R: Source, W: Sink>(
     alloc: Global,
     reader: &mut R,

@@ -233,7 +233,7 @@ fn due_of(rt: &impl Abort, router: &Router) -> Option<u64> {
     router.due(0)
 }
 
-// A router that keeps visits tells its due moment too.
+// A router that keeps visits has a due moment too.
 #[test]
 fn routers_that_keep_visits_are_due(rt: HostRuntime) -> Result<(), Fault> {
     let text =

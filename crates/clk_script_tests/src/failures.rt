@@ -114,8 +114,8 @@ fn assert_refused(
     assert_eq!(rt; run_script(alloc, reader, writer, &plan), Err(fault));
 }
 
-// Fails unless a run of a script with a drain ends in this way and has written this, if the reader fails after it has given `limit` bytes,
-// and the writer after it has taken `room`.
+// Fails unless a run of a script with a drain ends in this way and has written this. The reader fails after it has given `limit` bytes, and
+// the writer after it has taken `room`.
 fn assert_ends_within(
     rt: &impl Abort,
     alloc: Global,

@@ -9,7 +9,7 @@ use super::values::{CDeparted, departed_for_c};
 use crate::statuses::{AT_END, NONE, OK, RECLAIMED, UNKNOWN_DEVICE};
 use clk_live::{Departed, Live};
 
-/// Drains the device with this number: pulls it one tick apart, the first time one tick after its latest moment, until no packet is left
+/// Drains the device with this number: pulls it one tick apart, the first time one tick after its latest moment. Stops when nothing is left
 /// for it, `pulls` pulls were made, or all places are filled. Fills in how many packets were emitted.
 #[unsafe(no_mangle)]
 pub extern "C" fn clk_raw_live_drain(

@@ -7,8 +7,8 @@ use super::handle::LiveHandle;
 use super::router::LiveRouter;
 use crate::statuses::{NONE, OK};
 
-/// Gives up the router, and fills in the tokens of all packets that are inside it, as many as find a place: queue by queue, and in each
-/// queue the packet first that would have been emitted first. A further call goes on from there. Tokens that wait in the inlets are not
+/// Gives up the router, and fills in the tokens of all packets that are inside it, as many as find a place, queue by queue. In each queue
+/// the packet comes first that would have been emitted first. A further call goes on from there. Tokens that wait in the inlets are not
 /// among them.
 #[unsafe(no_mangle)]
 pub extern "C" fn clk_raw_live_reclaim(

@@ -36,8 +36,8 @@ IsRecordOf recording start r commands = StandsAs r.state recording start r.sink 
 abbrev pub LeadsOn : (old new : RecordAt) → (before after : List Command) → Type 0
 LeadsOn old new before after = (recording : Bool) (start : SinkAt) → IsRecordOf recording start old before → IsRecordOf recording start new after
 
--- A record with its drain has ended: the sink is as it was if there was no record; else, if all lines fit a script, it has the whole record
--- or, if it failed, a front of it.
+-- A record with its drain has ended. If there was no record, the sink is unchanged. Otherwise, if all lines fit a script, the sink has the
+-- whole record or, if it failed, a front of it.
 pub record IsEnded (recording failed : Bool) (start now : SinkAt) (commands : List Command) : Type 0 where
   pub unrecorded : recording ≡ false → (now ≡ start) × (failed ≡ false)
   pub whole : recording ≡ true → length commands < most_lines → failed ≡ false → (now.failures ≡ start.failures) × Appends start.taken now.taken (record_text commands (Some 0))
