@@ -412,9 +412,10 @@ static inline clk_status clk_moment(const clk_router *router, uint16_t device, u
     return CLK_STATUS(clk_router_moment(&same, device, moment));
 }
 
-/* The earliest moment, in ticks, at which a pull of the device could emit a packet, as things stand: the device's latest moment, or the
- * next tick if every packet is below a Shaper that has no token for it yet. Pulls emit nothing before, so a caller may sleep until then, or
- * until a packet is offered. A pull at that moment may still emit nothing, while a DRRSched saves up for a long packet: pull again.
+/* The earliest moment, in ticks, at which a pull of the device could emit a packet, as things stand. It is the device's latest moment, or
+ * the next tick if every packet is below a Shaper that has no token for it yet. Pulls emit nothing before, so a caller may sleep until
+ * then, or until a packet is offered. A pull at that moment may still emit nothing, while a DRRSched saves up for a long packet: pull
+ * again.
  *
  * CLK_OK    `moment` is it.
  * CLK_NONE  no packet is left for the device.
@@ -839,7 +840,7 @@ static inline clk_status clk_live_drained(const clk_live *live) {
     return CLK_STATUS(clk_raw_live_drained(&same));
 }
 
-/* Gives up the router, and fills in the tokens of the packets that are inside it: queue by queue, and in each queue the packet first that
+/* Gives up the router, and fills in the tokens of the packets that are inside it, queue by queue. In each queue the packet comes first that
  * would have been emitted first. It fills in `count` tokens at most, and goes on when it is called again. `given` is how many it filled in.
  * After the first call all calls but this and clk_live_close return CLK_RECLAIMED. Tokens that wait in the inlets don't come back:
  * close and take from these before.

@@ -50,8 +50,8 @@ class Dispatcher(Generic[T]):
     Any thread may call `submit`, `next`, `next_async` and `close` at any time. `submit` never waits. `next` waits until a job is due: until
     one is submitted, or a Shaper lets one pass. A tick is the time in which a Shaper of rate 1 lets one job pass.
 
-    A dispatcher is a context manager, which closes it, and an iterator of the jobs of device 0: `for job in dispatcher` and, in asyncio,
-    `async for job in dispatcher` end once it is closed and all jobs were given. Each job is given once, even if several iterate.
+    A dispatcher is a context manager, which closes it, and an iterator of the jobs of device 0. Loops `for job in dispatcher` and, in
+    asyncio, `async for job in dispatcher` end once it is closed and all jobs were given. Each job is given once, even if several iterate.
 
     An interrupt, as by Ctrl-C, may come at any point of a call:
 
@@ -224,8 +224,8 @@ class Dispatcher(Generic[T]):
     def _due(self, device: int) -> int | None:
         """The earliest moment at which a job could be given, or None if none is left.
 
-        A taker pulls only from that moment on: how often takers look must not change what schedulers do, and a DRRSched that finds an input
-        without a packet resets the deficit of that input to 0.
+        A taker pulls only from that moment on, since how often takers look must not change what schedulers do. A DRRSched that finds an
+        input without a packet resets the deficit of that input to 0.
         """
         if self._returned[device] or self._carrier._waits(device):
             return 0
