@@ -8,7 +8,8 @@ use crate::taking::Outcome;
 use circular_buffer::HeapCircularBuffer;
 use clk_packet::Offered;
 
-// Notes the outcome of an offer to a queue of `capacity` packets: of a packet with this token.
+// Notes, among the tokens of a queue of `capacity` packets, that a packet with this token was offered with this outcome. Returns the
+// outcome, with the token of the packet that was evicted, if one was.
 pub(crate) fn note_offer(
     tokens: &mut HeapCircularBuffer<u64>,
     capacity: usize,
