@@ -69,7 +69,7 @@ extern "C" {
 typedef enum clk_status {
     CLK_OK = 0,             /* done */
     CLK_NONE = 1,           /* no packet was taken or emitted; a drain or a reclaim has more to do; or what was asked isn't true yet */
-    CLK_SHUT = 2,           /* the router or the inlet is shut: it was closed, or clk_open had a fault */
+    CLK_SHUT = 2,           /* the router or the inlet is shut: it was closed, or not opened */
     CLK_NULL = 3,           /* a pointer is null */
     CLK_UNKNOWN_SENDER = 4, /* the tree has no sender with this number, or at this place */
     CLK_UNKNOWN_DEVICE = 5, /* the tree has no device with this number */
@@ -325,7 +325,7 @@ static inline void clk_close(clk_router *router) {
 /* ------------------------------------------------------------------------------------------------------------ offers */
 
 /* The sender with this number offers its next packet, of `length` bytes, to its queue. The packets of a sender are numbered from 0 in the
- * order of its offers, also those that are refused.
+ * order of its offers, even those that are refused.
  *
  * CLK_OK              `offered` has the packet and its outcome. A refusal is an outcome, and no failure of the call.
  * CLK_BAD_LENGTH      `length` is not from 1 to 65,535. This is tested first.
@@ -633,8 +633,8 @@ static inline clk_status clk_inlet_close(clk_inlet *inlet) {
  *     }
  *     clk_live_close(&live);
  *
- * TOKENS. A token comes back once: from a pull that emits its packet, from a take that tells that the packet was refused, from a take that
- * tells that it was evicted for another, or from clk_live_reclaim.
+ * TOKENS. A token comes back once: from a pull that emits its packet, from a take that refused the packet, from a take that evicted it for
+ * another, or from clk_live_reclaim.
  *
  * WHEN A SENDER IS FASTER than the owner takes, its inlet fills up, and its offers return CLK_FULL. No packet is lost there. With
  * clk_live_take and clk_live_take_in full queues refuse or evict, as Click's do. With clk_live_take_what_fits a full queue holds back its
@@ -1096,12 +1096,12 @@ static inline const char *clk_status_text(clk_status status) {
  * sender, by these three rules:
  *
  *   - Packets of one sender are emitted in the order in which it offered them. So the packet that a pull emits of sender S stands at the
+ *     front of S's list: take it from there. No search is needed, and no table by number.
+ *   - A packet that is refused never goes into the list. One that is accepted, whether or not it evicts another, goes to its back.
  *   - A packet that is evicted is the first that its queue holds. In its sender's list only packets that schedulers hold stand before
  *     it: they left the queue earlier, and will still be emitted. A DRRSched holds at most one packet for each of its inputs. So at most
  *     as many packets stand before it as there are DRRScheds on the path from the queue to the device. Compare numbers from the front,
  *     and take out the one that matches.
- *     packets stand before it as there are DRRScheds on the path from the queue to the device. Compare numbers from the front, and take out
- *     the one that matches.
  *
  * In one offer, first take out `offered.evicted` if the outcome is CLK_EVICTED, then put the new packet at the back. The two may be of
  * different senders.
