@@ -842,8 +842,8 @@ static inline clk_status clk_live_drained(const clk_live *live) {
 
 /* Gives up the router, and fills in the tokens of the packets that are inside it, queue by queue. In each queue the packet comes first that
  * would have been emitted first. It fills in `count` tokens at most, and goes on when it is called again. `given` is how many it filled in.
- * After the first call all calls but this and clk_live_close return CLK_RECLAIMED. Tokens that wait in the inlets don't come back:
- * close and take from these before.
+ * After the first call all calls on the router but this and clk_live_close return CLK_RECLAIMED, or a count of 0. Tokens that wait in the
+ * inlets don't come back: close the inlets and take from them first.
  *
  * CLK_OK    there are no more tokens, and `given` is below `count`.
  * CLK_NONE  all `count` tokens are filled in: call again.

@@ -20,10 +20,10 @@ const TREE: (&str, &str) = (
     "s :: Sender(0); q :: Queue(1000); d :: ToDevice(link); s -> q -> d;",
 );
 
-/// A trace over that tree.
+/// A trace over the tree `TREE`.
 const SENT: (&str, &str) = ("out/live.trace", "0,10\n0,20\n");
 
-/// The report of that trace.
+/// The report of the trace `SENT`.
 const REPORT: &str = "sender 0: sent 2 30, accepted 2 30, refused 0 0, evicted 0 0, emitted 2 30\n";
 
 /// Words for a trace with a fault, and the files that aren't created then.

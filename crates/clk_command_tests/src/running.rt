@@ -18,10 +18,10 @@ const ALONE: &str = "s :: Sender(0); q :: Queue(1000); d :: ToDevice(link); s ->
 
 const TREE: (&str, &str) = ("out/sound.click", ALONE);
 
-/// A trace over that tree.
+/// A trace over the tree `ALONE`.
 const TRACE: &str = "0,10\n0,20\n";
 
-/// The report of that trace.
+/// The report of the trace `TRACE`.
 const REPORT: &str = "sender 0: sent 2 30, accepted 2 30, refused 0 0, evicted 0 0, emitted 2 30\n";
 
 const SENT: (&str, &str) = ("out/sent.trace", TRACE);

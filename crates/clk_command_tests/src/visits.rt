@@ -25,20 +25,20 @@ const ALONE: (&str, &str) = (
     "s :: Sender(3); q :: Queue; d :: ToDevice(link); s -> q -> d;",
 );
 
-/// A script over that tree.
+/// A script over the tree `ALONE`.
 const SAME: (&str, &str) = ("out/same.script", "send 3 10\npull 5\npull 4\n");
 
-/// What that script writes.
+/// What the script `SAME` writes.
 const ANSWER: &str = "3#0 10 accepted\npull 5: 3#0 10\npull 4: none\n";
 
-/// A script over that tree with a drain.
+/// A script over the tree `ALONE`, with a drain.
 const CLOSED: (&str, &str) = ("out/closed.script", "send 3 10\ndrain 0\n");
 
-/// What the script with a drain writes.
+/// What the script `CLOSED` writes.
 const CLOSING: &str = "3#0 10 accepted\npull 1: 3#0 10\n\
     sender 3: sent 1 10, accepted 1 10, refused 0 0, evicted 0 0, emitted 1 10\n";
 
-/// A text that is longer than the visits of the first script.
+/// A text that is longer than the visits of the script `SAME`.
 const LONG: &str =
     "xxxxxxxxxxxxxxxxxxxxxxxxxxxxxxxxxxxxxxxxxxxxxxxxxxxxxxxxxxxxxxxxxxxxxxxxxxxxxxxxxxxxxxxxxxxxxxxxxxxxxxxxxxxxxxxxxxxxxxxxxxxxxxxx";
 
