@@ -2,7 +2,7 @@
 
 ghost use Rattle.clk_drain.specs.Laws.{TapsTakeWhatLeavesGive};
 
-/// The tap of each line takes what the tree's visits got from its leaf, in order, and no other line changes.
+/// The tap of each line takes what the visits of a tree got from its leaf, in order, and nothing else changes.
 pub fn taps_take_what_leaves_give()
     ensures { TapsTakeWhatLeavesGive }
 {}

@@ -78,8 +78,8 @@ pub fn records_grow()
     ensures limits_drain { (events : List Event) (moment : ℕ) → FitsLimits events None → moment ≤ most_moment → length events < most_lines → FitsLimits events (Some moment) }
 {}
 
-/// Over one device a script means what it means without numbers of devices: its pulls are a run of the one tree, and their lines are `pull
-/// M: ..`. Two queues below a PrioSched are such a device.
+/// Over one device a script means what it means without numbers of devices: its pulls are a run of the one tree, and their lines are
+/// `pull M: ..`. Two queues below a PrioSched are such a device.
 pub fn one_device_needs_no_number()
     ensures alone { (setup : _) (tree : _) → HasOneDevice setup tree → (script text : List ℕ) → IsMeaning setup script text → IsMeaningAlone setup tree script text }
     ensures all { (setup : _) (tree : _) → HasOneDevice setup tree → (script text : List ℕ) → IsMeaningAlone setup tree script text → IsMeaning setup script text }
