@@ -1,6 +1,6 @@
 -- Bytes that are added to a record, one line after another.
-use Rattle.std.proofs.Common.{◌≡◌, ℕ, ◌+◌, ◌-◌, ◌<◌, ◌≤◌, suc, List, [], ◌∷◌, ◌++◌, length, take, drop, map, replicate, get_or, None, refl, sym, ap, ◌∙◌, arith, append-nil, append-assoc, length-append}
-use Rattle.std.proofs.lemmas.List.{take-append-le, take-append-drop, map-append, length-take-le}
+use Rattle.std.proofs.Common.{◌≡◌, ℕ, ◌+◌, ◌-◌, ◌<◌, ◌≤◌, zero, suc, List, [], ◌∷◌, ◌++◌, length, take, drop, map, replicate, get_or, None, refl, sym, ap, ◌∙◌, arith, append-nil, append_assoc, length-append}
+use Rattle.std.proofs.lemmas.List.{take-append-le, take-append-drop, map-append, length-take-le, replicate-append-replicate}
 use Rattle.clk_script.specs.declared.script.Command.{Command}
 use Rattle.clk_script.specs.Record.{command_text, record_text}
 use Rattle.clk_script.proofs.Callers.Records.{command-more, front-shorter}
@@ -17,7 +17,7 @@ added-more front back before mid after used end end' same first next =
     let b = next.end_is in
     let w = next.within in
     record {
-      is = next.is ∙ ap (λ l. l ++ back) first.is ∙ append-assoc (take used before) front back;
+      is = next.is ∙ ap (λ l. l ++ back) first.is ∙ append_assoc (take used before) front back;
       end_is = omega (arith, both, a, b);
       within = omega (arith, same, w);
     }
@@ -32,8 +32,8 @@ added-keeps bytes before after used end h same =
     take-take used end after (omega (arith, e)) ∙ ap (take used) h.is ∙ take-append-le used (take used before) bytes (omega (arith, front)) ∙ sym (take-take used used before (omega arith))
   where
     take-take : (n m : ℕ) (l : List ℕ) → n ≤ m → take n l ≡ take n (take m l)
-    take-take 0 m l low = refl
-    take-take (suc n) 0 l low = absurd (omega (arith, low))
+    take-take zero m l low = refl
+    take-take (suc n) zero l low = absurd (omega (arith, low))
     take-take (suc n) (suc m) [] low = refl
     take-take (suc n) (suc m) (x ∷ l) low = ap (λ r. x ∷ r) (take-take n m l (omega (arith, low)))
 
@@ -50,21 +50,11 @@ sends-front f xs n =
 
 -- the line of the next of some pulls
 pub pulls-more : (n : ℕ) (c : Command) → record_text (replicate (n + 1) c) None ≡ record_text (replicate n c) None ++ command_text c
-pulls-more n c = ap (λ l. record_text l None) (last n) ∙ command-more (replicate n c) c
-  where
-    last : (n : ℕ) → replicate (n + 1) c ≡ replicate n c ++ c ∷ []
-    last 0 = refl
-    last (suc n) = ap (λ l. c ∷ l) (last n)
+pulls-more n c = ap (λ l. record_text l None) (sym (replicate-append-replicate n 1 c)) ∙ command-more (replicate n c) c
 
 pub pulls-front : (n m : ℕ) (c : Command) → n ≤ m → length (record_text (replicate n c) None) ≤ length (record_text (replicate m c) None)
 pulls-front n m c low =
-    let all = ap (λ k. length (record_text (replicate k c) None)) (sum low) ∙ ap (λ l. length (record_text l None)) (both n (m - n)) in
+    let sum : n + (m - n) ≡ m = omega (arith, low) in
+    let all = ap (λ l. length (record_text l None)) (replicate-append-replicate n (m - n) c ∙ ap (λ k. replicate k c) sum) in
     let front = front-shorter (replicate n c) (replicate (m - n) c) in
     omega (arith, all, front)
-  where
-    sum : n ≤ m → m ≡ n + (m - n)
-    sum low = omega (arith, low)
-
-    both : (a b : ℕ) → replicate (a + b) c ≡ replicate a c ++ replicate b c
-    both 0 b = refl
-    both (suc a) b = ap (λ l. c ∷ l) (both a b)

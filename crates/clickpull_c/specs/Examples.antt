@@ -1,5 +1,5 @@
--- Courses after pulls and drains, and courses after one pull too many. And items for an inlet.
-use Rattle.std.specs.Prelude.{List, [], ◌∷◌, Some, None, true, false}
+-- Courses after pulls and drains, and courses after one pull too many. And items for an inlet, and a line of a record.
+use Rattle.std.specs.Prelude.{ℕ, List, [], ◌∷◌, ◌++◌, replicate, codes, Some, None, true, false}
 use Rattle.std.proofs.Common.{lit≤}
 use Rattle.clk_packet.specs.Packets.{packet}
 use Rattle.clk_packet.specs.declared.packet.Packet.{Packet}
@@ -91,3 +91,13 @@ one_item = record { token = 7; length = 100 } ∷ []
 -- one item for an inlet, which is too long
 abbrev pub too_long : List CItem
 too_long = record { token = 7; length = 65536 } ∷ []
+
+-- the line of a packet, room for it, and the room once the line stands in it
+abbrev pub a_line : List ℕ
+a_line = codes "send 0 7\n"
+
+abbrev pub line_room : List ℕ
+line_room = replicate 12 0
+
+abbrev pub line_added : List ℕ
+line_added = a_line ++ replicate 3 0

@@ -1,13 +1,14 @@
 //! What the definitions of calls say of worked examples. The functions do nothing.
 
-ghost use Rattle.std.specs.Prelude.{[]};
+ghost use Rattle.std.specs.Prelude.{[], Some, None};
 ghost use Rattle.clk_inlet.specs.Halves.{next_number};
 ghost use Rattle.clk_inlet.specs.declared.inlet.Inlet.{Inlet};
 ghost use Rattle.clickpull_c.specs.Answers.{RefusesOffer};
 ghost use Rattle.clickpull_c.specs.Calls.{IsDrained, IsPulledOften};
+ghost use Rattle.clickpull_c.specs.Recording.{AddsLines};
 ghost use Rattle.clickpull_c.specs.Inlets.{Accepts, AcceptsMany, EndsBatch, RefusesPacket};
-ghost use Rattle.clickpull_c.specs.Examples.{fresh, fresh_pulled, one_waits, one_out, one_out_pulled, two_wait, first_out, first_out_pulled, packet_before, packet_filled, departure_before, departure_filled, one_item, too_long};
-ghost use Rattle.clickpull_c.specs.declared.statuses.TheConstants.{OK, NONE, BAD_LENGTH, UNKNOWN_SENDER, FULL};
+ghost use Rattle.clickpull_c.specs.Examples.{fresh, fresh_pulled, one_waits, one_out, one_out_pulled, two_wait, first_out, first_out_pulled, packet_before, packet_filled, departure_before, departure_filled, one_item, too_long, a_line, line_room, line_added};
+ghost use Rattle.clickpull_c.specs.declared.statuses.TheConstants.{OK, NONE, AT_END, BAD_LENGTH, UNKNOWN_SENDER, FULL};
 
 /// A drain makes no pull if nothing is left, and none once its one place is filled, though it may make five pulls. Pulls at one moment end
 /// once their one place is filled.
@@ -45,4 +46,20 @@ pub fn inlet_examples()
     ensures not_ended_early { (i : Inlet) → ¬ (EndsBatch i one_item 0 OK) }
     ensures ended_by_length { (i : Inlet) → EndsBatch i too_long 0 BAD_LENGTH }
     ensures not_ended_by_good_length { (i : Inlet) → ¬ (EndsBatch i one_item 0 BAD_LENGTH) }
+{}
+
+/// A line is added to a record only if it stands there and is counted, is left out only if it doesn't fit or may not follow, and whether it
+/// may is tested first.
+pub fn record_examples()
+    ensures adds { AddsLines a_line 1 None line_room line_added 0 9 0 1 OK }
+    ensures not_unwritten { ¬ (AddsLines a_line 1 None line_room line_room 0 9 0 1 OK) }
+    ensures not_uncounted { ¬ (AddsLines a_line 1 None line_room line_added 0 9 0 0 OK) }
+    ensures not_unused { ¬ (AddsLines a_line 1 None line_room line_added 0 0 0 1 OK) }
+    ensures full { AddsLines a_line 1 None line_room line_room 4 4 0 0 FULL }
+    ensures not_full { ¬ (AddsLines a_line 1 None line_room line_room 3 3 0 0 FULL) }
+    ensures late { AddsLines a_line 1 (Some 1099511627776) line_room line_room 0 0 0 0 AT_END }
+    ensures not_late { ¬ (AddsLines a_line 1 (Some 1099511627775) line_room line_room 0 0 0 0 AT_END) }
+    ensures long { AddsLines a_line 1 None line_room line_room 0 0 1000000 1000000 AT_END }
+    ensures not_long { ¬ (AddsLines a_line 1 None line_room line_room 0 0 999999 999999 AT_END) }
+    ensures not_full_first { ¬ (AddsLines a_line 1 (Some 1099511627776) line_room line_room 4 4 0 0 FULL) }
 {}

@@ -16,7 +16,7 @@ mod statuses;
 mod telling;
 mod values;
 
-pub use examples::{call_examples, inlet_examples, refusal_examples};
+pub use examples::{call_examples, inlet_examples, record_examples, refusal_examples};
 pub use handle::{Handle, Place};
 pub use inlets::{InletHandle, InletPlace};
 pub use live::{CDeparted, CEmitted, CTaken, LiveHandle, LivePlace, LiveRouter, filled_examples};

@@ -8,7 +8,7 @@ ghost use Rattle.clickpull_c.specs.Recording.{AddsLines, IsAdded, MayGoOn, send_
 use crate::live::CTaken;
 use crate::statuses::{AT_END, FULL, OK};
 use crate::values::{COffered, CPacket};
-use clk_script::{Command, LINE, MAX_LINES, MAX_MOMENT, put_command, put_drain};
+use clk_script::{Command, LINE, MAX_LINES, MAX_MOMENT, command_line, drain_line};
 
 /// What is told of a packet that was offered.
 trait Sent {
@@ -85,12 +85,12 @@ pub extern "C" fn clk_raw_record_pulls(
     if *used > text.len() {
         return FULL;
     }
-    let mut line = [0; LINE];
-    let start = put_command(&mut line, Command::Pull { device, moment }, LINE);
+    let mut room = [0; LINE];
+    let line = command_line(&mut room, Command::Pull { device, moment });
     let mut end = *used;
     let mut made = 0;
     while made < pulls {
-        let Some(next) = add_line(text, end, &line[start..]) else {
+        let Some(next) = add_line(text, end, line) else {
             return FULL;
         };
         end = next;
@@ -114,9 +114,8 @@ pub extern "C" fn clk_raw_record_drain(
     if !may_go_on(*lines, 1, Some(moment)) {
         return AT_END;
     }
-    let mut line = [0; LINE];
-    let start = put_drain(&mut line, moment, LINE);
-    let Some(end) = add_line(text, *used, &line[start..]) else {
+    let mut room = [0; LINE];
+    let Some(end) = add_line(text, *used, drain_line(&mut room, moment)) else {
         return FULL;
     };
     *used = end;
@@ -158,9 +157,8 @@ fn add_send(text: &mut [u8], used: usize, packet: CPacket) -> Option<usize>
         sender: packet.sender,
         length: packet.length,
     };
-    let mut line = [0; LINE];
-    let start = put_command(&mut line, command, LINE);
-    add_line(text, used, &line[start..])
+    let mut room = [0; LINE];
+    add_line(text, used, command_line(&mut room, command))
 }
 
 // Adds a line behind the bytes of a text that are used. Returns where it ends, or nothing if there is no room for it.

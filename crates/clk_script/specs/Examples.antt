@@ -10,6 +10,9 @@ use Rattle.clk_sched.specs.declared.visit.Visit.{Visit}
 use Rattle.clk_sched.specs.Tree.{queue, scheduler, prio, shaper, leaf, end}
 use Rattle.clk_sched.specs.Log.{asking}
 use Rattle.clk_router.specs.Events.{Setup, Event, offered, pulled}
+use Rattle.clk_script.specs.declared.script.Command.{Command}
+use Rattle.clk_script.specs.declared.script.Command.TheVariants.{Pull}
+use Rattle.clk_script.specs.declared.writer.ScriptWriter.{ScriptWriter}
 
 -- the first packet of sender 0
 abbrev pub p0_0 : Packet
@@ -148,3 +151,11 @@ from_great = offered (packet 65536 0 100 (lit≤ tt) (lit≤ tt)) Accepted ∷ [
 -- the result of a call that fails with this fault
 abbrev pub failed : Fault → Result (Unit {0}) Fault
 failed fault = Err fault
+
+-- a pull of device 0 at moment 3
+abbrev pub one_pull : List Command
+one_pull = Pull 0 3 ∷ []
+
+-- a writer of a record that holds these bytes, after so many lines
+abbrev pub holding : List ℕ → ℕ → ScriptWriter
+holding bytes lines = record { held = bytes; lines = lines }

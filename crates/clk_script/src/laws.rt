@@ -17,7 +17,8 @@ ghost use Rattle.clk_router.specs.Setups.{IsWired, IsApart};
 ghost use Rattle.clk_script.specs.OneMeaning.{HasAtMostOneMeaning, HasAtMostOneLog, DevicesAreApart};
 ghost use Rattle.clk_script.specs.Record.{command_text, drain_text, record_text, FitsLimits, FitsScript, RecordsMeanTheirCourse, PlanRecordsMeanTheirCourse, IsSmall, OnlyFittingRecordsMean};
 ghost use Rattle.clk_script.specs.OneDevice.{HasOneDevice, IsMeaningAlone};
-ghost use Rattle.clk_script.specs.Examples.{two_queues, two_devices, shaped, moment_not_counted, moment_ahead, second_first, number_left_out, refused_early, never_sent, other_refused, swapped, moment_shared, no_device, one_left, closed_at_once, closed_without_a_pull, closed_a_tick_early, closed_a_pull_late, one_at_each, closed_in_turn, closed_last_first, closed_on, pulled_at, great_sender, from_great, failed};
+ghost use Rattle.clk_script.specs.Examples.{two_queues, two_devices, shaped, moment_not_counted, moment_ahead, second_first, number_left_out, refused_early, never_sent, other_refused, swapped, moment_shared, no_device, one_left, closed_at_once, closed_without_a_pull, closed_a_tick_early, closed_a_pull_late, one_at_each, closed_in_turn, closed_last_first, closed_on, pulled_at, great_sender, from_great, failed, one_pull, holding};
+ghost use Rattle.clk_script.specs.Records.{Records};
 
 use clk_ring::histories_leave_no_choice;
 use clk_sched::{runs_go_on, runs_leave_no_choice};
@@ -172,3 +173,14 @@ pub fn record_examples()
     // By this law, which does nothing, only what fits means anything.
     records_mean_their_course();
 }
+
+/// What a writer of a record has written and holds is its whole record, each line once, and it counts the lines.
+pub fn writer_examples()
+    ensures holds { Records (Some []) (Some []) one_pull (holding (codes "pull 3\n") 1) }
+    ensures wrote { Records (Some []) (Some (codes "pull 3\n")) one_pull (holding [] 1) }
+    ensures wrote_some { Records (Some []) (Some (codes "pul")) one_pull (holding (codes "l 3\n") 1) }
+    ensures not_lost { ¬ (Records (Some []) (Some []) one_pull (holding [] 1)) }
+    ensures not_twice { ¬ (Records (Some []) (Some (codes "pull 3\n")) one_pull (holding (codes "pull 3\n") 1)) }
+    ensures not_another { ¬ (Records (Some []) (Some []) one_pull (holding (codes "pull 4\n") 1)) }
+    ensures not_uncounted { ¬ (Records (Some []) (Some []) one_pull (holding (codes "pull 3\n") 0)) }
+{}

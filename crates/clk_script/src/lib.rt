@@ -22,10 +22,10 @@ pub use laws::{
     closing_examples, devices_of_plans_stand_apart, devices_stand_apart,
     one_device_needs_no_number, plans_have_at_most_one_meaning, record_examples, records_grow,
     records_mean_their_course, records_of_plans_mean_their_course, script_examples,
-    scripts_have_at_most_one_meaning, word_examples,
+    scripts_have_at_most_one_meaning, word_examples, writer_examples,
 };
 pub use limits::{MAX_DEVICE, MAX_LINES, MAX_MOMENT, MAX_SCRIPT_BYTES};
 pub use run::{run_script, run_script_logged};
 pub use script::{Command, Line};
-pub use text::{LINE, put_command, put_drain};
+pub use text::{LINE, command_line, drain_line};
 pub use writer::ScriptWriter;

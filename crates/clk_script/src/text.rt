@@ -122,9 +122,18 @@ fn put_name(line: &mut [u8], packet: Packet, end: usize) -> usize
     put_number(line, u64::from(packet.sender), end)
 }
 
+/// Puts the line of a command into some room, and returns it.
+#[inline(always)]
+pub fn command_line(room: &mut [u8; LINE], command: Command) -> &[u8]
+    ensures line { result.now ≡ command_text command }
+{
+    let start = put_command(room, command, LINE);
+    &room[start..]
+}
+
 /// Puts the line of a command before the place `end`. Returns where it starts.
 #[inline(always)]
-pub fn put_command(line: &mut [u8], command: Command, end: usize) -> usize
+fn put_command(line: &mut [u8], command: Command, end: usize) -> usize
     requires room { 64 ≤ end }
     requires within { end ≤ length line.old }
     ensures piece { drop result line.new ≡ command_text command ++ drop end line.old }
@@ -162,15 +171,13 @@ fn put_named_device(line: &mut [u8], device: u16, end: usize) -> usize
     put(line, b" ", end)
 }
 
-/// Puts the line of a drain from this moment on, in ticks, before the place `end`. Returns where it starts.
+/// Puts the line of a drain from this moment on, in ticks, into some room, and returns it.
 #[inline(always)]
-pub fn put_drain(line: &mut [u8], moment: u64, end: usize) -> usize
-    requires room { 64 ≤ end }
-    requires within { end ≤ length line.old }
-    ensures piece { drop result line.new ≡ drain_text (Some moment) ++ drop end line.old }
-    ensures before { result ≤ end }
+pub fn drain_line(room: &mut [u8; LINE], moment: u64) -> &[u8]
+    ensures line { result.now ≡ drain_text (Some moment) }
 {
-    let end = put(line, b"\n", end);
-    let end = put_number(line, moment, end);
-    put(line, b"drain ", end)
+    let end = put(room, b"\n", LINE);
+    let end = put_number(room, moment, end);
+    let start = put(room, b"drain ", end);
+    &room[start..]
 }

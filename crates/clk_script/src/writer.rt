@@ -11,7 +11,7 @@ ghost use Rattle.clk_script.specs.Records.{Records};
 use crate::limits::{MAX_LINES, MAX_MOMENT};
 use crate::lines::Lines;
 use crate::script::Command;
-use crate::text::{LINE, put_command, put_drain};
+use crate::text::{LINE, command_line, drain_line};
 use clk_packet::{Fault, Sink};
 
 /// Writes the record of a router: the script of the commands that were carried out, line by line.
@@ -54,9 +54,8 @@ impl ScriptWriter {
         if !self.has_room(handed_in(command)) {
             return Err(Fault::TooLarge);
         }
-        let mut line = [0; LINE];
-        let start = put_command(&mut line, command, LINE);
-        self.held.add(&line[start..], sink)?;
+        let mut room = [0; LINE];
+        self.held.add(command_line(&mut room, command), sink)?;
         self.lines += 1;
         Ok(())
     }
@@ -109,9 +108,8 @@ impl ScriptWriter {
             return Err(Fault::TooLarge);
         }
         let mut held = self.held;
-        let mut line = [0; LINE];
-        let start = put_drain(&mut line, moment, LINE);
-        held.add(&line[start..], sink)?;
+        let mut room = [0; LINE];
+        held.add(drain_line(&mut room, moment), sink)?;
         held.write(sink)
     }
 }

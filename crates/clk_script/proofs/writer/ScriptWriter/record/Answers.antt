@@ -1,17 +1,15 @@
-use Rattle.std.proofs.Common.{replicate, refl}
-use Rattle.clk_script.specs.Record.{command_text}
-use Rattle.clk_script.proofs.PassLemmas.{line-alone}
+use Rattle.std.proofs.Common.{refl}
 use Rattle.clk_script.proofs.Record.Writing.{records-more, records-cut}
 use Rattle.clk_script.proofs.writer.ScriptWriter.record.Goals as goal
 
 pub returns-in_err-add-clause-front : goal.returns-in_err-add-clause-front
 returns-in_err-add-clause-front g c is start commands its =
-    let line = line-alone c.put_command-start.result c.put_command-start.new.line (replicate 128 0) (command_text c.args.command) refl c.put_command-start.auto.line c.put_command-start.ensures.piece in
+    let line = c.command_line.ensures.line in
     let failed = rw line at c.in_err-add.ensures in
     records-cut start _ _ _ _ _ commands c.args.command c.args.self.now _ its failed
 
 pub returns-clause-records : goal.returns-clause-records
 returns-clause-records g c start commands its =
-    let line = line-alone c.put_command-start.result c.put_command-start.new.line (replicate 128 0) (command_text c.args.command) refl c.put_command-start.auto.line c.put_command-start.ensures.piece in
+    let line = c.command_line.ensures.line in
     let passed = rw line at c.in_ok-add.ensures in
     records-more start _ _ _ _ commands c.args.command c.args.self.now _ its passed refl
