@@ -11,7 +11,7 @@
 //
 // A `Router` carries packets, and a `Carrier<T>` carries a value of the caller's with each packet. A `LiveRouter<T>` takes packets with
 // values from threads (clickpull_live.hpp, which this header includes). All are moved and not copied, and close their router when they are
-// destroyed.
+// destroyed. A `Record` notes what any of them did as a script (clickpull_record.hpp, which this header includes).
 //
 // A call that can't be made throws. It throws `Error` if the router is shut, a sender, device or queue is unknown, a length is not from 1
 // to 65,535, or a number is at its end. It throws `TextFault` if a text makes no router, and std::bad_alloc if an allocation fails. A call
@@ -456,5 +456,6 @@ private:
 } // namespace clickpull
 
 #include "clickpull_live.hpp"
+#include "clickpull_record.hpp"
 
 #endif

@@ -108,12 +108,62 @@ private:
     std::map<std::pair<std::uint32_t, std::uint32_t>, std::uint64_t> inside_;
 };
 
+// The record of what a case has done, up to the first line that it can't have.
+class Recorded {
+public:
+    void send(const clickpull::Packet &packet) {
+        note([&] { record_.send(packet); });
+    }
+
+    void pulls(const Numbers &numbers, std::uint64_t count) {
+        note([&] { record_.pulls(device_of(numbers), numbers.at(1), count); });
+    }
+
+    // The pulls of a call for many that emitted so many packets.
+    void many(const Numbers &numbers, std::size_t emitted) { pulls(numbers, emitted < numbers.at(2) ? emitted + 1 : emitted); }
+
+    // Makes a drain, and adds its pulls. Returns what it returns.
+    template <class Of, class Drain> auto drain(const Of &router, const Numbers &numbers, Drain drain) {
+        const std::uint64_t before = router.moment(device_of(numbers));
+        const auto drained = drain();
+        for (std::uint64_t moment = before + 1; moment <= router.moment(device_of(numbers)); moment++)
+            note([&] { record_.pulls(device_of(numbers), moment); });
+        return drained;
+    }
+
+    // Its lines. Throws if it couldn't have one of them.
+    std::string told() const {
+        if (status_ != CLK_OK)
+            throw clickpull::Error(status_);
+        std::vector<std::string> lines;
+        std::istringstream text{std::string(record_.text())};
+        for (std::string line; std::getline(text, line);)
+            lines.push_back(line);
+        CHECK(record_.lines() == lines.size());
+        return joined(lines, "; ");
+    }
+
+private:
+    template <class Add> void note(Add add) {
+        if (status_ == CLK_OK)
+            status_ = thrown_by(add);
+    }
+
+    clickpull::Record record_;
+    clk_status status_ = CLK_OK;
+};
+
 // What carries out the calls of a case.
 class Subject {
 public:
     virtual ~Subject() = default;
     virtual void open(const std::string &tree) = 0;
     virtual std::string call(const std::string &name, const Numbers &numbers) = 0;
+
+    std::string recorded() const { return record_.told(); }
+
+protected:
+    Recorded record_;
 };
 
 class OfRouter : public Subject {
@@ -123,17 +173,20 @@ public:
     std::string call(const std::string &name, const Numbers &numbers) override {
         if (name == "offer") {
             const auto it = router_->offer(narrow(numbers.at(0)), narrow(numbers.at(1)));
+            record_.send(it.packet);
             if (it.evicted)
                 return "evicting " + std::to_string(it.packet.number) + " " + spaced(*it.evicted);
             return (it.accepted ? "accepted " : "refused ") + std::to_string(it.packet.number);
         }
         if (name == "pull") {
             const auto it = router_->pull(device_of(numbers), numbers.at(1));
+            record_.pulls(numbers, 1);
             return it ? "packet " + spaced(*it) : "none";
         }
         if (name == "pull_many") {
             std::vector<clickpull::Packet> packets(numbers.at(2));
             packets.resize(router_->pull_many(device_of(numbers), numbers[1], packets.data(), packets.size()));
+            record_.many(numbers, packets.size());
             std::vector<std::string> parts;
             for (const auto &it : packets)
                 parts.push_back(shown(it));
@@ -151,7 +204,8 @@ public:
 private:
     std::string drain(const Numbers &numbers) {
         std::vector<clickpull::Departure> departures(numbers.at(2));
-        const auto drained = router_->drain(device_of(numbers), departures.data(), departures.size(), numbers[1]);
+        const auto drained = record_.drain(
+            *router_, numbers, [&] { return router_->drain(device_of(numbers), departures.data(), departures.size(), numbers[1]); });
         std::vector<std::string> parts;
         for (std::size_t i = 0; i < drained.count; i++)
             parts.push_back(at_moment(departures[i].moment, departures[i].packet));
@@ -180,6 +234,7 @@ public:
         };
         if (name == "pull") {
             auto it = carrier_->pull(device_of(numbers), numbers.at(1));
+            record_.pulls(numbers, 1);
             if (!it)
                 return "none";
             values_.came_back(it->packet, it->value);
@@ -187,10 +242,12 @@ public:
         }
         if (name == "pull_many") {
             CHECK(carrier_->pull_many(device_of(numbers), numbers.at(1), numbers.at(2), note) == parts.size());
+            record_.many(numbers, parts.size());
             return joined(parts, " ");
         }
         if (name == "drain") {
-            const auto drained = carrier_->drain(device_of(numbers), note, numbers.at(1), numbers.at(2));
+            const auto drained = record_.drain(carrier_->router(), numbers,
+                                               [&] { return carrier_->drain(device_of(numbers), note, numbers.at(1), numbers.at(2)); });
             return told(drained, parts);
         }
         return asked(carrier_->router(), name, numbers);
@@ -199,6 +256,7 @@ public:
 private:
     std::string offer(std::uint32_t sender, std::uint32_t length) {
         auto it = carrier_->offer(sender, length, values_.next());
+        record_.send(it.packet);
         values_.sent(sender, it.packet.number);
         if (it.refused)
             values_.came_back(it.packet, *it.refused);
@@ -272,6 +330,7 @@ private:
     std::string taken(const std::string &name, const Numbers &numbers) {
         std::vector<std::string> parts;
         const auto note = [&](auto it) {
+            record_.send(it.packet);
             if (it.refused)
                 values_.came_back(it.packet, *it.refused);
             if (it.evicted) {
@@ -298,7 +357,8 @@ private:
                 values_.came_back(it.packet, it.value);
                 parts.push_back(at_moment(it.moment, it.packet));
             };
-            const auto drained = live_->drain(device_of(numbers), note, numbers.at(1), numbers.at(2));
+            const auto drained =
+                record_.drain(*live_, numbers, [&] { return live_->drain(device_of(numbers), note, numbers.at(1), numbers.at(2)); });
             return told(drained, parts);
         }
         if (name == "pull_many") {
@@ -307,9 +367,11 @@ private:
                 parts.push_back(shown(it.packet));
             };
             CHECK(live_->pull_many(device_of(numbers), numbers.at(1), numbers.at(2), note) == parts.size());
+            record_.many(numbers, parts.size());
             return joined(parts, " ");
         }
         auto it = live_->pull(device_of(numbers), numbers.at(1));
+        record_.pulls(numbers, 1);
         if (!it)
             return "none";
         values_.came_back(it->packet, it->value);
@@ -367,6 +429,8 @@ std::string answer_of(Subject &subject, const Case &of, const std::string &call)
     for (std::uint64_t it; words >> it;)
         numbers.push_back(it);
     try {
+        if (name == "record")
+            return subject.recorded();
         if (name != "open")
             return subject.call(name, numbers);
         subject.open(of.tree);

@@ -79,6 +79,7 @@ public:
 // The tests, a function a subject.
 void test_router();
 void test_carrier();
+void test_record();
 void test_cases(const char *path);
 void test_live();
 void test_live_model();

@@ -12,6 +12,7 @@ int main(int count, char **words) {
     }
     test_router();
     test_carrier();
+    test_record();
     test_cases(words[1]);
     test_live();
     test_live_model();
