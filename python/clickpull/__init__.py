@@ -4,7 +4,7 @@ This module stands outside what is proved. The calls of the library are proved; 
 
 A `Router` carries packets (a sender, a number and a length), and a `Carrier` a value of the caller's with each packet. A `Dispatcher` is a
 carrier between threads or tasks of asyncio: some submit jobs, and others wait until the next one is due. Each is opened from a tree in
-Click's language and is a context manager::
+Click's language and is a context manager. A `Record` notes what any of them did, as a script::
 
     with Router("a :: Sender(0); q :: Queue(4); d :: ToDevice(link); a -> q -> d;") as router:
         router.offer(0, 1500)
@@ -14,9 +14,9 @@ Click's language and is a context manager::
 Lengths are in bytes, and moments in ticks. A call that can't be made raises an `Error` and changes nothing. A refused packet, or a pull
 that emits none, is no error.
 
-Threads may share a `Router` and a `Carrier` without a lock of their own. The library is called with Python's global lock held, so its
-calls come one after the other. A `Carrier` also has a lock. One thread may close what another uses: the other's next call raises
-`Shut`. Calls of several steps let other threads in between: iterators, where each packet is a step; `Router.accounts` and
+Threads may share a `Router`, a `Carrier` and a `Record` without a lock of their own. The library is called with Python's global lock held,
+so its calls come one after the other. A `Carrier` and a `Record` also have a lock. One thread may close what another uses: the other's next
+call raises `Shut`. Calls of several steps let other threads in between: iterators, where each packet is a step; `Router.accounts` and
 `Router.queues`, where each entry is a step; and `Router.pull_many`, which first asks what is left. On a Python without the global lock,
 threads that share a `Router` need a lock of their own.
 
@@ -28,6 +28,7 @@ from clickpull.carrier import Carried, Carrier, Evicted, Offer
 from clickpull.clock import Clock
 from clickpull.dispatcher import Dispatcher, Job, Submission
 from clickpull.errors import AtEnd, BadLength, Ended, Error, Shut, TextFault, UnknownDevice, UnknownSender
+from clickpull.record import Record
 from clickpull.router import END_OF_MOMENTS, Router
 from clickpull.values import Account, Departure, Offered, Outcome, Packet, Queue, Total
 
@@ -53,6 +54,7 @@ __all__ = [
     "Outcome",
     "Packet",
     "Queue",
+    "Record",
     "Router",
     "Shut",
     "Submission",

@@ -9,6 +9,7 @@ from typing import Generic, TypeVar
 from clickpull.carrier import Carrier
 from clickpull.clock import SECOND, Clock
 from clickpull.errors import Ended, Shut, UnknownDevice
+from clickpull.record import Record, Recorder
 from clickpull.router import Router
 from clickpull.takers import Taker, TaskTaker, ThreadTaker
 from clickpull.values import Packet
@@ -62,6 +63,11 @@ class Dispatcher(Generic[T]):
 
     Cancelling a task that waits in `next_async` loses no job either. A signal handler must call no dispatcher that the interrupted code may
     be calling.
+
+    A dispatcher with a `record` of its own adds a line for each job that is submitted, a refused one too, and for each pull that it makes, in
+    the order of the router's calls. `clickpull script` repeats these calls, and so shows why a job came late. No interrupt leaves a call without
+    its line, or a line without its call. After 1,000,000 lines or 2^40 ticks, or if an allocation for a line fails, nothing more is recorded:
+    `recording` is false, the record has the beginning of what happened, and the dispatcher goes on.
     """
 
     # No wake-up is lost. The takers that wait for a device stand in its line. The first in line watches: it sleeps only until the
@@ -80,7 +86,7 @@ class Dispatcher(Generic[T]):
     # Nobody tries again and again. A taker looks twice without sleeping only if a job is due and its pull gave none. Then a DRRSched saves
     # up for a long job, and each pull adds a quantum.
 
-    def __init__(self, tree: str | bytes, *, tick: float = 0.001, clock: Clock | None = None) -> None:
+    def __init__(self, tree: str | bytes, *, tick: float = 0.001, clock: Clock | None = None, record: Record | None = None) -> None:
         """Opens a dispatcher from a tree's text. Its ticks take `tick` seconds and are counted from now.
 
         Raises `TextFault` if the text makes no router, `ValueError` if a tick is shorter than a nanosecond, and `MemoryError`.
@@ -90,6 +96,9 @@ class Dispatcher(Generic[T]):
             raise ValueError(f"a tick takes a nanosecond or more, and not {tick} seconds")
         self._carrier = Carrier[T](tree)
         self._router, self._lock = self._carrier.router, self._carrier._lock
+        self._recorder = Recorder(record) if record is not None else None
+        if self._recorder:
+            self._router._call_offer, self._router._call_pull = self._recorder.offer, self._recorder.pull
         self._clock = clock or Clock()
         self._closed = False
         queues = self._router.queues()
@@ -108,6 +117,11 @@ class Dispatcher(Generic[T]):
     def closed(self) -> bool:
         """Whether it is closed. Jobs may be left inside."""
         return self._closed
+
+    @property
+    def recording(self) -> bool:
+        """Whether it has a record, which has all that happened so far."""
+        return self._recorder is not None and self._recorder.goes_on
 
     def left(self, device: int = 0) -> int:
         """Returns how many jobs are left for the device."""

@@ -43,7 +43,10 @@ class BadLength(Error, ValueError):
 
 
 class AtEnd(Error, OverflowError):
-    """The sender has offered 4,294,967,295 packets, the moment isn't from 0 to 2^44 - 1, or the device was pulled 2^63 times."""
+    """The sender has offered 4,294,967,295 packets, the moment isn't from 0 to 2^44 - 1, or the device was pulled 2^63 times.
+
+    Of a record: the moment isn't from 0 to 2^40 - 1, or there would be more than 1,000,000 lines.
+    """
 
 
 class TextFault(Error, ValueError):

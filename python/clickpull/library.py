@@ -154,6 +154,8 @@ ROUTER = POINTER(RouterHandle)
 INLET = POINTER(InletHandle)
 LIVE = POINTER(LiveHandle)
 COUNT = POINTER(c_size_t)
+# The text of a record with its length, how much of it is used, and how many lines the record has.
+RECORD = [POINTER(c_uint8), c_size_t, COUNT, POINTER(c_uint32)]
 
 # The parameters and results of each call.
 CALLS = {
@@ -196,6 +198,10 @@ CALLS = {
     "clk_raw_live_queues": ([LIVE], c_size_t),
     "clk_raw_live_queue": ([LIVE, c_uint16, POINTER(Queue)], c_uint32),
     "clk_raw_live_devices": ([LIVE], c_size_t),
+    "clk_raw_record_offered": ([POINTER(Offered), c_size_t, *RECORD], c_uint32),
+    "clk_raw_record_taken": ([POINTER(Taken), c_size_t, *RECORD], c_uint32),
+    "clk_raw_record_pulls": ([c_uint16, c_uint64, c_uint64, *RECORD], c_uint32),
+    "clk_raw_record_drain": ([c_uint64, *RECORD], c_uint32),
 }
 
 

@@ -83,6 +83,9 @@ class Router:
                 raise MemoryError("clickpull: a router's memory was refused")
             raise TextFault(fault.number, fault.offset, code)
         self._handle: _Handle | None = handle
+        # A dispatcher with a record puts calls here that record, too.
+        self._call_offer: Callable[..., int] = LIBRARY.clk_router_offer
+        self._call_pull: Callable[..., int] = LIBRARY.clk_router_pull
         self._senders = frozenset(it.sender for it in self.accounts())
 
     # Close.
@@ -117,7 +120,7 @@ class Router:
         """Offers a packet, and fills in `offered` in one call of the library."""
         handle = self._need_open()
         self._need_offer(sender, length)
-        self._need(LIBRARY.clk_router_offer(handle, sender, length, byref(offered)))
+        self._need(self._call_offer(handle, sender, length, byref(offered)))
 
     def offer_many(self, offers: Iterable[tuple[int, int]]) -> list[Offered]:
         """Offers many packets, each a sender and a length. If one can't be offered, none is offered.
@@ -150,7 +153,7 @@ class Router:
         handle = self._need_open()
         self._need_device(device)
         self._need_moment(moment)
-        return not self._is_none(LIBRARY.clk_router_pull(handle, device, moment, byref(packet)))
+        return not self._is_none(self._call_pull(handle, device, moment, byref(packet)))
 
     def pull_many(self, moment: int, count: int, device: int = 0) -> list[Packet]:
         """Pulls the device up to `count` times at this moment, up to the first pull that emits none. Returns the packets.

@@ -4,9 +4,10 @@ Cases of live routers are left out: the module has no live routers. A `Dispatche
 """
 from collections.abc import Callable, Iterator
 from dataclasses import dataclass, field
+from functools import partial
 from pathlib import Path
 
-from clickpull import AtEnd, BadLength, Error, Outcome, Packet, Router, Shut, TextFault, Total, UnknownDevice, UnknownSender
+from clickpull import AtEnd, BadLength, Error, Outcome, Packet, Record, Router, Shut, TextFault, Total, UnknownDevice, UnknownSender
 
 TABLE = Path(__file__).resolve().parents[2] / "tests" / "bindings" / "cases"
 
@@ -64,6 +65,8 @@ class Player:
     def __init__(self, case: Case) -> None:
         self._case = case
         self._router: Router | None = None
+        self._record = Record()
+        self._record_ended: AtEnd | None = None
 
     @property
     def router(self) -> Router:
@@ -92,20 +95,27 @@ class Player:
 
     def offer(self, sender: int, length: int) -> str:
         it = self.router.offer(sender, length)
+        self.note(lambda: self._record.send(it.packet))
         if it.evicted:
             return f"evicting {it.packet.number} {' '.join(map(str, (it.evicted.sender, it.evicted.number, it.evicted.length)))}"
         return f"{'refused' if it.outcome is Outcome.REFUSED else 'accepted'} {it.packet.number}"
 
     def pull(self, device: int, moment: int) -> str:
         it = self.router.pull(moment, device)
+        self.note(lambda: self._record.pulls(device, moment))
         return f"packet {it.sender} {it.number} {it.length}" if it else "none"
 
     def pull_many(self, device: int, moment: int, count: int) -> str:
-        return " ".join(map(told, self.router.pull_many(moment, count, device))) or "nothing"
+        packets = self.router.pull_many(moment, count, device)
+        self.note(lambda: self._record.pulls(device, moment, min(len(packets) + 1, count)))
+        return " ".join(map(told, packets)) or "nothing"
 
     def drain(self, device: int, pulls: int, count: int) -> str:
         """In pieces of one packet, as the module's iterator drains. The table counts pulls over the whole drain, and the iterator for each."""
+        before = self.router.moment(device)
         given = list(self._drained(device, pulls, count))
+        for moment in range(before + 1, self.router.moment(device) + 1):
+            self.note(partial(self._record.pulls, device, moment))
         return " ".join(["more" if self.router.left(device) else "all", *given])
 
     def _drained(self, device: int, pulls: int, count: int) -> Iterator[str]:
@@ -141,6 +151,19 @@ class Player:
         offered = Total(it.accepted.packets + it.refused.packets, it.accepted.bytes + it.refused.bytes)
         totals = {"offered": offered, "accepted": it.accepted, "refused": it.refused, "evicted": it.evicted, "emitted": it.emitted}
         return " ".join(f"{word} {total.packets}/{total.bytes}" for word, total in totals.items())
+
+    def record(self) -> str:
+        if self._record_ended:
+            raise self._record_ended
+        return "; ".join(self._record.text().decode().splitlines()) or "nothing"
+
+    def note(self, add: Callable[[], None]) -> None:
+        """Adds lines to the record, up to the first that it can't have."""
+        if self._record_ended is None:
+            try:
+                add()
+            except AtEnd as it:
+                self._record_ended = it
 
     def queue(self, number: int) -> str:
         it = self.router.queues()[number]

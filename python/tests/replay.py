@@ -1,13 +1,14 @@
-"""Runs a script over a tree through the module, and prints what `clickpull script TREE SCRIPT` prints: replay.py TREE SCRIPT
+"""Runs a script over a tree through the module, and prints what `clickpull script TREE SCRIPT` prints: replay.py TREE SCRIPT [RECORD]
 
-It stands outside what is proved: it is there so that tests can compare the two. A script has to be right.
+With RECORD it also writes the record of what it does, a script that says the same as SCRIPT. It stands outside what is proved: it is there so
+that tests can compare the two. A script has to be right.
 """
 import sys
 from collections.abc import Iterator
 from itertools import chain
 from pathlib import Path
 
-from clickpull import Account, Departure, Outcome, Packet, Router
+from clickpull import Account, Departure, Outcome, Packet, Record, Router
 
 
 def told(packet: Packet) -> str:
@@ -21,9 +22,10 @@ def pulled(router: Router, moment: int, device: int, packet: Packet | None) -> s
     return f"pull {named}: {told(packet) if packet else 'none'}"
 
 
-def sent(router: Router, sender: int, length: int) -> str:
-    """The line of an offer."""
+def sent(router: Router, record: Record, sender: int, length: int) -> str:
+    """The line of an offer, which is recorded."""
     it = router.offer(sender, length)
+    record.send(it.packet)
     became = "refused" if it.outcome is Outcome.REFUSED else "accepted"
     put_out = f" evicted {it.evicted.sender}#{it.evicted.number}" if it.evicted else ""
     return f"{told(it.packet)} {became}{put_out}"
@@ -58,28 +60,46 @@ def drained(router: Router, moment: int) -> Iterator[str]:
     yield from map(reported, router.accounts())
 
 
-def answered(router: Router, line: str) -> Iterator[str]:
-    """The lines that a line of a script has for an answer."""
+def answered(router: Router, record: Record, line: str) -> Iterator[str]:
+    """The lines that a line of a script has for an answer. What is done is recorded."""
     match line.split():
         case []:
             return
         case ["send", sender, length]:
-            yield sent(router, int(sender), int(length))
+            yield sent(router, record, int(sender), int(length))
         case ["pull", moment, *rest]:
             device = int(rest[0]) if rest else 0
-            yield pulled(router, int(moment), device, router.pull(int(moment), device))
+            packet = router.pull(int(moment), device)
+            record.pulls(device, int(moment))
+            yield pulled(router, int(moment), device, packet)
         case ["drain", moment]:
             yield from drained(router, int(moment))
+            record.drain(int(moment))
         case _:
             raise ValueError(f"{line!r} is no command")
 
 
-def main(tree: str, script: str) -> None:
-    """Prints the answer of a script over a tree."""
+def main(tree: str, script: str, written: str | None = None) -> None:
+    """Prints the answer of a script over a tree, and writes the record to a file that is named."""
+    record = Record()
     with Router(Path(tree).read_bytes()) as router:
         for line in Path(script).read_text().splitlines():
-            for it in answered(router, line):
+            for it in answered(router, record, line):
                 print(it)
+    if written:
+        Path(written).write_bytes(record.text())
+
+
+def emitted(tree: str, script: str) -> Iterator[Packet]:
+    """The packets that a script's pulls emit."""
+    with Router(tree) as router:
+        for line in script.splitlines():
+            match line.split():
+                case ["send", sender, length]:
+                    router.offer(int(sender), int(length))
+                case ["pull", moment, *rest]:
+                    if packet := router.pull(int(moment), *map(int, rest)):
+                        yield packet
 
 
 if __name__ == "__main__":

@@ -5,25 +5,28 @@ from typing import Any
 
 import pytest
 
-from clickpull import Dispatcher, Ended, Job
+from clickpull import Dispatcher, Ended, Job, Record
 from clickpull.clock import SECOND
 from clocks import ManualClock
 from expected import Expected
 from of_library.chance import tree_and_script
+from replay import emitted
 
 # How many seeds there are, and how many calls are made for each.
 SEEDS, CALLS = 10, 10_000
 
 
 class Both:
-    """A dispatcher and its model, which are called alike. A value is its job's sender and number."""
+    """A dispatcher with a record, and its model, which are called alike. A value is its job's sender and number."""
 
     def __init__(self, chance: random.Random) -> None:
         self.chance = chance
         self.text = tree_and_script(chance)[0]
         self.clock = ManualClock()
-        self.dispatcher = Dispatcher[tuple[int, int]](self.text, tick=1, clock=self.clock)
+        self.record = Record()
+        self.dispatcher = Dispatcher[tuple[int, int]](self.text, tick=1, clock=self.clock, record=self.record)
         self.model = Expected(self.text)
+        self.given: list[tuple[int, int]] = []
         self.calls = 0
 
     def call(self) -> None:
@@ -51,6 +54,7 @@ class Both:
         packet = self.model.take(device, self.clock.time // SECOND)
         if packet:
             assert self.dispatcher.next(0, device) == job(packet)
+            self.given.append((packet.sender, packet.number))
         else:
             with pytest.raises(Empty):
                 self.dispatcher.next(0, device)
@@ -60,11 +64,12 @@ class Both:
         ends = self.clock.time
         while not self.model.is_due(device, ends // SECOND):
             ends = (ends // SECOND + 1) * SECOND
-        assert self.dispatcher.next(device=device) == job(self.model.take(device, ends // SECOND))
-        assert self.clock.time == ends
+        it = self.dispatcher.next(device=device)
+        assert it == job(self.model.take(device, ends // SECOND)) and self.clock.time == ends
+        self.given.append((it.sender, it.number))
 
     def close(self) -> None:
-        """Takes all that is left."""
+        """Takes all that is left. The record then repeats all of it."""
         self.dispatcher.close()
         for device in self.model.devices:
             while self.model.left(device):
@@ -72,6 +77,7 @@ class Both:
             with pytest.raises(Ended):
                 self.dispatcher.next(device=device)
         assert self.dispatcher._carrier._values == {}
+        assert [it[:2] for it in emitted(self.text, self.record.text().decode())] == self.given
 
 
 def job(it: Any) -> Job[tuple[int, int]]:

@@ -10,8 +10,9 @@ from queue import Empty, SimpleQueue
 import pytest
 
 import interrupts
-from clickpull import Dispatcher, Ended, Job
+from clickpull import Dispatcher, Ended, Job, Record
 from clocks import ManualClock
+from replay import emitted
 
 SENDERS = 4
 ROOM_1 = """a :: Sender(0); b :: Sender(1); c :: Sender(2); e :: Sender(3); p, q, r, t :: Queue(1); s :: RoundRobinSched; d :: ToDevice(x);
@@ -254,8 +255,10 @@ def test_an_interrupted_close_wakes_a_taker() -> None:
 
 
 def test_many_interrupts_by_a_timer() -> None:
-    """One thread is interrupted again and again while it submits and takes. Two others take as well, and wait for what it submits."""
-    dispatcher = Dispatcher[int](ONE)
+    """One thread is interrupted again and again while it submits and takes. Two others take as well, and wait for what it submits. The record
+    has it all."""
+    record = Record()
+    dispatcher = Dispatcher[int](ONE, record=record)
     given: list[int] = []
     chance = random.Random(1)
     interrupted = 0
@@ -280,5 +283,8 @@ def test_many_interrupts_by_a_timer() -> None:
         after(0)
         dispatcher.close()
         given += results(takers)
-    accepted = sum(it.accepted.packets for it in dispatcher.router.accounts())
+    accounts = dispatcher.router.accounts()
+    accepted = sum(it.accepted.packets for it in accounts)
     assert len(given) == len(set(given)) == accepted and interrupted > 100
+    assert len(list(emitted(ONE, record.text().decode()))) == accepted
+    assert record.text().count(b"send") == accepted + sum(it.refused.packets for it in accounts)
