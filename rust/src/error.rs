@@ -8,7 +8,7 @@ use std::fmt;
 pub enum Error {
     /// The text makes no router.
     Text(TextFault),
-    /// An allocation failed while a router was opened.
+    /// An allocation failed while a router was opened, or a record grew.
     OutOfMemory,
     /// The tree has no sender with this number.
     UnknownSender,
@@ -16,7 +16,8 @@ pub enum Error {
     UnknownDevice,
     /// The length of a packet is not from 1 to 65,535.
     BadLength,
-    /// The sender has offered 4,294,967,295 packets, the moment is 2^44 ticks or more, or the device was pulled 2^63 times.
+    /// The sender has offered 4,294,967,295 packets, the moment is 2^44 ticks or more, or the device was pulled 2^63 times. Of a record: the
+    /// moment is 2^40 ticks or more, or there would be more than 1,000,000 lines.
     AtEnd,
     /// The inlet has no room for the packet now. Pause, and offer it again.
     Full,

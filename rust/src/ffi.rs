@@ -110,6 +110,25 @@ extern "C" {
     fn clk_raw_live_queues(live: *mut Handle) -> usize;
     fn clk_raw_live_queue(live: *mut Handle, number: u16, queue: *mut RawQueue) -> u32;
     fn clk_raw_live_devices(live: *mut Handle) -> usize;
+
+    fn clk_raw_record_taken(
+        taken: *const RawTaken,
+        taken_length: usize,
+        text: *mut u8,
+        text_length: usize,
+        used: *mut usize,
+        lines: *mut u32,
+    ) -> u32;
+    fn clk_raw_record_pulls(
+        device: u16,
+        moment: u64,
+        pulls: u64,
+        text: *mut u8,
+        text_length: usize,
+        used: *mut usize,
+        lines: *mut u32,
+    ) -> u32;
+    fn clk_raw_record_drain(moment: u64, text: *mut u8, text_length: usize, used: *mut usize, lines: *mut u32) -> u32;
 }
 
 // ---------------------------------------------------------------------------------------------------------------- handles
@@ -350,6 +369,36 @@ impl Inlet {
     pub(crate) fn room(&mut self) -> usize {
         // SAFETY: the handle is open.
         unsafe { clk_raw_inlet_room(&mut self.0) }
+    }
+}
+
+// ---------------------------------------------------------------------------------------------------------------- records
+
+/// A text to which lines of a script are added, how many of its bytes are used, and how many lines the script has.
+pub(crate) struct Script<'a> {
+    pub(crate) text: &'a mut [u8],
+    pub(crate) used: &'a mut usize,
+    pub(crate) lines: &'a mut u32,
+}
+
+impl Script<'_> {
+    /// Adds the line of a packet that was offered.
+    pub(crate) fn send(&mut self, packet: Packet) -> u32 {
+        let taken = RawTaken { packet, ..RawTaken::default() };
+        // SAFETY: the call reads one element, laid out as C has it, and writes at most as many bytes as the text has.
+        unsafe { clk_raw_record_taken(&taken, 1, self.text.as_mut_ptr(), self.text.len(), self.used, self.lines) }
+    }
+
+    /// Adds the lines of pulls.
+    pub(crate) fn pulls(&mut self, device: u16, moment: u64, count: u64) -> u32 {
+        // SAFETY: the call writes at most as many bytes as the text has.
+        unsafe { clk_raw_record_pulls(device, moment, count, self.text.as_mut_ptr(), self.text.len(), self.used, self.lines) }
+    }
+
+    /// Adds the line of a drain.
+    pub(crate) fn drain(&mut self, moment: u64) -> u32 {
+        // SAFETY: the call writes at most as many bytes as the text has.
+        unsafe { clk_raw_record_drain(moment, self.text.as_mut_ptr(), self.text.len(), self.used, self.lines) }
     }
 }
 

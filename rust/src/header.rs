@@ -5,8 +5,9 @@ use std::mem::size_of;
 use crate::error::{Error, NAMES};
 use crate::layout::{Fault, Item, RawDeparted, RawEmitted, RawQueue, RawTaken};
 use crate::live::MOST_HELD;
+use crate::record::MOST_LINE;
 use crate::values::{Account, Departure, Offer, Offered, Packet, Total, EVICTED, REFUSED};
-use crate::{status, END_OF_MOMENTS, MOST_ROOM, MOST_TAKEN};
+use crate::{status, END_OF_MOMENTS, END_OF_RECORDED_MOMENTS, MOST_LINES, MOST_ROOM, MOST_TAKEN};
 
 const HEADER: &str = include_str!("../../include/clickpull.h");
 const FORMATS: &str = include_str!("../../docs/FORMATS.md");
@@ -70,8 +71,12 @@ fn faults_have_the_names_of_the_header() {
 fn limits_are_those_of_the_header() {
     assert_eq!(after("#define CLK_END_OF_MOMENTS (UINT64_C(1) << ", ")").parse(), Ok(END_OF_MOMENTS.trailing_zeros()));
     assert_eq!(after("#define CLK_MOST_ROOM (UINT32_C(1) << ", ")").parse(), Ok(MOST_ROOM.trailing_zeros()));
+    let end = after("#define CLK_END_OF_RECORDED_MOMENTS (UINT64_C(1) << ", ")");
+    assert_eq!(end.parse(), Ok(END_OF_RECORDED_MOMENTS.trailing_zeros()));
     assert_eq!(after("#define CLK_MOST_TAKEN ", "\n").parse(), Ok(MOST_TAKEN));
-    assert!(END_OF_MOMENTS.is_power_of_two() && MOST_ROOM.is_power_of_two());
+    assert_eq!(after("#define CLK_MOST_LINE ", "\n").parse(), Ok(MOST_LINE));
+    assert_eq!(after("#define CLK_MOST_LINES ", "\n").parse(), Ok(MOST_LINES));
+    assert!([END_OF_MOMENTS, END_OF_RECORDED_MOMENTS, u64::from(MOST_ROOM)].iter().all(|it| it.is_power_of_two()));
     assert!(FORMATS.contains(&format!("a path at most {MOST_HELD} schedulers and Shapers")));
 }
 

@@ -58,6 +58,10 @@
 //! # Ok::<(), clickpull::Error>(())
 //! ```
 //!
+//! # What happened
+//!
+//! A [`Record`] is the script of what a router did. The program `clickpull` repeats it on one thread, as often as you like.
+//!
 //! # Units
 //!
 //! Lengths are bytes. Moments are ticks: you choose how long a tick is, and the rate of a `Shaper` counts packets a tick. Capacities and rooms
@@ -80,6 +84,7 @@ mod inlet;
 mod layout;
 mod live;
 mod looks;
+mod record;
 mod router;
 #[cfg(doctest)]
 mod sharing;
@@ -92,6 +97,7 @@ mod values;
 pub use error::{Error, Rejected, TextFault};
 pub use inlet::Inlet;
 pub use live::{Departed, Emitted, LiveDrain, LiveRouter, Pulls, Reclaimed};
+pub use record::Record;
 pub use router::{Drain, Router, Stop};
 pub use takes::{Taken, Takes};
 pub use values::{Account, Departure, Offer, Offered, Outcome, Packet, Queue, Total};
@@ -103,6 +109,12 @@ struct Readme;
 
 /// Moments are below this number of ticks.
 pub const END_OF_MOMENTS: u64 = 1 << 44;
+
+/// Moments of a [`Record`] are below this number of ticks.
+pub const END_OF_RECORDED_MOMENTS: u64 = 1 << 40;
+
+/// How many lines a [`Record`] has at most.
+pub const MOST_LINES: u32 = 1_000_000;
 
 /// The greatest room of an inlet, in packets.
 pub const MOST_ROOM: u32 = 1 << 24;

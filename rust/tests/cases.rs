@@ -4,7 +4,7 @@ mod common;
 
 use std::collections::HashMap;
 
-use clickpull::{Account, Error, Inlet, LiveRouter, Outcome, Packet, Queue, Router, Stop, Taken, Total};
+use clickpull::{Account, Error, Inlet, LiveRouter, Outcome, Packet, Queue, Record, Router, Stop, Taken, Total};
 use common::shown;
 
 const CASES: &str = include_str!("../../tests/bindings/cases");
@@ -125,24 +125,72 @@ fn shut() -> Result<String, Error> {
     Ok("error SHUT".to_string())
 }
 
+/// The record of what a case has done, and why it couldn't have one of the lines.
+#[derive(Default)]
+struct Recorded {
+    record: Record,
+    error: Option<Error>,
+}
+
+impl Recorded {
+    /// Adds lines, up to the first that the record can't have.
+    fn note(&mut self, add: impl FnOnce(&mut Record) -> Result<(), Error>) {
+        if self.error.is_none() {
+            self.error = add(&mut self.record).err();
+        }
+    }
+
+    fn send(&mut self, packet: Packet) {
+        self.note(|it| it.send(&packet));
+    }
+
+    /// A pull, or a call for many pulls that emitted so many packets.
+    fn pulls(&mut self, step: &Step, emitted: usize) {
+        let most = step.numbers.get(2).copied().unwrap_or(1);
+        self.note(|it| it.pulls(step.numbers[0] as u16, step.numbers[1], most.min(emitted as u64 + 1)));
+    }
+
+    /// The pulls of a drain, which went from one moment to another.
+    fn drain(&mut self, device: u16, before: u64, after: u64) {
+        (before + 1..=after).for_each(|moment| self.note(|it| it.pulls(device, moment, 1)));
+    }
+
+    /// What the step `record` answers.
+    fn told(&self) -> Result<String, Error> {
+        self.error.clone().map_or(Ok(()), Err)?;
+        let lines: Vec<String> = std::str::from_utf8(self.record.text()).unwrap().lines().map(str::to_string).collect();
+        assert_eq!(self.record.lines() as usize, lines.len());
+        Ok(listed(lines, "; "))
+    }
+}
+
 /// A router of one thread, which may be shut.
-struct One(Option<Router>);
+#[derive(Default)]
+struct One {
+    router: Option<Router>,
+    record: Recorded,
+}
 
 impl One {
     fn answer(&mut self, case: &Case, step: &Step) -> Result<String, Error> {
         let numbers = &step.numbers;
-        if step.call == "open" {
-            self.0 = Some(Router::open(&case.tree)?);
-            return ok();
+        match step.call {
+            "open" => {
+                self.router = Some(Router::open(&case.tree)?);
+                return ok();
+            }
+            "record" => return self.record.told(),
+            _ => {}
         }
-        let Some(router) = &mut self.0 else { return shut() };
+        let Some(router) = &mut self.router else { return shut() };
         match step.call {
             "shut" => {
-                self.0 = None;
+                self.router = None;
                 ok()
             }
             "offer" => {
                 let offered = router.offer(numbers[0] as u32, numbers[1] as u32)?;
+                self.record.send(offered.packet());
                 let number = offered.packet().number;
                 Ok(match offered.outcome() {
                     Outcome::Accepted => format!("accepted {number}"),
@@ -150,18 +198,26 @@ impl One {
                     Outcome::Evicting(it) => format!("evicting {number} {} {} {}", it.sender, it.number, it.length),
                 })
             }
-            "pull" => router.pull(numbers[0] as u16, numbers[1]).map(pulled),
+            "pull" => {
+                let emitted = router.pull(numbers[0] as u16, numbers[1])?;
+                self.record.pulls(step, 0);
+                Ok(pulled(emitted))
+            }
             "pull_many" => {
                 let mut packets = vec![Packet::default(); numbers[2] as usize];
                 let pulled = router.pull_many(numbers[0] as u16, numbers[1], &mut packets)?;
+                self.record.pulls(step, pulled.len());
                 Ok(listed(pulled.iter().map(|it| shown(*it)).collect(), " "))
             }
             "drain" => {
-                let mut drain = router.drain(numbers[0] as u16)?.pulls(numbers[1]);
+                let device = numbers[0] as u16;
+                let before = router.moment(device)?;
+                let mut drain = router.drain(device)?.pulls(numbers[1]);
                 let emitted = drain.by_ref().take(numbers[2] as usize);
                 let emitted = emitted.map(|it| format!("{}:{}", it.moment, shown(it.packet))).collect();
                 let stop = drain.stop();
-                drained(emitted, stop, router.left(numbers[0] as u16)?)
+                self.record.drain(device, before, router.moment(device)?);
+                drained(emitted, stop, router.left(device)?)
             }
             _ => looks!(router, step),
         }
@@ -175,6 +231,7 @@ struct Live {
     inlets: HashMap<u64, Option<Inlet<u64>>>,
     values: HashMap<(u16, u32), u64>,
     puts: u64,
+    record: Recorded,
 }
 
 impl Live {
@@ -186,6 +243,7 @@ impl Live {
             }
             "put" => return self.put(step.numbers[0], step.numbers[1] as u32),
             "room" | "close" => return self.of_inlet(step),
+            "record" => return self.record.told(),
             _ => {}
         }
         let Some(router) = &mut self.router else { return shut() };
@@ -247,6 +305,7 @@ impl Live {
             "take_in" => router.take_in(first as usize, count).collect(),
             _ => router.take_what_fits(first as usize, count).collect(),
         };
+        taken.iter().for_each(|it| self.record.send(it.packet()));
         let answer = |it| match it {
             Taken::Accepted(packet) => format!("accepted {}", shown(packet)),
             Taken::Refused(packet, value) => format!("refused {}", self.back(packet, value)),
@@ -260,6 +319,7 @@ impl Live {
         let router = self.router.as_mut().unwrap();
         if step.call == "pull" {
             let emitted = router.pull(device, numbers[1])?;
+            self.record.pulls(step, 0);
             return Ok(pulled(emitted.map(|it| {
                 self.back(it.packet, it.value);
                 it.packet
@@ -267,11 +327,14 @@ impl Live {
         }
         if step.call == "pull_many" {
             let emitted: Vec<_> = router.pull_many(device, numbers[1], numbers[2] as usize)?.collect();
+            self.record.pulls(step, emitted.len());
             return Ok(listed(emitted.into_iter().map(|it| self.back(it.packet, it.value)).collect(), " "));
         }
+        let before = router.moment(device)?;
         let mut drain = router.drain(device)?.pulls(numbers[1]);
         let emitted: Vec<_> = drain.by_ref().take(numbers[2] as usize).collect();
         let (stop, left) = (drain.stop(), router.left(device)?);
+        self.record.drain(device, before, router.moment(device)?);
         drained(emitted.into_iter().map(|it| format!("{}:{}", it.moment, self.back(it.packet, it.value))).collect(), stop, left)
     }
 }
@@ -280,7 +343,7 @@ impl Live {
 fn each_case_is_as_the_table_says() {
     let mut steps = 0;
     for case in cases() {
-        let (mut one, mut live) = (One(None), Live::default());
+        let (mut one, mut live) = (One::default(), Live::default());
         for step in &case.steps {
             let answer = if case.room.is_some() { live.answer(&case, step) } else { one.answer(&case, step) };
             let answer = answer.unwrap_or_else(|it| error(&it));
