@@ -19,7 +19,9 @@ struct sender {
     int is_inside[MOST_PACKETS];
 };
 
-static char answer[LONGEST], tree[LONGEST];
+static char answer[LONGEST], tree[LONGEST], recorded[LONGEST];
+static clk_record record;
+static clk_status record_status;
 static int is_live, compared, wrong, misplaced;
 static uint32_t room;
 static uint64_t tried;
@@ -77,6 +79,24 @@ static void check_token(clk_packet packet, uint64_t token) {
         it->is_inside[packet.number] = 0;
 }
 
+/* Notes whether the record could have the lines of a call. Once it couldn't, it isn't looked at any more. */
+static void note(clk_status status) {
+    if (record_status == CLK_OK)
+        record_status = status;
+}
+
+static void say_record(const uint64_t *n) {
+    (void)n;
+    if (!is_made(record_status))
+        return;
+    for (size_t i = 0, end; i < record.used; i = end + 1) {
+        end = i + strcspn(recorded + i, "\n");
+        say("%s%.*s", between("; "), (int)(end - i), recorded + i);
+    }
+    if (record.used == 0)
+        say("nothing");
+}
+
 static void say_packet(const char *before, clk_packet it) {
     say("%s%u/%" PRIu32 "/%u", before, it.sender, it.number, it.length);
 }
@@ -112,6 +132,7 @@ static void offer(const uint64_t *n) {
     clk_offered it;
     if (!is_made(clk_offer(&router, (uint32_t)n[0], (uint32_t)n[1], &it)))
         return;
+    note(clk_record_offered(&record, &it, 1));
     say("%s %" PRIu32, OUTCOMES[it.outcome], it.packet.number);
     if (it.outcome == CLK_EVICTED)
         say(" %u %" PRIu32 " %u", it.evicted.sender, it.evicted.number, it.evicted.length);
@@ -130,6 +151,7 @@ static void pull(const uint64_t *n) {
     clk_status status = is_live ? clk_live_pull(&live, (uint16_t)n[0], n[1], &it) : clk_pull(&router, (uint16_t)n[0], n[1], &it.packet);
     if (!is_made(status))
         return;
+    note(clk_record_pulls(&record, (uint16_t)n[0], n[1], 1));
     if (status == CLK_OK && is_live)
         check_token(it.packet, it.token);
     if (status == CLK_OK)
@@ -144,6 +166,7 @@ static void pull_many(const uint64_t *n) {
                                 : clk_pull_many(&router, (uint16_t)n[0], n[1], filled.packets, (size_t)n[2], &given);
     if (!is_made(status))
         return;
+    note(clk_record_pulls(&record, (uint16_t)n[0], n[1], given < n[2] ? given + 1 : given));
     for (size_t i = 0; i < given; i++) {
         if (is_live)
             check_token(filled.emitted[i].packet, filled.emitted[i].token);
@@ -153,10 +176,19 @@ static void pull_many(const uint64_t *n) {
         say("nothing");
 }
 
+static clk_status ask_moment(const uint64_t *n, uint64_t *it) {
+    return is_live ? clk_live_moment(&live, (uint16_t)n[0], it) : clk_moment(&router, (uint16_t)n[0], it);
+}
+
 static void drain(const uint64_t *n) {
     size_t given;
+    uint64_t before = 0, after = 0;
+    ask_moment(n, &before);
     clk_status status = is_live ? clk_live_drain(&live, (uint16_t)n[0], filled.departed, (size_t)n[2], n[1], &given)
                                 : clk_drain(&router, (uint16_t)n[0], filled.departures, (size_t)n[2], n[1], &given);
+    ask_moment(n, &after);
+    while (before < after)
+        note(clk_record_pulls(&record, (uint16_t)n[0], ++before, 1));
     if ((status != CLK_AT_END || given == 0) && !is_made(status))
         return;
     say(status == CLK_OK ? "all" : "more");
@@ -179,7 +211,7 @@ static void due(const uint64_t *n) {
 
 static void moment(const uint64_t *n) {
     uint64_t it = 0;
-    if (is_made(is_live ? clk_live_moment(&live, (uint16_t)n[0], &it) : clk_moment(&router, (uint16_t)n[0], &it)))
+    if (is_made(ask_moment(n, &it)))
         say("%" PRIu64, it);
 }
 
@@ -261,6 +293,7 @@ static void say_taken(const clk_taken *it) {
 static void take_by(clk_status status, const clk_taken *taken, size_t given) {
     if (!is_made(status))
         return;
+    note(clk_record_taken(&record, taken, given));
     for (size_t i = 0; i < given; i++)
         say_taken(&taken[i]);
     if (given == 0)
@@ -312,6 +345,7 @@ static const struct {
     {"left", left},       {"account", account},    {"queue", queue},     {"inlet", inlet},
     {"put", put},         {"room", room_of},       {"close", close_it},  {"take", take},
     {"take_in", take_in}, {"ended", ended},        {"drained", drained}, {"take_what_fits", take_what_fits},
+    {"record", say_record},
 };
 
 /* Ends the case before, and begins one. */
@@ -324,6 +358,8 @@ static void begin(void) {
     }
     is_live = 0;
     tried = 0;
+    record = (clk_record){recorded, sizeof recorded, 0, 0};
+    record_status = CLK_OK;
 }
 
 /* Copies a tree, in which \n stands for a line feed. */

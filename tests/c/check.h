@@ -44,5 +44,6 @@ void test_tables(void);
 void test_carrying(void);
 void test_threads(void);
 void test_live(void);
+void test_records(void);
 
 #endif

@@ -1,11 +1,11 @@
-/* Makes calls on a live router, one a line, and prints what each returns: live_calls TREE ROOM CALLS
+/* Makes calls on a live router, one a line, and prints what each returns: live_calls TREE ROOM CALLS RECORD
  *
- * It stands outside what is proved: it is there so that tests can compare the calls with a model of them (tests/of_library/model.py, which
- * has the words of the lines). All is on one thread. A line that is no call ends it with status 1. */
-#include "clickpull.h"
+ * It writes the record of what it takes and pulls to RECORD. It stands outside what is proved: it is there so that tests can compare the
+ * calls with a model of them (tests/of_library/model.py, which has the words of the lines). All is on one thread. A line that is no call
+ * ends it with status 1. */
+#include "recording.h"
 
 #include <inttypes.h>
-#include <stdio.h>
 #include <stdlib.h>
 #include <string.h>
 
@@ -64,6 +64,7 @@ static void check_rest(size_t bytes) {
 
 static void print_taken(clk_status status, size_t given) {
     check_rest(given * sizeof filled.taken[0]);
+    RECORD(clk_record_taken(&record, filled.taken, given));
     printf("%d %zu", status, given);
     for (size_t i = 0; i < given; i++) {
         const clk_taken *it = &filled.taken[i];
@@ -83,7 +84,11 @@ static void print_emitted(clk_status status, size_t given) {
 static void drain(void) {
     uint16_t device = (uint16_t)number();
     size_t room = count(), given = MOST;
+    uint64_t before = 0, latest = 0;
+    clk_live_moment(&live, device, &before);
     clk_status status = clk_live_drain(&live, device, filled.departed, room, number(), &given);
+    clk_live_moment(&live, device, &latest);
+    record_drained(device, before, latest);
     check_rest(given * sizeof filled.departed[0]);
     printf("%d %zu", status, given);
     for (size_t i = 0; i < given; i++) {
@@ -149,14 +154,18 @@ static void take(const char *word) {
 static void pull(const char *word) {
     uint16_t device = (uint16_t)number();
     uint64_t moment = number();
-    size_t given = 0;
+    size_t given = 0, room = 1;
+    clk_status status;
     if (strcmp(word, "pull") == 0) {
-        clk_status status = clk_live_pull(&live, device, moment, filled.emitted);
-        print_emitted(status, status == CLK_OK);
+        status = clk_live_pull(&live, device, moment, filled.emitted);
+        given = status == CLK_OK;
     } else {
-        clk_status status = clk_live_pull_many(&live, device, moment, filled.emitted, count(), &given);
-        print_emitted(status, given);
+        room = count();
+        status = clk_live_pull_many(&live, device, moment, filled.emitted, room, &given);
     }
+    if (status == CLK_OK || status == CLK_NONE)
+        record_pulls(device, moment, given, room);
+    print_emitted(status, given);
 }
 
 static void print_total(clk_total it) {
@@ -262,8 +271,8 @@ static char *text_of(const char *path, size_t *length) {
 
 int main(int argc, char **argv) {
     size_t length;
-    if (argc != 4)
-        stop("usage: live_calls TREE ROOM CALLS");
+    if (argc != 5 || !(recorded = fopen(argv[4], "wb")))
+        stop("usage: live_calls TREE ROOM CALLS RECORD");
     char *text = text_of(argv[1], &length);
     if (clk_live_open(text, length, (uint32_t)strtoul(argv[2], NULL, 10), &live, NULL) != CLK_OK)
         stop("there is no router");
@@ -277,5 +286,6 @@ int main(int argc, char **argv) {
     for (size_t i = 0; i < 65536; i++)
         clk_inlet_close(&inlets[i]);
     clk_live_close(&live);
+    end_record();
     return 0;
 }

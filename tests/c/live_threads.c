@@ -1,17 +1,16 @@
-/* Runs a live router with a thread for each sender, and prints all that was done: live_threads TREE ROOM PACKETS SEED
+/* Runs a live router with a thread for each sender, and prints all that was done: live_threads TREE ROOM PACKETS SEED RECORD
  *
  * This thread makes calls by chance, and prints each with what it returned: the line of the call as live_calls.c has it, "=", and the answer.
  * Each sender offers up to so many packets. At the end lines "offered SENDER LENGTH TOKEN" say what the inlets accepted, in order. With an
  * odd SEED the tokens are reclaimed in the middle, and with every other of these the router is then closed while the senders go on.
- * tests/soak judges what it prints. It stands outside what is proved. */
+ * The record of what was taken and pulled goes to RECORD. tests/soak judges what it prints. It stands outside what is proved. */
 #define _POSIX_C_SOURCE 200809L
-#include "clickpull.h"
+#include "recording.h"
 
 #include <inttypes.h>
 #include <pthread.h>
 #include <stdatomic.h>
 #include <stdbool.h>
-#include <stdio.h>
 #include <stdlib.h>
 #include <string.h>
 #include <time.h>
@@ -92,6 +91,7 @@ static size_t take(void) {
     clk_status status = how == 0   ? clk_live_take(&live, first, taken, most, &given)
                         : how == 1 ? clk_live_take_in(&live, first, taken, most, &given)
                                    : clk_live_take_what_fits(&live, first, taken, most, &given);
+    RECORD(clk_record_taken(&record, taken, given));
     printf("%s %u %zu = %d %zu", how == 0 ? "take" : how == 1 ? "take_in" : "take_what_fits", first, most, status, given);
     for (size_t i = 0; i < given; i++) {
         print_packet(taken[i].packet, taken[i].token);
@@ -109,6 +109,7 @@ static size_t pull(void) {
     uint32_t device = chance(&state, (uint32_t)clk_live_devices(&live));
     moment += chance(&state, 3);
     clk_status status = clk_live_pull_many(&live, (uint16_t)device, moment, emitted, most, &given);
+    record_pulls((uint16_t)device, moment, given, most);
     printf("pull_many %u %" PRIu64 " %zu = %d %zu", device, moment, most, status, given);
     for (size_t i = 0; i < given; i++)
         print_packet(emitted[i].packet, emitted[i].token);
@@ -187,7 +188,8 @@ static size_t read_text(const char *path, char *text, size_t room) {
 
 int main(int argc, char **argv) {
     static char text[1 << 20];
-    need(argc == 5, "usage: live_threads TREE ROOM PACKETS SEED");
+    need(argc == 6, "usage: live_threads TREE ROOM PACKETS SEED RECORD");
+    need((recorded = fopen(argv[5], "wb")) != NULL, "the record can't be made");
     uint64_t seed = strtoull(argv[4], NULL, 10);
     state = seed * 2 + 1;
     size_t length = read_text(argv[1], text, sizeof text);
@@ -212,5 +214,6 @@ int main(int argc, char **argv) {
         free(senders[i].items);
     }
     clk_live_close(&live);
+    end_record();
     return 0;
 }

@@ -47,6 +47,7 @@ int main(void) {
     test_carrying();
     test_threads();
     test_live();
+    test_records();
     printf("%d checks, %d failed\n", checked, failed);
     return failed != 0;
 }

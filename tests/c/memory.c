@@ -67,6 +67,10 @@ static const char *const TREES[] = {
     "[1] d; d -> t; c -> r -> [1] t; e -> s -> h -> [2] t; t -> o -> one; z :: Sender(9); y :: Queue; z -> y -> i -> two;",
 };
 
+/* A record, in a buffer with room for the lines of one round of calls. */
+static char lines[8 * CLK_MOST_LINE];
+static clk_record record = {lines, sizeof lines, 0, 0};
+
 /* Every call, while no memory is to be had. */
 static void use(clk_router *router) {
     clk_offered offered[2];
@@ -82,7 +86,10 @@ static void use(clk_router *router) {
         check(clk_offer_many(router, offers, 2, offered, &count) == CLK_OK, "offers are made");
         check(clk_pull(router, 0, i, packets) <= CLK_NONE, "a pull is made");
         check(clk_pull_many(router, 0, i, packets, 2, &count) <= CLK_NONE, "pulls are made");
+        record.used = 0;
+        check(clk_record_offered(&record, offered, 2) == CLK_OK && clk_record_pulls(&record, 1, i, 3) == CLK_OK, "these are recorded");
     }
+    check(clk_record_pulls(&record, 0, 299, 100) == CLK_FULL && clk_record_drain(&record, 0) == CLK_OK, "a record gets full");
     check(clk_account_at(router, 0, &account) == CLK_OK, "an account is told");
     check(clk_queue_at(router, 0, &queue) == CLK_OK, "a queue is told");
     check(clk_moment(router, 0, &number) == CLK_OK, "a moment is told");
@@ -131,6 +138,8 @@ static void use_live(clk_live *router) {
         check(count == 1 && taken[0].token == i, "it comes with its token");
         check(clk_live_pull(router, 0, i, packets) <= CLK_NONE, "a pull is made");
         check(clk_live_pull_many(router, 0, i, packets, 2, &count) <= CLK_NONE, "pulls are made");
+        record.used = 0;
+        check(clk_record_taken(&record, taken, 1) == CLK_OK, "what was taken is recorded");
     }
     check(clk_live_take_what_fits(router, 2, taken, 4, &count) == CLK_NONE, "nothing is left in an inlet");
     check(clk_live_account_at(router, 0, &account) == CLK_OK, "an account is told");

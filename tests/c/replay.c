@@ -1,8 +1,9 @@
-/* Runs a script over a tree through the library, and prints what `clickpull script TREE SCRIPT` prints: replay TREE SCRIPT
+/* Runs a script over a tree through the library, and prints what `clickpull script TREE SCRIPT` prints: replay TREE SCRIPT [RECORD]
  *
- * It stands outside what is proved: it is there so that tests can compare the two. A script has to be right; what is wrong in it, or in
- * the tree, ends it with status 1 and a line on standard error. */
-#include "clickpull.h"
+ * With RECORD it also writes the record of what it does, a script that says the same as SCRIPT. It stands outside what is proved: it is
+ * there so that tests can compare the two. A script has to be right; what is wrong in it, or in the tree, ends it with status 1 and a line
+ * on standard error. */
+#include "recording.h"
 
 #include <inttypes.h>
 #include <stdio.h>
@@ -55,6 +56,7 @@ static void print_packet(clk_packet packet) {
 static void send(clk_router *router, unsigned sender, unsigned length) {
     clk_offered offered;
     need(clk_offer(router, sender, length, &offered));
+    RECORD(clk_record_offered(&record, &offered, 1));
     print_packet(offered.packet);
     printf(offered.outcome == CLK_REFUSED ? " refused" : " accepted");
     if (offered.outcome == CLK_EVICTED)
@@ -67,6 +69,7 @@ static void pull(clk_router *router, uint64_t moment, unsigned device) {
     clk_status status = clk_pull(router, (uint16_t)device, moment, &packet);
     if (status != CLK_NONE)
         need(status);
+    record_pulls((uint16_t)device, moment, status == CLK_OK, 1);
     print_pull(router, moment, device);
     if (status == CLK_OK)
         print_packet(packet);
@@ -127,6 +130,7 @@ static void report(const clk_router *router) {
 static void drain(clk_router *router, uint64_t moment) {
     for (unsigned device = 0; device < clk_devices(router); device++)
         close_device(router, moment, device);
+    RECORD(clk_record_drain(&record, moment));
     report(router);
 }
 
@@ -147,8 +151,10 @@ int main(int argc, char **argv) {
     clk_router router;
     clk_fault fault;
     size_t length;
-    if (argc != 3)
-        stop("usage: replay TREE SCRIPT");
+    if (argc != 3 && argc != 4)
+        stop("usage: replay TREE SCRIPT [RECORD]");
+    if (argc == 4 && !(recorded = fopen(argv[3], "wb")))
+        stop("the record can't be made");
     char *tree = text_of(argv[1], &length);
     if (clk_open(tree, length, &router, &fault) != CLK_OK) {
         fprintf(stderr, "replay: fault %u: %s at byte %u\n", fault.number, clk_fault_name(fault.number), fault.offset);
@@ -159,6 +165,7 @@ int main(int argc, char **argv) {
     for (char *line = strtok(script, "\n"); line; line = strtok(NULL, "\n"))
         carry_out(&router, line);
     free(script);
+    end_record();
     clk_close(&router);
     return 0;
 }

@@ -10,7 +10,7 @@ from pathlib import Path
 
 from of_library.checks import Check, Failed, LeftOut, Setting, run
 from of_library.module import environment, python
-from of_library.replayed import replayer, same
+from of_library.replayed import as_recorded, replayer, same
 
 # Python replays so many scripts in one start.
 AT_ONCE = 200
@@ -21,7 +21,7 @@ sys.path.insert(0, sys.argv[1])
 import replay
 for number in range(int(sys.argv[3]), int(sys.argv[4])):
     with open(f"{sys.argv[2]}/{number}.python", "w") as answer, contextlib.redirect_stdout(answer):
-        replay.main(f"{sys.argv[2]}/{number}.click", f"{sys.argv[2]}/{number}.script")
+        replay.main(*(f"{sys.argv[2]}/{number}.{it}" for it in ("click", "script", "python-record")))
 """
 
 
@@ -107,7 +107,7 @@ def program_of(named: str | None) -> str:
 
 
 def replayed(setting: Setting, count: int, seed: int, named: str | None) -> str:
-    """Each script prints through C and through Python what the program prints."""
+    """Each script prints through C and through Python what the program prints, and the records of both are the script."""
     program, replay = program_of(named), replayer(setting)
     folder = setting.made / "chance"
     folder.mkdir()
@@ -130,12 +130,16 @@ def by_python(setting: Setting, folder: Path, begin: int, end: int) -> None:
 def by_all(program: str, replay: Path, folder: Path, number: int) -> int:
     """Compares the answers of a script, and says how many lines they have."""
     tree, script = folder / f"{number}.click", folder / f"{number}.script"
+    records = [folder / f"{number}.{it}-record" for it in ("c", "python")]
     wanted = run([program, "script", tree, script])
-    for found in (run([replay, tree, script]), (folder / f"{number}.python").read_text()):
-        try:
+    by_c = run([replay, tree, script, records[0]])
+    try:
+        for found in (by_c, (folder / f"{number}.python").read_text()):
             same(tree, found, wanted)
-        except Failed as it:
-            raise Failed(f"{it}\n{tree.read_text()}\n{script.read_text()}") from None
+        for record in records:
+            same(script, record.read_text(), as_recorded(script))
+    except Failed as it:
+        raise Failed(f"{it}\n{tree.read_text()}\n{script.read_text()}") from None
     return wanted.count("\n")
 
 

@@ -143,7 +143,7 @@ def headers_stand_alone(setting: Setting) -> str:
         for compiler, header, ending, flags in (
             (c, "clickpull.h", "c", [*C, *STRICT]),
             (cpp, "clickpull.h", "cpp", [*CPP, *STRICT_CPP]),
-            *((cpp, it, "cpp", [*CPP, *STRICT_CPP]) for it in ("clickpull.hpp", "clickpull_live.hpp", "clickpull_values.hpp")),
+            *((cpp, it.name, "cpp", [*CPP, *STRICT_CPP]) for it in sorted(setting.include.glob("*.hpp"))),
         ):
             if shutil.which(compiler) is None:
                 continue

@@ -24,10 +24,12 @@ class Header:
 
 
 def header_of(setting: Setting) -> Header:
-    """What the header declares."""
+    """What the header declares, without the struct that it alone has."""
     text = COMMENT.sub("", (setting.include / "clickpull.h").read_text())
     calls = {it[2]: (it[1], *map(type_of, it[3].split(","))) for it in DECLARED.finditer(text)}
     structs = {it[1]: tuple(fields_of(it[2])) for it in STRUCT.finditer(text)}
+    if structs.pop(STRUCT_OF_THE_HEADER, None) is None:
+        raise Failed(f"the header has no {STRUCT_OF_THE_HEADER}")
     return Header(calls, structs)
 
 
@@ -72,8 +74,9 @@ EXPORT = re.compile(r"pub (?:unsafe )?extern \"C\" fn (\w+)\((.*?)\)(?: -> ([\w&
 CONSTANT = re.compile(r"pub const (\w+): u32 = (\d+);")
 LAID_OUT = re.compile(r"((?:[ \t]*//[^\n]*\n)*)(?:#\[[^\n]*\]\n)*#\[repr\(C\)\]\n(?:#\[[^\n]*\]\n)*pub struct (\w+) \{(.*?)\n\}", re.DOTALL)
 NUMBERS = {"u8": "uint8_t", "u16": "uint16_t", "u32": "uint32_t", "u64": "uint64_t", "usize": "size_t"}
-# Answers that the header alone gives.
+# Answers that the header alone gives, and the struct that it alone has: the exports take its fields.
 OF_THE_HEADER = ("SHUT", "NULL")
+STRUCT_OF_THE_HEADER = "clk_record"
 POINTERS = {"*mut u8": "void *", "*const u8": "const void *"}
 
 

@@ -1,13 +1,16 @@
-"""Judges what tests/c/live_threads.c prints, by the model of live routers. It stands outside what is proved."""
+"""Judges what tests/c/live_threads.c prints, by the model of live routers, and its record. It stands outside what is proved."""
 import random
 import re
 import shutil
+from dataclasses import dataclass
 from pathlib import Path
 
+from of_library.again import is_done_again
 from of_library.chance import tree_and_script
 from of_library.checks import Check, Failed, Setting, need, run
 from of_library.compiled import C, heap
 from of_library.model import Model
+from of_library.replayed import replayer
 
 
 # How many routers tests/library runs; tests/soak --live runs as many as one likes.
@@ -75,25 +78,36 @@ def altered(chance: random.Random, printed: str) -> str:
     return "".join(lines)
 
 
-def built(setting: Setting) -> Path:
-    """The program that runs a live router."""
+@dataclass(frozen=True)
+class Programs:
+    """A program that runs a live router, and one that replays records."""
+
+    live: Path
+    replay: Path
+
+
+def built(setting: Setting) -> Programs:
+    """The programs."""
     need("cc")
     program = setting.made / "live-threads"
     source = setting.root / "tests" / "c" / "live_threads.c"
     run(["cc", *C, "-I", setting.include, source, "-o", program, setting.archive, heap()])
-    return program
+    return Programs(program, replayer(setting))
 
 
-def live_once(program: Path, chance: random.Random, room: Path) -> int:
-    """Runs a live router at random, and judges what it prints as it is and with one number altered. Returns how many were taken."""
+def live_once(programs: Programs, chance: random.Random, room: Path) -> int:
+    """Runs a live router at random, replays its record, and judges what it prints as it is and with one number altered. Returns how many were
+    taken."""
     tree = ""
     while "Sender" not in tree:
         tree = tree_and_script(chance)[0]
-    path = room / "tree.click"
+    path, record = room / "tree.click", room / "record.script"
     path.write_text(tree)
     slots, packets, seed = chance.choice([1, 2, 7, 64, 300]), chance.choice([0, 5, 100, 2000]), chance.getrandbits(30)
-    printed = run([program, path, str(slots), str(packets), str(seed)])
+    printed = run([programs.live, path, str(slots), str(packets), str(seed), record])
     (room / "printed").write_text(printed)
+    calls = [it.split(" = ") for it in printed.splitlines() if " = " in it]
+    is_done_again([programs.replay], path, record, [call for call, _ in calls], [f"{call.split()[0]} {answer}" for call, answer in calls])
     try:
         taken = judge(tree, slots, printed)
     except (Broken, LookupError, ValueError) as it:
@@ -107,12 +121,13 @@ def live_once(program: Path, chance: random.Random, room: Path) -> int:
 
 def are_judged(setting: Setting) -> str:
     """Some live routers on threads are judged."""
-    program, folder = built(setting), setting.made / "lived"
+    programs, folder = built(setting), setting.made / "lived"
     folder.mkdir()
-    packets = sum(live_once(program, random.Random(f"library {it}"), folder) for it in range(ROUTERS))
+    packets = sum(live_once(programs, random.Random(f"library {it}"), folder) for it in range(ROUTERS))
     if shutil.which("valgrind"):
+        checker = ["valgrind", "-q", "--error-exitcode=9", "--leak-check=full"]
         for seed in ("2", "3"):
-            run(["valgrind", "-q", "--error-exitcode=9", "--leak-check=full", program, folder / "tree.click", "4", "60", seed])
+            run([*checker, programs.live, folder / "tree.click", "4", "60", seed, folder / "record.script"])
     return f"{packets} packets through {ROUTERS} routers"
 
 

@@ -1,14 +1,17 @@
-"""Calls on live routers by chance, beside the model of them. It stands outside what is proved."""
+"""Calls on live routers by chance, beside the model of them, and the records of these calls. It stands outside what is proved."""
 import random
 import shutil
 from collections.abc import Callable, Iterator
 from concurrent.futures import ThreadPoolExecutor
+from functools import partial
 from pathlib import Path
 
-from of_library.chance import tree_and_script
+from of_library.again import Program, is_done_again
+from of_library.chance import program_of, tree_and_script
 from of_library.checks import Check, Failed, Setting, compare, need, run
 from of_library.compiled import C, heap
 from of_library.model import END_OF_MOMENTS, LONGEST, Model
+from of_library.replayed import replayer
 
 # How many trees are tried unless more are asked for, and how many characters of a line are told if it is wrong.
 TREES, TOLD = 60, 500
@@ -133,37 +136,40 @@ def built(setting: Setting) -> Path:
     return program
 
 
-def compared(program: Path, folder: Path, seed: int, number: int) -> int:
-    """Compares what the calls of a script return with the model. Returns how many calls it has."""
+def compared(program: Path, programs: list[Program], folder: Path, seed: int, number: int) -> int:
+    """Compares what the calls of a script return with the model, and what programs print of their record. Returns how many calls it has."""
     tree, room, calls, wanted = script_of(f"{seed} live {number}")
-    paths = folder / f"{number}.click", folder / f"{number}.calls"
+    paths = folder / f"{number}.click", folder / f"{number}.calls", folder / f"{number}.record"
     for path, text in zip(paths, (tree, "".join(f"{it}\n" for it in calls))):
         path.write_text(text)
     is_checked = number < CHECKED and shutil.which("valgrind") is not None
     checker = ["valgrind", "-q", "--error-exitcode=9", "--leak-check=full", "--show-leak-kinds=all"] if is_checked else []
-    found = run([*checker, program, paths[0], str(room), paths[1]])
+    found = run([*checker, program, paths[0], str(room), *paths[1:]])
     for at, (line, other) in enumerate(zip(found.splitlines(), wanted.splitlines())):
         if line != other:
             before = "\n".join(calls[: at + 1])
             what = f"script {number} of seed {seed}: call {at + 1} prints {line[:TOLD]!r}, where it has to be {other[:TOLD]!r}"
             raise Failed(f"{what}\n{tree}\nroom {room}\n{before}")
     compare(f"script {number} of seed {seed}: lines", found.count("\n"), len(calls))
+    for words in programs:
+        is_done_again(words, paths[0], paths[2], calls, found.splitlines())
     return len(calls)
 
 
-def calls_agree(count: int, seed: int) -> Callable[[Setting], str]:
-    """Calls by chance return what the model says."""
+def calls_agree(count: int, seed: int, named: str | None) -> Callable[[Setting], str]:
+    """Calls by chance return what the model says, and their records repeat them: through C, and by the program that is named."""
 
     def check(setting: Setting) -> str:
         program, folder = built(setting), setting.made / "live"
+        programs: list[Program] = [[replayer(setting)], *([[program_of(named), "script"]] if named else [])]
         folder.mkdir()
         with ThreadPoolExecutor() as pool:
-            calls = sum(pool.map(lambda it: compared(program, folder, seed, it), range(count)))
+            calls = sum(pool.map(partial(compared, program, programs, folder, seed), range(count)))
         return f"{calls} calls on {count} routers"
 
     return check
 
 
-def checks(count: int, seed: int) -> list[Check]:
+def checks(count: int, seed: int, named: str | None = None) -> list[Check]:
     """The check of so many routers, and no fewer than TREES."""
-    return [Check("live calls that chance brings", calls_agree(max(count, TREES), seed))]
+    return [Check("live calls that chance brings", calls_agree(max(count, TREES), seed, named))]

@@ -37,23 +37,30 @@ def same(tree: Path, found: str, wanted: str) -> None:
     raise Failed(f"{tree}: there are {len(lines)} lines, where there have to be {len(others)}")
 
 
-def by_c(setting: Setting) -> str:
-    """Each example prints what it is said to, through C."""
-    program = replayer(setting)
+def as_recorded(script: Path) -> str:
+    """A script as a record has it: one blank between words, no blank lines, and no number of the first device."""
+    lines = filter(None, map(str.split, script.read_text().splitlines()))
+    return "".join(" ".join(it[:2] if it[0] == "pull" and it[2:] == ["0"] else it) + "\n" for it in lines)
+
+
+def agree(setting: Setting, language: str, program: list[str | Path], more: dict[str, str]) -> str:
+    """Each example prints what it is said to, and the record of it is its script."""
     trees = examples(setting)
     for it in trees:
-        same(it, run([program, it, it.with_suffix(".script")]), it.with_suffix(".out").read_text())
-    return f"{len(trees)} of them"
+        script, record = it.with_suffix(".script"), setting.made / f"{it.stem}.{language}.record"
+        same(it, run([*program, it, script, record], more), it.with_suffix(".out").read_text())
+        same(script, record.read_text(), as_recorded(script))
+    return f"{len(trees)} of them, with their records"
+
+
+def by_c(setting: Setting) -> str:
+    """The examples, through C."""
+    return agree(setting, "c", [replayer(setting)], {})
 
 
 def by_python(setting: Setting) -> str:
-    """Each example prints what it is said to, through Python."""
-    program = setting.root / "python" / "tests" / "replay.py"
-    trees = examples(setting)
-    for it in trees:
-        found = run([python(), program, it, it.with_suffix(".script")], environment(setting))
-        same(it, found, it.with_suffix(".out").read_text())
-    return f"{len(trees)} of them"
+    """The examples, through Python."""
+    return agree(setting, "python", [python(), setting.root / "python" / "tests" / "replay.py"], environment(setting))
 
 
 CHECKS = [Check("the examples, through C", by_c), Check("the examples, through Python", by_python)]

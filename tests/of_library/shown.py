@@ -2,10 +2,12 @@
 import re
 import sys
 from collections.abc import Callable
+from pathlib import Path
 
 from of_library.checks import Check, Failed, Setting, compare, need, run
 from of_library.compiled import WARNINGS, heap
 from of_library.module import environment
+from of_library.replayed import replayer
 from of_library.rusted import run_program
 
 
@@ -41,17 +43,33 @@ def compiled(part: str, language: str, compiler: str, standard: str, place: int 
     return check
 
 
+def of_threads(setting: Setting, part: str, name: str) -> tuple[Path, str, str]:
+    """A program of examples/threads, built, what a part of the page shows of it, and what the page says that it prints."""
+    need("cc")
+    parts, answer = shown(setting, part, "c")
+    source, made = setting.root / "examples" / "threads" / f"{name}.c", setting.made / name
+    for it in parts.split("\n\n"):
+        if it.strip("\n") not in source.read_text():
+            raise Failed(f"docs/LIBRARY.md shows what isn't in {source}:\n{it}")
+    run(["cc", "-std=gnu11", "-pthread", *WARNINGS, "-I", setting.include, source, "-o", made, setting.archive, heap()])
+    return made, parts, answer
+
+
 def threads_are_right(setting: Setting) -> str:
     """What the page shows of a program on threads stands in it, and the program prints what the page says."""
-    need("cc")
-    parts, answer = shown(setting, "Producers on threads", "c")
-    source, made = setting.root / "examples" / "threads" / "first.c", setting.made / "first"
-    for part in parts.split("\n\n"):
-        if part.strip("\n") not in source.read_text():
-            raise Failed(f"docs/LIBRARY.md shows what isn't in {source}:\n{part}")
-    run(["cc", "-std=gnu11", "-pthread", *WARNINGS, "-I", setting.include, source, "-o", made, setting.archive, heap()])
-    compare("what the program on threads prints", run([made]), answer)
+    program, parts, answer = of_threads(setting, "Producers on threads", "first")
+    compare("what the program on threads prints", run([program]), answer)
     return f"{len(parts.splitlines())} lines"
+
+
+def records_are_right(setting: Setting) -> str:
+    """What the page shows of a program that records its run stands in it, and the record ends in the report that the page has."""
+    program, _, answer = of_threads(setting, "Records", "recorded")
+    tree, record = setting.root / "examples" / "threads" / "recorded.click", setting.made / "run.script"
+    record.write_text(run([program, tree]))
+    printed = run([replayer(setting), tree, record])
+    compare("what the record ends in", "".join(printed.splitlines(keepends=True)[-2:]), answer)
+    return f"{len(printed.splitlines())} lines"
 
 
 def python_is_right(setting: Setting) -> str:
@@ -77,6 +95,7 @@ def rust_is_right(setting: Setting) -> str:
 CHECKS = [
     Check("C in docs/LIBRARY.md", compiled("In C", "c", "cc", "-std=c11")),
     Check("threads in docs/LIBRARY.md", threads_are_right),
+    Check("records in docs/LIBRARY.md", records_are_right),
     Check("C++ in docs/LIBRARY.md", compiled("In C++", "cpp", "c++", "-std=c++17")),
     Check("C++ on threads in docs/LIBRARY.md", compiled("In C++", "cpp", "c++", "-std=c++17", 1)),
     Check("Python in docs/LIBRARY.md", python_is_right),
