@@ -213,7 +213,7 @@ typedef struct clk_departed {
 
 /* A record: the script of what a router did (docs/FORMATS.md), in a buffer of the caller's. clk_record record = {buffer, size, 0, 0}; */
 typedef struct clk_record {
-    char *text;     /* the buffer */
+    char *text;     /* the buffer; no zero is written behind its text */
     size_t room;    /* how many bytes it has */
     size_t used;    /* how many of them are filled, from the front; a caller that has written these to a file sets it to 0 */
     uint32_t lines; /* how many lines the record has, those that were written to a file among them */
@@ -965,7 +965,8 @@ static inline clk_status clk_live_queue_at(const clk_live *live, uint16_t number
  *
  * A record means what happened if it has
  *
- *   - a line for each packet that was offered or taken, a refused one too,
+ *   - a line for each packet that was offered or taken, a refused one too (of clk_offer_many, the first `done`; a call that returned an
+ *     error has no line),
  *   - and for each pull that was made, one that emitted nothing too, with the moment that was handed in. clk_pull_many and
  *     clk_live_pull_many made `given` pulls, and one more if `given` is below `count`. clk_drain and clk_live_drain made one pull at each
  *     moment from one tick after the device's latest on, up to its latest moment then,
@@ -1079,7 +1080,7 @@ static inline const char *clk_status_text(clk_status status) {
     case CLK_FAULT:
         return "the text makes no router, or memory was refused";
     case CLK_FULL:
-        return "the inlet is full";
+        return "there is no room now";
     case CLK_BAD_ROOM:
         return "the room of inlets is not from 1 to 16,777,216";
     case CLK_HANDED_OUT:

@@ -36,7 +36,7 @@ impl fmt::Display for Error {
             Error::UnknownDevice => f.write_str("there is no such device"),
             Error::BadLength => f.write_str("the length of a packet is not from 1 to 65,535"),
             Error::AtEnd => f.write_str("numbers or moments are at their end"),
-            Error::Full => f.write_str("the inlet is full"),
+            Error::Full => f.write_str("there is no room now"),
             Error::BadRoom => f.write_str("the room of inlets is not from 1 to 16,777,216"),
             Error::HandedOut => f.write_str("the inlet was handed out before"),
         }
