@@ -1,4 +1,4 @@
-use Rattle.std.proofs.Common.{◌+◌, ◌≤◌, length, take, replicate, None, refl, ap, ◌∙◌, arith, length-append}
+use Rattle.std.proofs.Common.{◌+◌, length, take, replicate, None, refl, ap, ◌∙◌, arith, length-append}
 use Rattle.clk_script.specs.declared.script.Command.TheVariants.{Pull}
 use Rattle.clk_script.specs.Record.{command_text, record_text}
 use Rattle.clickpull_c.specs.Recording.{full}

@@ -1,25 +1,39 @@
-use Rattle.std.proofs.Common.{◌≡◌, [], Some, codes, refl, sym, ap, length, ◌++◌, ◌∙◌, arith}
-use Rattle.clk_script.specs.Examples.{one_pull, holding}
-use Rattle.clk_script.specs.Records.{Records}
+use Rattle.std.proofs.Common.{◌≡◌, [], ◌++◌, None, codes, get_or, length, refl, sym, ap, ◌∙◌, arith}
+use Rattle.std.proofs.lemmas.Fmt.{decimal_digit}
+use Rattle.clk_script.specs.Record.{record_text}
+use Rattle.clk_script.specs.Examples.{one_pull}
 use Rattle.clk_script.proofs.laws.writer_examples.Goals as goal
 
+
+record-is : record_text one_pull None ≡ codes "pull 3\n"
+record-is = rw (decimal_digit 3 (omega arith)) refl
+
 pub returns-clause-holds : goal.returns-clause-holds
-returns-clause-holds c = record { written = []; split = refl; appends = refl; lines = refl }
+returns-clause-holds c = record { written = []; split = record-is; appends = refl; lines = refl }
 
 pub returns-clause-wrote : goal.returns-clause-wrote
-returns-clause-wrote c = record { written = codes "pull 3\n"; split = refl; appends = refl; lines = refl }
+returns-clause-wrote c = record { written = codes "pull 3\n"; split = record-is; appends = refl; lines = refl }
 
 pub returns-clause-wrote_some : goal.returns-clause-wrote_some
-returns-clause-wrote_some c = record { written = codes "pul"; split = refl; appends = refl; lines = refl }
+returns-clause-wrote_some c = record { written = codes "pul"; split = record-is; appends = refl; lines = refl }
 
 pub returns-clause-not_lost : goal.returns-clause-not_lost
-returns-clause-not_lost c r = let long = ap length (r.split ∙ ap (λ l. l ++ []) (sym r.appends)) in absurd (omega (arith, long))
+returns-clause-not_lost c r =
+    let same : codes "pull 3\n" ≡ [] = sym record-is ∙ r.split ∙ ap (λ l. l ++ []) (sym r.appends) in
+    let long : 7 ≡ 0 = ap length same in
+    absurd (omega (arith, long))
 
 pub returns-clause-not_twice : goal.returns-clause-not_twice
-returns-clause-not_twice c r = let long = ap length (r.split ∙ ap (λ l. l ++ codes "pull 3\n") (sym r.appends)) in absurd (omega (arith, long))
+returns-clause-not_twice c r =
+    let same : codes "pull 3\n" ≡ codes "pull 3\npull 3\n" = sym record-is ∙ r.split ∙ ap (λ l. l ++ codes "pull 3\n") (sym r.appends) in
+    let long : 7 ≡ 14 = ap length same in
+    absurd (omega (arith, long))
 
 pub returns-clause-not_another : goal.returns-clause-not_another
-returns-clause-not_another c r = let same = r.split ∙ ap (λ l. l ++ codes "pull 4\n") (sym r.appends) in absurd cc
+returns-clause-not_another c r =
+    let same : codes "pull 3\n" ≡ codes "pull 4\n" = sym record-is ∙ r.split ∙ ap (λ l. l ++ codes "pull 4\n") (sym r.appends) in
+    let digit : 51 ≡ 52 = ap (λ l. get_or l 5 0) same in
+    absurd (omega (arith, digit))
 
 pub returns-clause-not_uncounted : goal.returns-clause-not_uncounted
 returns-clause-not_uncounted c r = let one = r.lines in absurd (omega (arith, one))
