@@ -8,7 +8,7 @@ ghost use Rattle.clickpull_c.specs.Recording.{AddsLines, IsAdded, MayGoOn, send_
 use crate::live::CTaken;
 use crate::statuses::{AT_END, FULL, OK};
 use crate::values::{COffered, CPacket};
-use clk_script::{Command, LINE, MAX_LINES, MAX_MOMENT, command_line, drain_line};
+use clk_script::{COMMAND_ROOM, Command, MAX_LINES, MAX_MOMENT, command_line, drain_line};
 
 /// What is told of a packet that was offered.
 trait Sent {
@@ -85,7 +85,7 @@ pub extern "C" fn clk_raw_record_pulls(
     if *used > text.len() {
         return FULL;
     }
-    let mut room = [0; LINE];
+    let mut room = [0; COMMAND_ROOM];
     let line = command_line(&mut room, Command::Pull { device, moment });
     let mut end = *used;
     let mut made = 0;
@@ -114,7 +114,7 @@ pub extern "C" fn clk_raw_record_drain(
     if !may_go_on(*lines, 1, Some(moment)) {
         return AT_END;
     }
-    let mut room = [0; LINE];
+    let mut room = [0; COMMAND_ROOM];
     let Some(end) = add_line(text, *used, drain_line(&mut room, moment)) else {
         return FULL;
     };
@@ -157,7 +157,7 @@ fn add_send(text: &mut [u8], used: usize, packet: CPacket) -> Option<usize>
         sender: packet.sender,
         length: packet.length,
     };
-    let mut room = [0; LINE];
+    let mut room = [0; COMMAND_ROOM];
     add_line(text, used, command_line(&mut room, command))
 }
 

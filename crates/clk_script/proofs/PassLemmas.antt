@@ -121,10 +121,10 @@ Wrote-front a b f g fault text rest holds p =
     record { whole = tt; front = cut.front; fault = cut.fault; succeeds = tt; fails = cut.fails }
 
 -- a line that was put at the end of its room
-pub line-alone : (start : ℕ) (new old text : List ℕ) → length old ≡ 128 → length new ≡ 128 → drop start new ≡ text ++ drop 128 old → take (128 - start) (drop start new) ≡ text
-line-alone start new old text room same is =
+pub line-alone : {size : ℕ} (start : ℕ) (new old text : List ℕ) → length old ≡ size → length new ≡ size → drop start new ≡ text ++ drop size old → take (size - start) (drop start new) ≡ text
+line-alone {size = size} start new old text room same is =
     let rest = length-drop start new in
-    take_all (128 - start) (drop start new) (omega (arith, rest, same)) ∙ is ∙ ap (λ l. text ++ l) (ap (λ n. drop n old) (sym room) ∙ drop-length old) ∙ append-nil text
+    take_all (size - start) (drop start new) (omega (arith, rest, same)) ∙ is ∙ ap (λ l. text ++ l) (ap (λ n. drop n old) (sym room) ∙ drop-length old) ∙ append-nil text
 
 -- the piece at a place, and those after it
 pub pieces-left : {X : Type 0} (f : X → List ℕ) (xs : List X) (i : ℕ) (x : X) → i < length xs → x ≡ get_or xs i x → flat_map f (drop i xs) ≡ f x ++ flat_map f (drop (i + 1) xs)

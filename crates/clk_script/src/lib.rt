@@ -27,5 +27,5 @@ pub use laws::{
 pub use limits::{MAX_DEVICE, MAX_LINES, MAX_MOMENT, MAX_SCRIPT_BYTES};
 pub use run::{run_script, run_script_logged};
 pub use script::{Command, Line};
-pub use text::{LINE, command_line, drain_line};
+pub use text::{COMMAND_ROOM, command_line, drain_line};
 pub use writer::ScriptWriter;

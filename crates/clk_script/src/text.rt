@@ -11,6 +11,9 @@ use clk_report::{put, put_number};
 /// How many bytes a line has at most.
 pub const LINE: usize = 128;
 
+/// How many bytes of room `command_line` and `drain_line` want.
+pub const COMMAND_ROOM: usize = 64;
+
 /// Puts the line of an offer before the place `end`. Returns where it starts.
 #[inline(always)]
 pub fn put_offer(line: &mut [u8], packet: Packet, outcome: Offered, end: usize) -> usize
@@ -124,10 +127,10 @@ fn put_name(line: &mut [u8], packet: Packet, end: usize) -> usize
 
 /// Puts the line of a command into some room, and returns it.
 #[inline(always)]
-pub fn command_line(room: &mut [u8; LINE], command: Command) -> &[u8]
+pub fn command_line(room: &mut [u8; COMMAND_ROOM], command: Command) -> &[u8]
     ensures line { result.now ≡ command_text command }
 {
-    let start = put_command(room, command, LINE);
+    let start = put_command(room, command, COMMAND_ROOM);
     &room[start..]
 }
 
@@ -173,10 +176,10 @@ fn put_named_device(line: &mut [u8], device: u16, end: usize) -> usize
 
 /// Puts the line of a drain from this moment on, in ticks, into some room, and returns it.
 #[inline(always)]
-pub fn drain_line(room: &mut [u8; LINE], moment: u64) -> &[u8]
+pub fn drain_line(room: &mut [u8; COMMAND_ROOM], moment: u64) -> &[u8]
     ensures line { result.now ≡ drain_text (Some moment) }
 {
-    let end = put(room, b"\n", LINE);
+    let end = put(room, b"\n", COMMAND_ROOM);
     let end = put_number(room, moment, end);
     let start = put(room, b"drain ", end);
     &room[start..]
