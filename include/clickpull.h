@@ -62,6 +62,23 @@
 extern "C" {
 #endif
 
+/* ------------------------------------------------------------------------------------------------------------ version */
+
+/* The version of this header, MAJOR.MINOR.PATCH. The name of the shared library ends in MAJOR, and what else tells the version is read from
+ * here or compared with it. */
+#define CLK_VERSION_MAJOR 0
+#define CLK_VERSION_MINOR 1
+#define CLK_VERSION_PATCH 0
+
+/* The version of this header as a text, such as "1.2.3". */
+#define CLK_VERSION CLK_DOTTED(CLK_VERSION_MAJOR, CLK_VERSION_MINOR, CLK_VERSION_PATCH)
+#define CLK_DOTTED(MAJOR, MINOR, PATCH) CLK_QUOTED(MAJOR) "." CLK_QUOTED(MINOR) "." CLK_QUOTED(PATCH)
+#define CLK_QUOTED(IT) #IT
+
+/* The version of the library to which the program is linked, as a text of this form. An installed library has this call; the archive that
+ * `rt lib` makes has only the exports below. */
+extern const char *clk_version(void);
+
 /* ------------------------------------------------------------------------------------------------------------ statuses */
 
 /* What calls return. Unless a call says otherwise, a status other than CLK_OK means that nothing has changed and nothing was filled in. The
@@ -284,6 +301,15 @@ extern uint32_t clk_raw_record_pulls(uint16_t device, uint64_t moment, uint64_t 
                                      uint32_t *lines);
 extern uint32_t clk_raw_record_drain(uint64_t moment, uint8_t *text, size_t text_length, size_t *used, uint32_t *lines);
 
+/* How the functions below are defined: inline in each file that includes this header. An installed library has them also as exports, by
+ * their names, for languages that load a library and can't call inline functions (Go, Java, LuaJIT, .NET). The file that defines these
+ * exports, packaging/calls.c, defines CLK_EXPORT_CALLS before it includes this header. No other file does. */
+#ifdef CLK_EXPORT_CALLS
+#define CLK_API
+#else
+#define CLK_API static inline
+#endif
+
 /* Casts, which C++ has under names of their own. */
 #ifdef __cplusplus
 #define CLK_STATUS(IT) static_cast<clk_status>(IT)
@@ -304,7 +330,7 @@ extern uint32_t clk_raw_record_drain(uint64_t moment, uint8_t *text, size_t text
  * CLK_OK     `router` is the router, with empty queues, before its first pull. The caller closes it.
  * CLK_FAULT  `router` is shut, and nothing is to be closed. `fault` says why: 1 if an allocation failed, else the first fault of the text.
  * CLK_NULL   `router` is null, or `text` is null and `length` isn't 0. In the second case `router` is shut. */
-static inline clk_status clk_open(const char *text, size_t length, clk_router *router, clk_fault *fault) {
+CLK_API clk_status clk_open(const char *text, size_t length, clk_router *router, clk_fault *fault) {
     clk_fault unwanted = {0, 0};
     if (!router)
         return CLK_NULL;
@@ -315,7 +341,7 @@ static inline clk_status clk_open(const char *text, size_t length, clk_router *r
 }
 
 /* Frees all that the router has, with the packets in its queues, and leaves `router` shut. A null or shut router is left as it is. */
-static inline void clk_close(clk_router *router) {
+CLK_API void clk_close(clk_router *router) {
     if (router && router->at) {
         clk_router_close(*router);
         router->at = NULL;
@@ -334,7 +360,7 @@ static inline void clk_close(clk_router *router) {
  * CLK_SHUT, CLK_NULL
  *
  * Unless the status is CLK_OK, nothing was offered. */
-static inline clk_status clk_offer(clk_router *router, uint32_t sender, uint32_t length, clk_offered *offered) {
+CLK_API clk_status clk_offer(clk_router *router, uint32_t sender, uint32_t length, clk_offered *offered) {
     if (!router || !offered)
         return CLK_NULL;
     if (!router->at)
@@ -350,7 +376,7 @@ static inline clk_status clk_offer(clk_router *router, uint32_t sender, uint32_t
  * CLK_UNKNOWN_SENDER, CLK_BAD_LENGTH, CLK_AT_END  offers[*done] can't be offered, for the reason that clk_offer has. Neither it nor one
  *                     after it was offered.
  * CLK_SHUT, CLK_NULL  none was offered. */
-static inline clk_status clk_offer_many(clk_router *router, const clk_offer_of *offers, size_t count, clk_offered *offered, size_t *done) {
+CLK_API clk_status clk_offer_many(clk_router *router, const clk_offer_of *offers, size_t count, clk_offered *offered, size_t *done) {
     if (!done)
         return CLK_NULL;
     *done = 0;
@@ -372,7 +398,7 @@ static inline clk_status clk_offer_many(clk_router *router, const clk_offer_of *
  * CLK_NONE            none was emitted: nothing is left for the device, a Shaper has no token, or a DRRSched needs another pull, since a
  *                     packet is longer than its deficit. clk_left tells the first case from the others.
  * CLK_UNKNOWN_DEVICE, CLK_AT_END, CLK_SHUT, CLK_NULL  no pull was made. */
-static inline clk_status clk_pull(clk_router *router, uint16_t device, uint64_t moment, clk_packet *packet) {
+CLK_API clk_status clk_pull(clk_router *router, uint16_t device, uint64_t moment, clk_packet *packet) {
     if (!router || !packet)
         return CLK_NULL;
     if (!router->at)
@@ -387,8 +413,8 @@ static inline clk_status clk_pull(clk_router *router, uint16_t device, uint64_t 
  * CLK_OK              at least one was emitted, or `count` is 0.
  * CLK_NONE            the first pull emitted none.
  * CLK_UNKNOWN_DEVICE, CLK_AT_END, CLK_SHUT, CLK_NULL  no pull was made. */
-static inline clk_status clk_pull_many(clk_router *router, uint16_t device, uint64_t moment, clk_packet *packets, size_t count,
-                                       size_t *given) {
+CLK_API clk_status clk_pull_many(clk_router *router, uint16_t device, uint64_t moment, clk_packet *packets, size_t count,
+                                 size_t *given) {
     clk_packet unused = {0, 0, 0};
     if (!given)
         return CLK_NULL;
@@ -403,7 +429,7 @@ static inline clk_status clk_pull_many(clk_router *router, uint16_t device, uint
 /* The device's latest moment, in ticks: the greatest that it was pulled at so far. 0 before the first pull.
  *
  * CLK_OK  `moment` is it. CLK_UNKNOWN_DEVICE, CLK_SHUT, CLK_NULL. */
-static inline clk_status clk_moment(const clk_router *router, uint16_t device, uint64_t *moment) {
+CLK_API clk_status clk_moment(const clk_router *router, uint16_t device, uint64_t *moment) {
     if (!router || !moment)
         return CLK_NULL;
     if (!router->at)
@@ -420,7 +446,7 @@ static inline clk_status clk_moment(const clk_router *router, uint16_t device, u
  * CLK_OK    `moment` is it.
  * CLK_NONE  no packet is left for the device.
  * CLK_UNKNOWN_DEVICE, CLK_SHUT, CLK_NULL. */
-static inline clk_status clk_due(const clk_router *router, uint16_t device, uint64_t *moment) {
+CLK_API clk_status clk_due(const clk_router *router, uint16_t device, uint64_t *moment) {
     if (!router || !moment)
         return CLK_NULL;
     if (!router->at)
@@ -433,7 +459,7 @@ static inline clk_status clk_due(const clk_router *router, uint16_t device, uint
  * schedulers.
  *
  * CLK_OK  `packets` is the number. CLK_UNKNOWN_DEVICE, CLK_SHUT, CLK_NULL. */
-static inline clk_status clk_left(const clk_router *router, uint16_t device, uint64_t *packets) {
+CLK_API clk_status clk_left(const clk_router *router, uint16_t device, uint64_t *packets) {
     if (!router || !packets)
         return CLK_NULL;
     if (!router->at)
@@ -451,8 +477,8 @@ static inline clk_status clk_left(const clk_router *router, uint16_t device, uin
  * CLK_NONE            some are left: `pulls` or `count` was reached.
  * CLK_AT_END          the moment of the next pull would be 2^44, or the device was pulled 2^63 times. `given` packets were emitted before.
  * CLK_UNKNOWN_DEVICE, CLK_SHUT, CLK_NULL  no pull was made. */
-static inline clk_status clk_drain(clk_router *router, uint16_t device, clk_departure *departures, size_t count, uint64_t pulls,
-                                   size_t *given) {
+CLK_API clk_status clk_drain(clk_router *router, uint16_t device, clk_departure *departures, size_t count, uint64_t pulls,
+                             size_t *given) {
     clk_departure unused = {0, {0, 0, 0}};
     if (!given)
         return CLK_NULL;
@@ -467,7 +493,7 @@ static inline clk_status clk_drain(clk_router *router, uint16_t device, clk_depa
 /* ------------------------------------------------------------------------------------------------------------ state */
 
 /* How many senders the tree has, or 0 if the router is null or shut. */
-static inline size_t clk_senders(const clk_router *router) {
+CLK_API size_t clk_senders(const clk_router *router) {
     clk_router same = CLK_NO_ROUTER;
     if (router)
         same = *router;
@@ -475,7 +501,7 @@ static inline size_t clk_senders(const clk_router *router) {
 }
 
 /* How many queues the tree has, or 0 if the router is null or shut. */
-static inline size_t clk_queues(const clk_router *router) {
+CLK_API size_t clk_queues(const clk_router *router) {
     clk_router same = CLK_NO_ROUTER;
     if (router)
         same = *router;
@@ -483,7 +509,7 @@ static inline size_t clk_queues(const clk_router *router) {
 }
 
 /* How many devices the tree has, one at least, or 0 if the router is null or shut. */
-static inline size_t clk_devices(const clk_router *router) {
+CLK_API size_t clk_devices(const clk_router *router) {
     clk_router same = CLK_NO_ROUTER;
     if (router)
         same = *router;
@@ -494,7 +520,7 @@ static inline size_t clk_devices(const clk_router *router) {
  * numbers.
  *
  * CLK_OK  `account` has them. CLK_UNKNOWN_SENDER (no such place), CLK_SHUT, CLK_NULL. */
-static inline clk_status clk_account_at(const clk_router *router, size_t place, clk_account *account) {
+CLK_API clk_status clk_account_at(const clk_router *router, size_t place, clk_account *account) {
     if (!router || !account)
         return CLK_NULL;
     if (!router->at)
@@ -506,7 +532,7 @@ static inline clk_status clk_account_at(const clk_router *router, size_t place, 
 /* The queue with this number, from 0 to clk_queues - 1 in the order of declaration.
  *
  * CLK_OK  `queue` is the queue. CLK_UNKNOWN_QUEUE, CLK_SHUT, CLK_NULL. */
-static inline clk_status clk_queue_at(const clk_router *router, uint16_t number, clk_queue *queue) {
+CLK_API clk_status clk_queue_at(const clk_router *router, uint16_t number, clk_queue *queue) {
     if (!router || !queue)
         return CLK_NULL;
     if (!router->at)
@@ -554,7 +580,7 @@ static inline clk_status clk_queue_at(const clk_router *router, uint16_t number,
  * CLK_NULL        `inlet` is null.
  *
  * If the status isn't CLK_OK, nothing was sent, and `number` is unchanged. */
-static inline clk_status clk_inlet_offer(clk_inlet *inlet, uint32_t length, uint64_t token, uint32_t *number) {
+CLK_API clk_status clk_inlet_offer(clk_inlet *inlet, uint32_t length, uint64_t token, uint32_t *number) {
     uint32_t unwanted = 0;
     if (!inlet)
         return CLK_NULL;
@@ -571,7 +597,7 @@ static inline clk_status clk_inlet_offer(clk_inlet *inlet, uint32_t length, uint
  * CLK_FULL, CLK_BAD_LENGTH, CLK_AT_END  items[*done] was not accepted, for the reason that clk_inlet_offer has, and none after it was
  *                                       offered.
  * CLK_SHUT, CLK_NULL                    none was offered. */
-static inline clk_status clk_inlet_offer_many(clk_inlet *inlet, const clk_item *items, size_t count, size_t *done) {
+CLK_API clk_status clk_inlet_offer_many(clk_inlet *inlet, const clk_item *items, size_t count, size_t *done) {
     if (!done)
         return CLK_NULL;
     *done = 0;
@@ -588,7 +614,7 @@ static inline clk_status clk_inlet_offer_many(clk_inlet *inlet, const clk_item *
  * thread takes packets meanwhile. It is 0 once the inlet has accepted 4,294,967,295 packets.
  *
  * CLK_OK  `room` is the number. CLK_SHUT, CLK_NULL. */
-static inline clk_status clk_inlet_room(clk_inlet *inlet, size_t *room) {
+CLK_API clk_status clk_inlet_room(clk_inlet *inlet, size_t *room) {
     if (!inlet || !room)
         return CLK_NULL;
     if (!inlet->at)
@@ -603,7 +629,7 @@ static inline clk_status clk_inlet_room(clk_inlet *inlet, size_t *room) {
  * CLK_OK    the inlet is closed.
  * CLK_SHUT  it was closed before.
  * CLK_NULL  `inlet` is null. */
-static inline clk_status clk_inlet_close(clk_inlet *inlet) {
+CLK_API clk_status clk_inlet_close(clk_inlet *inlet) {
     if (!inlet)
         return CLK_NULL;
     if (!inlet->at)
@@ -682,7 +708,7 @@ static inline clk_status clk_inlet_close(clk_inlet *inlet) {
  * CLK_NULL      `live` is null, or `text` is null and `length` isn't 0.
  *
  * Unless the status is CLK_OK, `live` is shut (if it isn't null), and nothing is to be closed. */
-static inline clk_status clk_live_open(const char *text, size_t length, uint32_t room, clk_live *live, clk_fault *fault) {
+CLK_API clk_status clk_live_open(const char *text, size_t length, uint32_t room, clk_live *live, clk_fault *fault) {
     clk_fault unwanted = {0, 0};
     if (!live)
         return CLK_NULL;
@@ -694,7 +720,7 @@ static inline clk_status clk_live_open(const char *text, size_t length, uint32_t
 
 /* Frees all that the router has, with the inlets that were not handed out, and leaves `live` shut. A null or a shut router is left as it
  * is. The tokens of packets inside don't come back: clk_live_reclaim returns them before. */
-static inline void clk_live_close(clk_live *live) {
+CLK_API void clk_live_close(clk_live *live) {
     if (live && live->at) {
         clk_raw_live_close(*live);
         live->at = NULL;
@@ -705,7 +731,7 @@ static inline void clk_live_close(clk_live *live) {
  *
  * CLK_OK  `inlet` is the inlet.
  * CLK_UNKNOWN_SENDER, CLK_HANDED_OUT, CLK_RECLAIMED, CLK_SHUT, CLK_NULL  there is none, and `inlet` is shut (if it isn't null). */
-static inline clk_status clk_live_inlet(clk_live *live, uint32_t sender, clk_inlet *inlet) {
+CLK_API clk_status clk_live_inlet(clk_live *live, uint32_t sender, clk_inlet *inlet) {
     if (!inlet)
         return CLK_NULL;
     inlet->at = NULL;
@@ -723,7 +749,7 @@ static inline clk_status clk_live_inlet(clk_live *live, uint32_t sender, clk_inl
  * CLK_OK    at least one was taken, or `count` is 0.
  * CLK_NONE  none waits there.
  * CLK_UNKNOWN_SENDER, CLK_RECLAIMED, CLK_SHUT, CLK_NULL  none was taken. */
-static inline clk_status clk_live_take(clk_live *live, uint32_t sender, clk_taken *taken, size_t count, size_t *given) {
+CLK_API clk_status clk_live_take(clk_live *live, uint32_t sender, clk_taken *taken, size_t count, size_t *given) {
     clk_taken unused = {{0, 0, 0}, 0, {0, 0, 0}, 0, 0};
     if (!given)
         return CLK_NULL;
@@ -742,7 +768,7 @@ static inline clk_status clk_live_take(clk_live *live, uint32_t sender, clk_take
  * CLK_OK    at least one was taken, or `count` is 0.
  * CLK_NONE  none was taken.
  * CLK_RECLAIMED, CLK_SHUT, CLK_NULL  none was taken. */
-static inline clk_status clk_live_take_in(clk_live *live, size_t each, clk_taken *taken, size_t count, size_t *given) {
+CLK_API clk_status clk_live_take_in(clk_live *live, size_t each, clk_taken *taken, size_t count, size_t *given) {
     clk_taken unused = {{0, 0, 0}, 0, {0, 0, 0}, 0, 0};
     if (!given)
         return CLK_NULL;
@@ -756,7 +782,7 @@ static inline clk_status clk_live_take_in(clk_live *live, size_t each, clk_taken
 
 /* Does what clk_live_take_in does, but leaves a packet in its inlet while its queue is full. So each packet that is taken is accepted, and
  * none is evicted. */
-static inline clk_status clk_live_take_what_fits(clk_live *live, size_t each, clk_taken *taken, size_t count, size_t *given) {
+CLK_API clk_status clk_live_take_what_fits(clk_live *live, size_t each, clk_taken *taken, size_t count, size_t *given) {
     clk_taken unused = {{0, 0, 0}, 0, {0, 0, 0}, 0, 0};
     if (!given)
         return CLK_NULL;
@@ -773,7 +799,7 @@ static inline clk_status clk_live_take_what_fits(clk_live *live, size_t each, cl
  * CLK_OK    `packet` is the packet that was emitted.
  * CLK_NONE  none was emitted.
  * CLK_UNKNOWN_DEVICE, CLK_AT_END, CLK_RECLAIMED, CLK_SHUT, CLK_NULL  no pull was made. */
-static inline clk_status clk_live_pull(clk_live *live, uint16_t device, uint64_t moment, clk_emitted *packet) {
+CLK_API clk_status clk_live_pull(clk_live *live, uint16_t device, uint64_t moment, clk_emitted *packet) {
     if (!live || !packet)
         return CLK_NULL;
     if (!live->at)
@@ -782,8 +808,8 @@ static inline clk_status clk_live_pull(clk_live *live, uint16_t device, uint64_t
 }
 
 /* Pulls the device at this moment up to `count` times, as clk_pull_many does, with tokens. */
-static inline clk_status clk_live_pull_many(clk_live *live, uint16_t device, uint64_t moment, clk_emitted *packets, size_t count,
-                                            size_t *given) {
+CLK_API clk_status clk_live_pull_many(clk_live *live, uint16_t device, uint64_t moment, clk_emitted *packets, size_t count,
+                                      size_t *given) {
     clk_emitted unused = {{0, 0, 0}, 0};
     if (!given)
         return CLK_NULL;
@@ -797,8 +823,8 @@ static inline clk_status clk_live_pull_many(clk_live *live, uint16_t device, uin
 
 /* Drains the device as clk_drain does, with tokens: pulls it one tick apart while packets are left for it. Packets that wait in the inlets
  * are not drained: take them first. */
-static inline clk_status clk_live_drain(clk_live *live, uint16_t device, clk_departed *departures, size_t count, uint64_t pulls,
-                                        size_t *given) {
+CLK_API clk_status clk_live_drain(clk_live *live, uint16_t device, clk_departed *departures, size_t count, uint64_t pulls,
+                                  size_t *given) {
     clk_departed unused = {0, {0, 0, 0}, 0};
     if (!given)
         return CLK_NULL;
@@ -816,7 +842,7 @@ static inline clk_status clk_live_drain(clk_live *live, uint16_t device, clk_dep
  * CLK_OK    yes. It stays so: no more packets come.
  * CLK_NONE  not yet.
  * CLK_RECLAIMED, CLK_SHUT, CLK_NULL. */
-static inline clk_status clk_live_ended(const clk_live *live) {
+CLK_API clk_status clk_live_ended(const clk_live *live) {
     if (!live)
         return CLK_NULL;
     if (!live->at)
@@ -831,7 +857,7 @@ static inline clk_status clk_live_ended(const clk_live *live) {
  * CLK_OK    yes.
  * CLK_NONE  packets are left.
  * CLK_RECLAIMED, CLK_SHUT, CLK_NULL. */
-static inline clk_status clk_live_drained(const clk_live *live) {
+CLK_API clk_status clk_live_drained(const clk_live *live) {
     if (!live)
         return CLK_NULL;
     if (!live->at)
@@ -848,7 +874,7 @@ static inline clk_status clk_live_drained(const clk_live *live) {
  * CLK_OK    there are no more tokens, and `given` is below `count`.
  * CLK_NONE  all `count` tokens are filled in: call again.
  * CLK_SHUT, CLK_NULL  nothing was given up. */
-static inline clk_status clk_live_reclaim(clk_live *live, uint64_t *tokens, size_t count, size_t *given) {
+CLK_API clk_status clk_live_reclaim(clk_live *live, uint64_t *tokens, size_t count, size_t *given) {
     uint64_t unused = 0;
     if (!given)
         return CLK_NULL;
@@ -863,7 +889,7 @@ static inline clk_status clk_live_reclaim(clk_live *live, uint64_t *tokens, size
 /* The device's latest moment, in ticks: the greatest that it was pulled at so far. 0 before the first pull.
  *
  * CLK_OK  `moment` is it. CLK_UNKNOWN_DEVICE, CLK_RECLAIMED, CLK_SHUT, CLK_NULL. */
-static inline clk_status clk_live_moment(const clk_live *live, uint16_t device, uint64_t *moment) {
+CLK_API clk_status clk_live_moment(const clk_live *live, uint16_t device, uint64_t *moment) {
     if (!live || !moment)
         return CLK_NULL;
     if (!live->at)
@@ -878,7 +904,7 @@ static inline clk_status clk_live_moment(const clk_live *live, uint16_t device, 
  * CLK_OK    `moment` is it.
  * CLK_NONE  no packet is left for the device inside the router.
  * CLK_UNKNOWN_DEVICE, CLK_RECLAIMED, CLK_SHUT, CLK_NULL. */
-static inline clk_status clk_live_due(const clk_live *live, uint16_t device, uint64_t *moment) {
+CLK_API clk_status clk_live_due(const clk_live *live, uint16_t device, uint64_t *moment) {
     if (!live || !moment)
         return CLK_NULL;
     if (!live->at)
@@ -890,7 +916,7 @@ static inline clk_status clk_live_due(const clk_live *live, uint16_t device, uin
 /* How many packets are left for the device inside the router. Packets that wait in the inlets don't count.
  *
  * CLK_OK  `packets` is the number. CLK_UNKNOWN_DEVICE, CLK_RECLAIMED, CLK_SHUT, CLK_NULL. */
-static inline clk_status clk_live_left(const clk_live *live, uint16_t device, uint64_t *packets) {
+CLK_API clk_status clk_live_left(const clk_live *live, uint16_t device, uint64_t *packets) {
     if (!live || !packets)
         return CLK_NULL;
     if (!live->at)
@@ -900,7 +926,7 @@ static inline clk_status clk_live_left(const clk_live *live, uint16_t device, ui
 }
 
 /* How many senders the tree has, or 0 if the router is null, shut or reclaimed. */
-static inline size_t clk_live_senders(const clk_live *live) {
+CLK_API size_t clk_live_senders(const clk_live *live) {
     clk_live same = CLK_NO_LIVE;
     if (live)
         same = *live;
@@ -908,7 +934,7 @@ static inline size_t clk_live_senders(const clk_live *live) {
 }
 
 /* How many queues the tree has, or 0 if the router is null, shut or reclaimed. */
-static inline size_t clk_live_queues(const clk_live *live) {
+CLK_API size_t clk_live_queues(const clk_live *live) {
     clk_live same = CLK_NO_LIVE;
     if (live)
         same = *live;
@@ -916,7 +942,7 @@ static inline size_t clk_live_queues(const clk_live *live) {
 }
 
 /* How many devices the tree has, or 0 if the router is null, shut or reclaimed. */
-static inline size_t clk_live_devices(const clk_live *live) {
+CLK_API size_t clk_live_devices(const clk_live *live) {
     clk_live same = CLK_NO_LIVE;
     if (live)
         same = *live;
@@ -927,7 +953,7 @@ static inline size_t clk_live_devices(const clk_live *live) {
  * senders' numbers.
  *
  * CLK_OK  `account` has them. CLK_UNKNOWN_SENDER (no such place), CLK_RECLAIMED, CLK_SHUT, CLK_NULL. */
-static inline clk_status clk_live_account_at(const clk_live *live, size_t place, clk_account *account) {
+CLK_API clk_status clk_live_account_at(const clk_live *live, size_t place, clk_account *account) {
     if (!live || !account)
         return CLK_NULL;
     if (!live->at)
@@ -939,7 +965,7 @@ static inline clk_status clk_live_account_at(const clk_live *live, size_t place,
 /* The queue with this number, from 0 to clk_live_queues - 1 in the order of declaration.
  *
  * CLK_OK  `queue` is the queue. CLK_UNKNOWN_QUEUE, CLK_RECLAIMED, CLK_SHUT, CLK_NULL. */
-static inline clk_status clk_live_queue_at(const clk_live *live, uint16_t number, clk_queue *queue) {
+CLK_API clk_status clk_live_queue_at(const clk_live *live, uint16_t number, clk_queue *queue) {
     if (!live || !queue)
         return CLK_NULL;
     if (!live->at)
@@ -987,7 +1013,7 @@ static inline clk_status clk_live_queue_at(const clk_live *live, uint16_t number
 
 /* Adds the lines of `count` packets that were offered, as clk_offer and clk_offer_many filled them in. `offered` may be null where `count` is
  * 0. */
-static inline clk_status clk_record_offered(clk_record *record, const clk_offered *offered, size_t count) {
+CLK_API clk_status clk_record_offered(clk_record *record, const clk_offered *offered, size_t count) {
     clk_offered unused = {{0, 0, 0}, {0, 0, 0}, 0};
     if (!record || !record->text || (count != 0 && !offered))
         return CLK_NULL;
@@ -997,7 +1023,7 @@ static inline clk_status clk_record_offered(clk_record *record, const clk_offere
 
 /* Adds the lines of `count` packets that were taken, as clk_live_take, clk_live_take_in and clk_live_take_what_fits filled them in. `taken`
  * may be null where `count` is 0. */
-static inline clk_status clk_record_taken(clk_record *record, const clk_taken *taken, size_t count) {
+CLK_API clk_status clk_record_taken(clk_record *record, const clk_taken *taken, size_t count) {
     clk_taken unused = {{0, 0, 0}, 0, {0, 0, 0}, 0, 0};
     if (!record || !record->text || (count != 0 && !taken))
         return CLK_NULL;
@@ -1006,7 +1032,7 @@ static inline clk_status clk_record_taken(clk_record *record, const clk_taken *t
 }
 
 /* Adds the lines of `pulls` pulls of the device, all at this moment, in ticks: the one that was handed in, even if a later one counted. */
-static inline clk_status clk_record_pulls(clk_record *record, uint16_t device, uint64_t moment, uint64_t pulls) {
+CLK_API clk_status clk_record_pulls(clk_record *record, uint16_t device, uint64_t moment, uint64_t pulls) {
     if (!record || !record->text)
         return CLK_NULL;
     return CLK_STATUS(clk_raw_record_pulls(device, moment, pulls, CLK_BUFFER(record->text), record->room, &record->used, &record->lines));
@@ -1014,7 +1040,7 @@ static inline clk_status clk_record_pulls(clk_record *record, uint16_t device, u
 
 /* Adds the line of the drain of all devices that ends a record. Its pulls begin one tick after this moment, in ticks, or after the device's
  * latest one, whichever is later: 0 stands for drains by clk_drain and clk_live_drain. No line may follow. */
-static inline clk_status clk_record_drain(clk_record *record, uint64_t moment) {
+CLK_API clk_status clk_record_drain(clk_record *record, uint64_t moment) {
     if (!record || !record->text)
         return CLK_NULL;
     return CLK_STATUS(clk_raw_record_drain(moment, CLK_BUFFER(record->text), record->room, &record->used, &record->lines));
@@ -1023,7 +1049,7 @@ static inline clk_status clk_record_drain(clk_record *record, uint64_t moment) {
 /* ------------------------------------------------------------------------------------------------------------ names */
 
 /* The name of a fault that clk_open and clk_live_open can have, as `clickpull` prints it, and "" for any other number. */
-static inline const char *clk_fault_name(uint32_t number) {
+CLK_API const char *clk_fault_name(uint32_t number) {
     switch (number) {
     case 1:
         return "Memory";
@@ -1057,7 +1083,7 @@ static inline const char *clk_fault_name(uint32_t number) {
 }
 
 /* What a status means, in a few words of English. */
-static inline const char *clk_status_text(clk_status status) {
+CLK_API const char *clk_status_text(clk_status status) {
     switch (status) {
     case CLK_OK:
         return "done";
@@ -1133,6 +1159,7 @@ CLK_ASSERT(sizeof(clk_taken) == 40, "clk_taken has 40 bytes");
 CLK_ASSERT(sizeof(clk_emitted) == 16, "clk_emitted has 16 bytes");
 CLK_ASSERT(sizeof(clk_departed) == 24, "clk_departed has 24 bytes");
 #undef CLK_ASSERT
+#undef CLK_API
 #undef CLK_STATUS
 #undef CLK_BYTES
 #undef CLK_BUFFER

@@ -1,6 +1,7 @@
 """Makes the libraries and the file for pkg-config. This is Python and no part of what is proved."""
 import os
 import re
+import shutil
 import subprocess
 import tempfile
 from collections import Counter
@@ -8,8 +9,25 @@ from collections.abc import Iterator
 from dataclasses import dataclass
 from pathlib import Path
 
-# The number of the library's interface, which stands in the name that programs ask for.
-INTERFACE = 0
+PACKAGING = Path(__file__).resolve().parent.parent
+
+# The header, which says the version.
+HEADER = PACKAGING.parent / "include" / "clickpull.h"
+
+# The calls of the header as exports, and all that the shared library exports.
+CALLS, EXPORTS = PACKAGING / "calls.c", PACKAGING / "exports.map"
+
+# The call that an archive has if it has those of CALLS.
+VERSION_CALL = "clk_version"
+
+
+def version_numbers() -> list[int]:
+    """The numbers of the version that the header says: major, minor and patch."""
+    return [int(it) for it in re.findall(r"^#define CLK_VERSION_(?:MAJOR|MINOR|PATCH) (\d+)$", HEADER.read_text(), re.MULTILINE)]
+
+
+# The version, and the number of the library's interface, which stands in the name that programs ask for.
+VERSION, INTERFACE = ".".join(map(str, version_numbers())), version_numbers()[0]
 
 # How the names of the toolchain's functions begin.
 HEAP = "rattle_"
@@ -41,11 +59,29 @@ class Archives:
         return [it.resolve() for it in (self.library, self.heap) if it]
 
 
+def need_compiler() -> None:
+    """Raises Unmade where there is no C compiler: an archive without the calls isn't installed."""
+    if shutil.which("cc") is None:
+        raise Unmade("cc, a C compiler, isn't on the PATH: it compiles the calls of clickpull.h and links the shared library")
+
+
+def names(kind: str, prefix: str, archive: Path) -> set[str]:
+    """The global names of an archive, of this kind by nm and with this prefix."""
+    return set(re.findall(rf" {kind} ({prefix}\w+)$", run(["nm", "-g", archive]), re.MULTILINE))
+
+
 def lacks_heap(archive: Path) -> bool:
     """Whether an archive calls functions of the toolchain that it doesn't define. All of these take memory or free it."""
-    symbols = run(["nm", "-g", archive])
-    called, defined = (set(re.findall(rf" {kind} ({HEAP}\w+)$", symbols, re.MULTILINE)) for kind in ("U", "[A-TV-Z]"))
-    return bool(called - defined)
+    return bool(names("U", HEAP, archive) - names("[A-TV-Z]", HEAP, archive))
+
+
+def compiled_calls(archive: Path, folder: Path) -> list[Path]:
+    """The calls of the header, compiled to a file in a folder; none if the archive has them."""
+    if VERSION_CALL in names("T", "clk_", archive):
+        return []
+    made = free(folder, "clickpull-calls.o")
+    run(["cc", "-std=c11", "-O2", "-fPIC", "-c", CALLS, "-o", made])
+    return [made]
 
 
 def members(archive: Path, folder: Path) -> Iterator[Path]:
@@ -68,25 +104,26 @@ def free(folder: Path, name: str) -> Path:
 
 
 def make_archive(archives: Archives, path: Path) -> None:
-    """Makes one archive of all, so that a program links it alone."""
-    with tempfile.TemporaryDirectory(prefix="clickpull-archive-") as folder:
-        run(["ar", "rcsD", path, *(it for archive in archives.all_of_them for it in members(archive, Path(folder)))])
+    """Makes one archive of all, with the calls of the header, so that a program links it alone."""
+    with tempfile.TemporaryDirectory(prefix="clickpull-archive-") as below:
+        folder = Path(below)
+        all_members = [it for archive in archives.all_of_them for it in members(archive, folder)]
+        run(["ar", "rcsD", path, *all_members, *compiled_calls(archives.library, folder)])
 
 
-def make_shared(archives: Archives, path: Path, exports: Path) -> None:
-    """Makes the shared library, which exports the calls and nothing else."""
-    whole: list[str | Path] = ["-Wl,--whole-archive", *archives.all_of_them, "-Wl,--no-whole-archive"]
-    flags = ["-shared", f"-Wl,-soname,{path.name}", f"-Wl,--version-script={exports}", "-Wl,-z,defs", "-Wl,-z,relro", "-Wl,-z,now"]
-    run(["cc", *flags, "-o", path, *whole])
+def make_shared(archive: Path, path: Path) -> None:
+    """Makes the shared library of an archive that is whole. It exports what the header declares and nothing else."""
+    flags = ["-shared", f"-Wl,-soname,{path.name}", f"-Wl,--version-script={EXPORTS}", "-Wl,-z,defs", "-Wl,-z,relro", "-Wl,-z,now"]
+    run(["cc", *flags, "-o", path, "-Wl,--whole-archive", archive, "-Wl,--no-whole-archive"])
 
 
-def pkg_config(folders: dict[str, Path], version: str, licence: str) -> str:
+def pkg_config(folders: dict[str, Path], licence: str) -> str:
     """What pkg-config reads. It takes a blank in a path for an end unless a backslash stands before."""
     variables = "".join(f"{name}={str(path).replace(' ', chr(92) + ' ')}\n" for name, path in folders.items())
     return f"""{variables}
 Name: clickpull
 Description: Queues and pull schedulers of a Click router
-Version: {version}
+Version: {VERSION}
 License: {licence}
 Cflags: -I${{includedir}}
 Libs: -L${{libdir}} -lclickpull

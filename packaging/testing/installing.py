@@ -32,7 +32,7 @@ def members_are_kept(folder: Path) -> None:
     it = standin.made(folder / "made")
     archive = folder / "lib" / "libclickpull.a"
     it.install("--prefix", folder)
-    compare("how many members", len(run(["ar", "t", archive]).splitlines()), 3)
+    compare("how many members", len(run(["ar", "t", archive]).splitlines()), 4)
     it.calls(archive)
     once = archive.read_bytes()
     it.install("--prefix", folder)
@@ -92,11 +92,11 @@ def toolchain_is_spared(folder: Path) -> None:
         compare("what is installed over itself", files(first) == wanted, True)
 
 
-def is_refused(fault: str, it: standin.StandIn, *words: str | Path) -> None:
-    """With these words, and without the toolchain, install fails, tells of this fault, and installs nothing."""
+def is_refused(fault: str, it: standin.StandIn, *words: str | Path, searched: str | None = None) -> None:
+    """With these words, and without the toolchain, install fails, tells of this fault, and installs nothing. `searched` may be another PATH."""
     prefix = it.folder / "prefix"
     try:
-        it.install("--prefix", prefix, *words, toolchain=False)
+        it.install("--prefix", prefix, *words, toolchain=False, searched=searched)
     except Unmade as told:
         compare(f"whether it tells that {fault}", fault in str(told), True)
     else:
@@ -115,6 +115,13 @@ def wrong_files_are_refused(folder: Path) -> None:
     is_refused("says that it is another, and not clickpull", it, "--archive", combined, "--program", another)
 
 
+def compiler_is_needed(folder: Path) -> None:
+    """Without a C compiler install says so, and installs nothing: an archive would lack the header's calls."""
+    empty = folder / "empty"
+    empty.mkdir()
+    is_refused("cc, a C compiler, isn't on the PATH", standin.made(folder / "made"), searched=str(empty))
+
+
 TESTS: dict[str, Callable[[Path], None]] = {
     "a prefix with a space": spaces_are_kept,
     "members of one name": members_are_kept,
@@ -122,4 +129,5 @@ TESTS: dict[str, Callable[[Path], None]] = {
     "a link at a path of ours": links_are_replaced,
     "an archive with the heap": toolchain_is_spared,
     "wrong files": wrong_files_are_refused,
+    "no C compiler": compiler_is_needed,
 }

@@ -7,7 +7,7 @@ from email import message_from_bytes
 from email.message import Message
 from pathlib import Path
 
-from making.library import INTERFACE, Unmade, run
+from making.library import INTERFACE, VERSION, Unmade, run
 from of_library.module import python
 from testing import standin
 from testing.checks import compare, need
@@ -77,12 +77,12 @@ def licences_agree(folder: Path) -> None:
 
 
 def versions_agree(folder: Path) -> None:
-    """What pkg-config reads and the Debian package have the version that the program prints."""
+    """What pkg-config reads and the Debian package have the version that the header says."""
     package = package_of(folder)
-    compare("clickpull.pc", said(next(package.rglob("clickpull.pc")), r"^Version: (.+)$"), standin.VERSION)
-    compare("Debian's version", said(package / "DEBIAN/control", r"^Version: (.+)$"), standin.VERSION)
+    compare("clickpull.pc", said(next(package.rglob("clickpull.pc")), r"^Version: (.+)$"), VERSION)
+    compare("Debian's version", said(package / "DEBIAN/control", r"^Version: (.+)$"), VERSION)
     architecture = run(["dpkg", "--print-architecture"]).strip()
-    compare("the package", [it.name for it in folder.glob("*.deb")], [f"clickpull_{standin.VERSION}_{architecture}.deb"])
+    compare("the package", [it.name for it in folder.glob("*.deb")], [f"clickpull_{VERSION}_{architecture}.deb"])
 
 
 def interfaces_agree(folder: Path) -> None:

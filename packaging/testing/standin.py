@@ -3,16 +3,16 @@
 This is Python and no part of what is proved.
 """
 import os
+import re
 import shutil
 import sys
 from dataclasses import dataclass
 from pathlib import Path
 
-from making.library import run
+from making.library import HEADER, VERSION, run
 from testing.checks import LeftOut, need
 
 INSTALL = Path(__file__).resolve().parent.parent / "install"
-VERSION = "98.7.6"
 
 PROGRAM = f"""
 #include <stdio.h>
@@ -25,14 +25,18 @@ int main(int count, char **words) {{
 }}
 """
 
-# The members of the library's archive, which has two of one name, and of the heap's, which has one of that name too.
+# The members of the library's archive, which has two of one name, and of the heap's, which has one of that name too. The second has all exports
+# that the header's calls want.
 FIRST = "void *rattle_alloc(void); int clk_router_first(void) { return rattle_alloc() != 0; }"
-SECOND = "int clk_router_second(void) { return 1; }"
+WANTED = re.findall(r"^extern \w+ (clk_(?:router|raw)_\w+)\(", HEADER.read_text(), re.MULTILINE)
+SECOND = "\n".join(f"int {it}(void) {{ return 1; }}" for it in ("clk_router_second", *WANTED))
 HEAP = "static int given; void *rattle_alloc(void) { return &given; }"
-CALLER = """
+CALLER = f"""
+#include <string.h>
 int clk_router_first(void);
 int clk_router_second(void);
-int main(void) { return clk_router_first() && clk_router_second() ? 0 : 1; }
+const char *clk_version(void);
+int main(void) {{ return clk_router_first() && clk_router_second() && strcmp(clk_version(), "{VERSION}") == 0 ? 0 : 1; }}
 """
 
 
@@ -57,14 +61,14 @@ class StandIn:
         """The toolchain."""
         return self.folder / "kit"
 
-    def install(self, *words: str | Path, toolchain: bool = True, archive: Path | None = None) -> str:
-        """What packaging/install writes, with the toolchain on the PATH or without."""
+    def install(self, *words: str | Path, toolchain: bool = True, archive: Path | None = None, searched: str | None = None) -> str:
+        """What packaging/install writes, with the toolchain on the PATH or without, or with another PATH."""
         named: list[str | Path] = ["--program", self.program, "--archive", archive or self.archive]
-        return self.alone(*named, *words, toolchain=toolchain)
+        return self.alone(*named, *words, toolchain=toolchain, searched=searched)
 
-    def alone(self, *words: str | Path, toolchain: bool = False) -> str:
+    def alone(self, *words: str | Path, toolchain: bool = False, searched: str | None = None) -> str:
         """What packaging/install writes where neither the program nor the archive is named."""
-        return run([sys.executable, INSTALL, *words], environment={"PATH": path(self.kit / "bin" if toolchain else None)})
+        return run([sys.executable, INSTALL, *words], environment={"PATH": searched or path(self.kit / "bin" if toolchain else None)})
 
     def calls(self, *flags: str | Path) -> str:
         """Builds a program of C that calls each member, with these flags, and runs it."""

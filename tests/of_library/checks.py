@@ -27,6 +27,11 @@ class Setting:
     made: Path
 
     @property
+    def installed(self) -> Path:
+        """The archive as it is installed, with the toolchain's heap and the calls of the header."""
+        return self.made / "libclickpull.a"
+
+    @property
     def shared(self) -> Path:
         """The shared library."""
         return self.made / "libclickpull.so"

@@ -45,17 +45,6 @@ def heap() -> Path:
     return path
 
 
-def make_shared(setting: Setting, kept: Path | None) -> None:
-    """Makes the shared library of the archive, as packaging does, and keeps it at a path where one is named."""
-    need("cc")
-    name = "-Wl,-soname,libclickpull.so.0"
-    exports = f"-Wl,--version-script={setting.root / 'packaging' / 'exports.map'}"
-    whole = ["-Wl,--whole-archive", str(setting.archive), str(heap()), "-Wl,--no-whole-archive"]
-    run(["cc", "-shared", "-o", setting.shared, name, exports, *whole, "-Wl,-z,defs"])
-    if kept:
-        shutil.copy(setting.shared, kept)
-
-
 def tests_of(setting: Setting, compiler: str) -> Path:
     """The tests of C that a compiler builds, over the archive."""
     need(compiler)
@@ -157,15 +146,11 @@ def headers_stand_alone(setting: Setting) -> str:
 
 
 def over_the_shared_library(setting: Setting) -> str:
-    """The tests of C run over the shared library as over the archive, and it exports the calls alone."""
-    need("cc", "nm")
+    """The tests of C run over the shared library as over the archive."""
+    need("cc")
     program = setting.made / "calls-shared"
     sources = sorted(it for it in (setting.root / "tests" / "c").glob("*.c") if it.name not in ALONE)
     run(["cc", *C, "-I", setting.include, *sources, "-o", program, setting.shared, f"-Wl,-rpath,{setting.made}"])
-    # The program asks for the library by the name that it was given.
-    link = setting.made / "libclickpull.so.0"
-    link.unlink(missing_ok=True)
-    link.symlink_to(setting.shared)
     return run([program]).strip()
 
 

@@ -10,6 +10,8 @@ from of_library.module import environment, python
 
 COMMENT = re.compile(r"/\*.*?\*/", re.DOTALL)
 EXPORTED = ("clk_router_", "clk_raw_")
+# The calls over these, which an installed library exports too.
+CHECKED = re.compile(r"^(?:CLK_MUST_USE )?(?:CLK_API|extern) ((?:const char \*|\w+ )\s?)(?!clk_router_|clk_raw_)(clk_\w+)\(([^)]*)\)", re.MULTILINE)
 DECLARED = re.compile(rf"extern (\w+) ((?:{'|'.join(EXPORTED)})\w+)\(([^;]*)\);")
 STRUCT = re.compile(r"typedef struct (\w+) \{(.*?)\} \1;", re.DOTALL)
 FIELD = re.compile(r"(\w+ \*?)(\w+(?:, \w+)*);")
@@ -31,6 +33,12 @@ def header_of(setting: Setting) -> Header:
     if structs.pop(STRUCT_OF_THE_HEADER, None) is None:
         raise Failed(f"the header has no {STRUCT_OF_THE_HEADER}")
     return Header(calls, structs)
+
+
+def checked_calls(setting: Setting) -> dict[str, tuple[str, int]]:
+    """Of each call that callers use what it returns, and how many parameters it has."""
+    text = COMMENT.sub("", (setting.include / "clickpull.h").read_text())
+    return {it[2]: (it[1].strip(), 0 if it[3] == "void" else it[3].count(",") + 1) for it in CHECKED.finditer(text)}
 
 
 def type_of(parameter: str) -> str:
@@ -59,12 +67,14 @@ def exported(path: Path, *words: str) -> list[str]:
 
 
 def names_are_exported(setting: Setting) -> str:
-    """The header declares the calls that the archive and the shared library export, and no others."""
-    wanted = sorted(header_of(setting).calls)
-    # The archive has names besides by which its parts find one another.
-    compare("the archive's exports", [it for it in exported(setting.archive) if it.startswith(EXPORTED)], wanted)
-    compare("the shared library's exports", exported(setting.shared, "-D"), wanted)
-    return f"{len(wanted)} calls"
+    """The header declares what the archive, the installed archive and the shared library export, and no more."""
+    proved, checked = sorted(header_of(setting).calls), checked_calls(setting)
+    whole = sorted([*proved, *checked])
+    # An archive has names besides by which its parts find one another.
+    compare("the archive's exports", [it for it in exported(setting.archive) if it.startswith(EXPORTED)], proved)
+    compare("the installed archive's exports", [it for it in exported(setting.installed) if it.startswith("clk_")], whole)
+    compare("the shared library's exports", exported(setting.shared, "-D"), whole)
+    return f"{len(proved)} exports that are proved, and {len(checked)} calls over them"
 
 
 # What its code says.

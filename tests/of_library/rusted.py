@@ -2,36 +2,19 @@
 import re
 import shutil
 import subprocess
-import threading
 from collections.abc import Callable, Iterable, Iterator
 from pathlib import Path
 
-from making.library import Archives, make_archive
 from of_library.checks import Check, Failed, Setting, compare, need, run
-from of_library.compiled import WARNINGS, heap
+from of_library.compiled import WARNINGS
 from of_library.declared import header_of
 
 CRATE = Path("rust")
 
-# Only one check at a time makes the archive.
-MAKING = threading.Lock()
-
-
-def library_folder(setting: Setting) -> Path:
-    """A folder with the archive as it is installed, which has the toolchain's heap in it."""
-    folder = setting.made / "library-for-rust"
-    with MAKING:
-        if not folder.exists():
-            whole = heap()
-            folder.mkdir()
-            make_archive(Archives(setting.archive, whole), folder / "libclickpull.a")
-    return folder
-
-
 def cargo(setting: Setting, *words: str, folder: Path | None = None, more: dict[str, str] | None = None) -> str:
     """What cargo writes, which asks no registry, and leaves nothing beside the sources."""
     need("cargo")
-    environment = {"CLICKPULL_LIB_DIR": str(library_folder(setting)), "CARGO_TARGET_DIR": str(setting.made / "cargo"), **(more or {})}
+    environment = {"CLICKPULL_LIB_DIR": str(setting.installed.parent), "CARGO_TARGET_DIR": str(setting.made / "cargo"), **(more or {})}
     return run(["cargo", *words], environment, folder or setting.root / CRATE)
 
 
