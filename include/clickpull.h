@@ -55,6 +55,14 @@
 #ifndef CLICKPULL_H
 #define CLICKPULL_H
 
+#ifdef __cplusplus
+#if __cplusplus < 201103L
+#error "clickpull.h needs C++11 or a later C++: compile with -std=c++11 or above"
+#endif
+#elif !defined(__STDC_VERSION__) || __STDC_VERSION__ < 201112L
+#error "clickpull.h needs C11 or a later C: compile with -std=c11 or above"
+#endif
+
 #include <stddef.h>
 #include <stdint.h>
 
