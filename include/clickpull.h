@@ -22,7 +22,8 @@
  *         return fprintf(stderr, "fault %u: %s at byte %u\n", fault.number, clk_fault_name(fault.number), fault.offset), 1;
  *     clk_offered offered;
  *     clk_packet packet;
- *     clk_offer(&router, 0, 1500, &offered);
+ *     if (clk_offer(&router, 0, 1500, &offered) != CLK_OK || offered.outcome == CLK_REFUSED)
+ *         drop(packet_of_mine);
  *     while (clk_pull(&router, 0, now, &packet) == CLK_OK)
  *         transmit(packet.sender, packet.number);
  *     clk_close(&router);
@@ -318,6 +319,19 @@ extern uint32_t clk_raw_record_drain(uint64_t moment, uint8_t *text, size_t text
 #define CLK_API static inline
 #endif
 
+/* Stands before each call whose status says that a packet was not accepted, that one was emitted, or that packets are left. A packet may be
+ * lost where such a status is ignored, so compilers that can warn of it. Takes, and pulls of many, have no such mark: they also give a
+ * count, without which their packets can't be read. A caller who wants no warning defines CLK_MUST_USE as nothing before the include. */
+#ifndef CLK_MUST_USE
+#if (defined(__cplusplus) && __cplusplus >= 201703L) || (!defined(__cplusplus) && __STDC_VERSION__ >= 202311L)
+#define CLK_MUST_USE [[nodiscard]]
+#elif defined(__GNUC__)
+#define CLK_MUST_USE __attribute__((warn_unused_result))
+#else
+#define CLK_MUST_USE
+#endif
+#endif
+
 /* Casts, which C++ has under names of their own. */
 #ifdef __cplusplus
 #define CLK_STATUS(IT) static_cast<clk_status>(IT)
@@ -368,7 +382,7 @@ CLK_API void clk_close(clk_router *router) {
  * CLK_SHUT, CLK_NULL
  *
  * Unless the status is CLK_OK, nothing was offered. */
-CLK_API clk_status clk_offer(clk_router *router, uint32_t sender, uint32_t length, clk_offered *offered) {
+CLK_MUST_USE CLK_API clk_status clk_offer(clk_router *router, uint32_t sender, uint32_t length, clk_offered *offered) {
     if (!router || !offered)
         return CLK_NULL;
     if (!router->at)
@@ -384,7 +398,8 @@ CLK_API clk_status clk_offer(clk_router *router, uint32_t sender, uint32_t lengt
  * CLK_UNKNOWN_SENDER, CLK_BAD_LENGTH, CLK_AT_END  offers[*done] can't be offered, for the reason that clk_offer has. Neither it nor one
  *                     after it was offered.
  * CLK_SHUT, CLK_NULL  none was offered. */
-CLK_API clk_status clk_offer_many(clk_router *router, const clk_offer_of *offers, size_t count, clk_offered *offered, size_t *done) {
+CLK_MUST_USE CLK_API clk_status clk_offer_many(clk_router *router, const clk_offer_of *offers, size_t count, clk_offered *offered,
+                                               size_t *done) {
     if (!done)
         return CLK_NULL;
     *done = 0;
@@ -406,7 +421,7 @@ CLK_API clk_status clk_offer_many(clk_router *router, const clk_offer_of *offers
  * CLK_NONE            none was emitted: nothing is left for the device, a Shaper has no token, or a DRRSched needs another pull, since a
  *                     packet is longer than its deficit. clk_left tells the first case from the others.
  * CLK_UNKNOWN_DEVICE, CLK_AT_END, CLK_SHUT, CLK_NULL  no pull was made. */
-CLK_API clk_status clk_pull(clk_router *router, uint16_t device, uint64_t moment, clk_packet *packet) {
+CLK_MUST_USE CLK_API clk_status clk_pull(clk_router *router, uint16_t device, uint64_t moment, clk_packet *packet) {
     if (!router || !packet)
         return CLK_NULL;
     if (!router->at)
@@ -485,8 +500,8 @@ CLK_API clk_status clk_left(const clk_router *router, uint16_t device, uint64_t 
  * CLK_NONE            some are left: `pulls` or `count` was reached.
  * CLK_AT_END          the moment of the next pull would be 2^44, or the device was pulled 2^63 times. `given` packets were emitted before.
  * CLK_UNKNOWN_DEVICE, CLK_SHUT, CLK_NULL  no pull was made. */
-CLK_API clk_status clk_drain(clk_router *router, uint16_t device, clk_departure *departures, size_t count, uint64_t pulls,
-                             size_t *given) {
+CLK_MUST_USE CLK_API clk_status clk_drain(clk_router *router, uint16_t device, clk_departure *departures, size_t count, uint64_t pulls,
+                                          size_t *given) {
     clk_departure unused = {0, {0, 0, 0}};
     if (!given)
         return CLK_NULL;
@@ -588,7 +603,7 @@ CLK_API clk_status clk_queue_at(const clk_router *router, uint16_t number, clk_q
  * CLK_NULL        `inlet` is null.
  *
  * If the status isn't CLK_OK, nothing was sent, and `number` is unchanged. */
-CLK_API clk_status clk_inlet_offer(clk_inlet *inlet, uint32_t length, uint64_t token, uint32_t *number) {
+CLK_MUST_USE CLK_API clk_status clk_inlet_offer(clk_inlet *inlet, uint32_t length, uint64_t token, uint32_t *number) {
     uint32_t unwanted = 0;
     if (!inlet)
         return CLK_NULL;
@@ -605,7 +620,7 @@ CLK_API clk_status clk_inlet_offer(clk_inlet *inlet, uint32_t length, uint64_t t
  * CLK_FULL, CLK_BAD_LENGTH, CLK_AT_END  items[*done] was not accepted, for the reason that clk_inlet_offer has, and none after it was
  *                                       offered.
  * CLK_SHUT, CLK_NULL                    none was offered. */
-CLK_API clk_status clk_inlet_offer_many(clk_inlet *inlet, const clk_item *items, size_t count, size_t *done) {
+CLK_MUST_USE CLK_API clk_status clk_inlet_offer_many(clk_inlet *inlet, const clk_item *items, size_t count, size_t *done) {
     if (!done)
         return CLK_NULL;
     *done = 0;
@@ -807,7 +822,7 @@ CLK_API clk_status clk_live_take_what_fits(clk_live *live, size_t each, clk_take
  * CLK_OK    `packet` is the packet that was emitted.
  * CLK_NONE  none was emitted.
  * CLK_UNKNOWN_DEVICE, CLK_AT_END, CLK_RECLAIMED, CLK_SHUT, CLK_NULL  no pull was made. */
-CLK_API clk_status clk_live_pull(clk_live *live, uint16_t device, uint64_t moment, clk_emitted *packet) {
+CLK_MUST_USE CLK_API clk_status clk_live_pull(clk_live *live, uint16_t device, uint64_t moment, clk_emitted *packet) {
     if (!live || !packet)
         return CLK_NULL;
     if (!live->at)
@@ -831,8 +846,8 @@ CLK_API clk_status clk_live_pull_many(clk_live *live, uint16_t device, uint64_t 
 
 /* Drains the device as clk_drain does, with tokens: pulls it one tick apart while packets are left for it. Packets that wait in the inlets
  * are not drained: take them first. */
-CLK_API clk_status clk_live_drain(clk_live *live, uint16_t device, clk_departed *departures, size_t count, uint64_t pulls,
-                                  size_t *given) {
+CLK_MUST_USE CLK_API clk_status clk_live_drain(clk_live *live, uint16_t device, clk_departed *departures, size_t count, uint64_t pulls,
+                                               size_t *given) {
     clk_departed unused = {0, {0, 0, 0}, 0};
     if (!given)
         return CLK_NULL;
@@ -882,7 +897,7 @@ CLK_API clk_status clk_live_drained(const clk_live *live) {
  * CLK_OK    there are no more tokens, and `given` is below `count`.
  * CLK_NONE  all `count` tokens are filled in: call again.
  * CLK_SHUT, CLK_NULL  nothing was given up. */
-CLK_API clk_status clk_live_reclaim(clk_live *live, uint64_t *tokens, size_t count, size_t *given) {
+CLK_MUST_USE CLK_API clk_status clk_live_reclaim(clk_live *live, uint64_t *tokens, size_t count, size_t *given) {
     uint64_t unused = 0;
     if (!given)
         return CLK_NULL;

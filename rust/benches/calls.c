@@ -23,10 +23,9 @@ static volatile uint64_t sink;
 static void one_by_one(void) {
     clk_offered offered;
     clk_packet packet;
-    for (uint32_t i = 0; i < BURST; i++) {
-        clk_offer(&router, i % 2, 1000, &offered);
-        sink = offered.outcome;
-    }
+    for (uint32_t i = 0; i < BURST; i++)
+        if (clk_offer(&router, i % 2, 1000, &offered) == CLK_OK)
+            sink = offered.outcome;
     /* A pull may emit nothing while a DRRSched waits for its next turn. */
     for (int left = BURST; left > 0;)
         if (clk_pull(&router, 0, 0, &packet) == CLK_OK) {
