@@ -10,8 +10,9 @@ from of_library.module import environment, python
 
 COMMENT = re.compile(r"/\*.*?\*/", re.DOTALL)
 EXPORTED = ("clk_router_", "clk_raw_")
-# The calls over these, which an installed library exports too.
-CHECKED = re.compile(r"^(?:CLK_MUST_USE )?(?:CLK_API|extern) ((?:const char \*|\w+ )\s?)(?!clk_router_|clk_raw_)(clk_\w+)\(([^)]*)\)", re.MULTILINE)
+# The calls over these, which an installed library exports too; one that is inline alone is found here, and missed there.
+KINDS = "(?:CLK_MUST_USE )?(?:CLK_API|static inline|extern)"
+CHECKED = re.compile(rf"^{KINDS} (const char \*|\w+ )(?!{'|'.join(EXPORTED)})(clk_\w+)\(([^)]*)\)", re.MULTILINE)
 DECLARED = re.compile(rf"extern (\w+) ((?:{'|'.join(EXPORTED)})\w+)\(([^;]*)\);")
 STRUCT = re.compile(r"typedef struct (\w+) \{(.*?)\} \1;", re.DOTALL)
 FIELD = re.compile(r"(\w+ \*?)(\w+(?:, \w+)*);")
