@@ -2,6 +2,7 @@
 import re
 import shutil
 import subprocess
+from collections.abc import Mapping
 
 from of_library.checks import Check, Failed, LeftOut, Setting, compare, run
 from of_library.compiled import COMPILERS, STRICT, WARNINGS
@@ -17,7 +18,7 @@ OFFERS = {"clk_offer", "clk_offer_many", "clk_inlet_offer", "clk_inlet_offer_man
 PULLS = {"clk_pull", "clk_live_pull", "clk_drain", "clk_live_drain", "clk_live_reclaim"}
 
 
-def languages(setting: Setting, standards: dict[str, tuple[str, ...]]) -> list[tuple[str, list[str]]]:
+def languages(setting: Setting, standards: Mapping[str, tuple[str, ...]]) -> list[tuple[str, list[str]]]:
     """Each compiler that is there with each of these languages: C or C++, and how a program in it is checked."""
     there = [(it, language) for pair in COMPILERS.items() for it, language in zip(pair, standards) if shutil.which(it)]
     if not there:

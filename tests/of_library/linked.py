@@ -17,6 +17,9 @@ from of_library.module import environment
 LANGUAGES = {"c": "-std=c11", "c++": "-std=c++11"}
 WAYS = {"-O0": ["-O0"], "LTO": ["-O2", "-flto"]}
 
+# Which members of the archive are linked: those that are wanted, or each of them.
+MEMBERS = ("--no-whole-archive", "--whole-archive")
+
 # What a compiler tells that can't link with -flto on this machine.
 NO_LTO = ("LLVMgold.so", "ld.lld", "lto-wrapper", "plugin needed")
 
@@ -36,16 +39,16 @@ def make_installed(setting: Setting, kept: Path | None) -> None:
 
 
 def is_linked(setting: Setting, compiler: str, language: str, way: str) -> bool:
-    """Builds a program of two files with the installed archive, and with each of its members, and runs it; False if there is no LTO."""
+    """Builds a program of two files with the installed archive, also with each of its members, and runs it; False if there is no LTO."""
     folder = setting.root / "tests" / "c" / "linked"
     flags = [LANGUAGES[language], *BUILT, *STRICT, *WAYS[way], "-I", str(setting.include)]
     objects = [setting.made / f"{it}-{compiler}-{way}.o" for it in ("main", "other")]
     for it in objects:
         run([compiler, *flags, "-x", language, "-c", folder / f"{it.name.partition('-')[0]}.c", "-o", it])
-    for number, archive in enumerate(([setting.installed], ["-Wl,--whole-archive", setting.installed, "-Wl,--no-whole-archive"])):
-        program = setting.made / f"linked-{compiler}-{way}-{number}"
+    for members in MEMBERS:
+        program = setting.made / f"linked-{compiler}-{way}{members}"
         try:
-            run([compiler, *WAYS[way], *objects, "-o", program, *archive])
+            run([compiler, *WAYS[way], *objects, "-o", program, f"-Wl,{members}", setting.installed, "-Wl,--no-whole-archive"])
         except Failed as it:
             if way == "LTO" and any(word in str(it) for word in NO_LTO):
                 return False
@@ -66,7 +69,7 @@ def calls_do_not_collide(setting: Setting) -> str:
 def calls_are_found_by_name(setting: Setting) -> str:
     """The shared library is loaded and called by the names of the header's calls, as languages do that can't call inline functions."""
     calls = checked_calls(setting)
-    words = [sys.executable, Path(__file__).with_name("by_name.py"), setting.shared, json.dumps(calls)]
+    words: list[str | Path] = [sys.executable, Path(__file__).with_name("by_name.py"), setting.shared, json.dumps(calls)]
     compare("the library's version", run(words, environment(setting)), f"{VERSION}\n")
     return f"{len(calls)} calls of {VERSION}"
 
