@@ -96,7 +96,7 @@ private:
     Place place_;
 };
 
-// How far a drain came: `count` packets came out, and whether these were all.
+// How far a drain came: `count` packets were emitted, and `all` says whether none is left.
 struct Drained {
     std::size_t count;
     bool all;
@@ -207,11 +207,11 @@ private:
 
 } // namespace detail
 
-// What became of a packet that was offered.
+// A packet that was offered, and the outcome.
 struct Offered {
     Packet packet;                 // the packet, with its number
     bool accepted;                 // whether its queue took it
-    std::optional<Packet> evicted; // what its queue put out for it, maybe of another sender
+    std::optional<Packet> evicted; // the packet that its queue evicted for it, maybe of another sender
 };
 
 // How far a call for many came: `count` were offered, and `status` is CLK_OK or says why the next one can't be.
@@ -259,15 +259,15 @@ public:
         return packet;
     }
 
-    // Pulls the device up to `count` times at this moment, up to the first pull that gives none; fills and answers as many as came.
+    // Pulls the device up to `count` times at this moment, up to the first pull that emits none. Fills in the packets, and returns how many.
     [[nodiscard]] std::size_t pull_many(std::uint16_t device, std::uint64_t moment, Packet *packets, std::size_t count) {
         std::size_t given = 0;
         detail::is_none(clk_pull_many(router_.c(), device, moment, packets, count, &given));
         return given;
     }
 
-    // Pulls the device one tick apart until all that is left for it came out, `pulls` pulls were made, `count` packets came out, or the
-    // next moment is at its end. It throws at that end only if no packet came out.
+    // Pulls the device one tick apart until no packet is left for it, `pulls` pulls were made, `count` packets were emitted, or the next
+    // moment would be at its end. It throws at that end only if no packet was emitted.
     [[nodiscard]] Drained drain(std::uint16_t device, Departure *departures, std::size_t count,
                                 std::uint64_t pulls = std::numeric_limits<std::uint64_t>::max()) {
         std::size_t given = 0;
@@ -298,7 +298,7 @@ public:
     // How many devices there are. They are numbered from 0 as they are declared.
     std::size_t devices() const noexcept { return clk_devices(router_.c()); }
 
-    // What became of the packets of each sender, by rising numbers of senders.
+    // The account of each sender, by rising numbers of senders.
     std::vector<Account> accounts() const {
         return detail::all_of<Account>(clk_senders(router_.c()),
                                        [&](std::size_t place, Account *it) { return clk_account_at(router_.c(), place, it); });
@@ -319,26 +319,26 @@ private:
 };
 
 // A router whose packets carry values of the caller's: with each a T, which is moved in by an offer and moved out by a pull. They are kept
-// in a list for each sender, and taken from its front, since packets of one sender come out in the order in which they were offered. A T
+// in a list for each sender, and taken from its front, since packets of one sender are emitted in the order in which they were offered. A T
 // that is moved may not throw, so that none is lost.
 template <class T> class Carrier {
     static_assert(std::is_nothrow_move_constructible_v<T> && std::is_nothrow_move_assignable_v<T>, "a value is moved without throwing");
 
 public:
-    // A packet that came out, with its value and the moment of the pull, in ticks.
+    // A packet that was emitted, with its value and the moment of the pull, in ticks.
     struct Carried {
         Packet packet;
         std::uint64_t moment;
         T value;
     };
 
-    // A packet that was put out for a later one, with its value.
+    // A packet that was evicted for a later one, with its value.
     struct Evicted {
         Packet packet;
         T value;
     };
 
-    // What became of an offer. A value that was refused is the caller's again, and so is one that was put out.
+    // The outcome of an offer. A value that was refused or evicted is the caller's again.
     struct Offer {
         Packet packet;
         std::optional<T> refused;
@@ -388,14 +388,14 @@ public:
         return Carried{*packet, router_.moment(device), take_front(*packet)};
     }
 
-    // Pulls the device up to `count` times at this moment, up to the first pull that gives none, hands each that comes to `each`, and
-    // answers how many came. Where `each` throws, nothing that came is kept back.
+    // Pulls the device up to `count` times at this moment, up to the first pull that emits none. Hands each packet to `each`, and returns
+    // how many were emitted. If `each` throws, no packet is held back.
     template <class Each> std::size_t pull_many(std::uint16_t device, std::uint64_t moment, std::size_t count, Each &&each) {
         return detail::pull_each(count, [&] { return pull(device, moment); }, each);
     }
 
-    // Pulls the device one tick apart until all that is left for it came out, `pulls` pulls were made, or `count` packets came out; hands
-    // each to `each`, and answers how many came, and whether these were all. Where `each` throws, nothing that came is kept back.
+    // Pulls the device one tick apart until no packet is left for it, `pulls` pulls were made, or `count` packets were emitted. Hands each
+    // packet to `each`. Returns how many were emitted, and whether none is left. If `each` throws, no packet is held back.
     template <class Each>
     Drained drain(std::uint16_t device, Each &&each, std::uint64_t pulls = std::numeric_limits<std::uint64_t>::max(),
                   std::size_t count = std::numeric_limits<std::size_t>::max()) {

@@ -22,7 +22,7 @@
 // VALUES. A value of type T travels with each packet. It comes back once: from a pull that emits the packet, or from a take that tells that
 // the packet was refused or evicted. A value that doesn't come back, since its router or its inlet was destroyed before, is destroyed once
 // both are: by the thread that destroys the later one. Each inlet has a table of values, which grows with the number of values that are
-// inside at a time, and is not shrunk. A declared capacity alone takes no memory.
+// inside at a time, and is not shrunk. A declared capacity alone allocates nothing.
 //
 // EXCEPTIONS. If T's move constructor or an allocation throws, `offer` throws that, nothing is offered, and the value is as its move
 // constructor leaves it (strong guarantee). If T's move constructor throws while a value comes back, the packet is emitted, refused or
@@ -301,7 +301,7 @@ public:
     // How many devices there are. They are numbered from 0 as they are declared.
     std::size_t devices() const noexcept { return clk_live_devices(live_.c()); }
 
-    // What became of the packets that were taken of each sender, by rising numbers of senders.
+    // The account of each sender's packets that were taken, by rising numbers of senders.
     std::vector<Account> accounts() const {
         return detail::all_of<Account>(clk_live_senders(live_.c()),
                                        [&](std::size_t place, Account *it) { return clk_live_account_at(live_.c(), place, it); });

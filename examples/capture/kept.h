@@ -25,8 +25,8 @@ struct frame *copy_frame(const struct pcap_pkthdr *header, const u_char *bytes, 
 /* Puts a frame at the back. */
 void keep(struct kept *kept, struct frame *frame);
 
-/* Takes out the frame with this number, which is the caller's to free. It stands at the front, or is put out right behind those that
- * schedulers hold; NULL where it isn't there. */
+/* Takes out the frame with this number, which is the caller's to free. It stands at the front, or right behind those that schedulers hold.
+ * NULL if it isn't there. */
 struct frame *take(struct kept *kept, uint32_t number);
 
 #endif

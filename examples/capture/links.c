@@ -49,7 +49,7 @@ static void leave(struct links *links, struct device *device) {
 static void put_on_link(struct links *links, struct device *device, clk_packet packet) {
     device->frame = take(&links->kept[packet.sender], packet.number);
     if (!device->frame)
-        stop("a frame came out that wasn't offered");
+        stop("a frame was emitted that wasn't offered");
     device->free_at += on_link(links, packet.length);
     uint64_t way = device->free_at - device->frame->came;
     if (way > links->slowest[packet.sender])

@@ -25,7 +25,7 @@ struct links {
     uint64_t slowest[NUMBERS]; /* the longest way of a frame that left */
 };
 
-/* Makes the links of a router. Stops if memory is refused. */
+/* Makes the links of a router. Stops if an allocation fails. */
 void open_links(struct links *links, clk_router *router, struct captures *captures, uint64_t rate);
 
 /* Offers a frame of this sender's, which becomes the links'. */

@@ -1,4 +1,4 @@
-/* The report: what became of each sender's frames. This is C and no part of what is proved. */
+/* The report: how many of each sender's frames were sent and lost. This is C and no part of what is proved. */
 #ifndef REPORT_H
 #define REPORT_H
 

@@ -77,7 +77,7 @@ static int read_line(char *text, size_t size, struct line *line) {
     return read_address(address, line) && read_ports(ports, line) ? 1 : -1;
 }
 
-/* Makes room for one more line, by doubling. Returns 0 if memory is refused. */
+/* Makes room for one more line, by doubling. Returns 0 if an allocation fails. */
 static int make_room(struct table *table) {
     if (table->length < table->room)
         return 1;
@@ -90,7 +90,7 @@ static int make_room(struct table *table) {
     return 1;
 }
 
-/* Reads the lines of a file, and answers as read_table does. `text` is memory for a line, which getline makes longer. */
+/* Reads the lines of a file, and returns what read_table does. `text` is memory for a line, which getline makes longer. */
 static int read_lines(FILE *file, char **text, struct table *table) {
     size_t room = 0;
     ssize_t size;

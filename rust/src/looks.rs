@@ -35,12 +35,12 @@ macro_rules! looks {
                 self.raw.left(device)
             }
 
-            /// What became of the packets of each sender, by rising numbers of senders. What waits in inlets is not among them.
+            /// The account of each sender, by rising numbers of senders. What waits in inlets is not among them.
             pub fn accounts(&self) -> impl ExactSizeIterator<Item = crate::Account> + '_ {
                 (0..self.raw.senders()).map(|place| self.raw.account(place).expect("each place has a sender"))
             }
 
-            /// What became of the packets of one sender, or `None` if there is no such sender.
+            /// The account of one sender, or `None` if there is no such sender.
             pub fn account(&self, sender: u32) -> Option<crate::Account> {
                 self.accounts().find(|it| u32::from(it.sender) == sender)
             }

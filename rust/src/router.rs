@@ -52,7 +52,8 @@ impl Router {
 
     /// Offers packets in order, up to the first that can't be offered, or as many as `offered` has places for.
     ///
-    /// Returns what became of those that were offered, which fill the front of `offered`, and why the next one can't be.
+    /// Fills the front of `offered` with the outcomes of those that were offered, and returns that front. Also returns why the next packet can't
+    /// be offered.
     ///
     /// ```
     /// use clickpull::{Error, Offer, Offered, Router};

@@ -127,7 +127,7 @@ fn halves_may_be_on_two_threads() {
                 hand_over(&places, it, number);
             }
         });
-        // Of each three values the latest comes out first.
+        // Of each three values the latest is taken first.
         let mut out = |first: usize| {
             let numbers: Vec<u32> = (first..first + 3).map(|it| received(&places, it)).collect();
             numbers.into_iter().rev().map(|it| *std::iter::repeat_with(|| emptying.take(it)).find_map(|it| it).unwrap()).sum::<usize>()

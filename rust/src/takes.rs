@@ -9,7 +9,7 @@ use crate::live::Lines;
 use crate::values::{Packet, EVICTED, REFUSED};
 use crate::MOST_TAKEN;
 
-/// A packet that was taken from its inlet and offered to its queue, and what became of it.
+/// A packet that was taken from its inlet and offered to its queue, and the outcome.
 #[derive(Clone, Debug, PartialEq, Eq)]
 #[must_use = "the value of a refused or an evicted packet is in it"]
 pub enum Taken<T> {

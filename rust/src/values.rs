@@ -22,7 +22,7 @@ pub struct Offer {
     pub length: u32,
 }
 
-/// A packet that was offered to a [`Router`](crate::Router), and what became of it.
+/// A packet that was offered to a [`Router`](crate::Router), and the outcome.
 #[derive(Clone, Copy, Debug, Default, PartialEq, Eq, Hash)]
 #[repr(C)]
 #[must_use = "the packet may be refused, or another evicted for it"]
@@ -32,7 +32,7 @@ pub struct Offered {
     outcome: u32,
 }
 
-/// What became of a packet that was offered to a [`Router`](crate::Router).
+/// The outcome of an offer to a [`Router`](crate::Router).
 #[derive(Clone, Copy, Debug, PartialEq, Eq, Hash)]
 #[must_use = "the packet may be refused, or another evicted for it"]
 pub enum Outcome {
@@ -55,7 +55,7 @@ impl Offered {
         self.packet
     }
 
-    /// What became of it.
+    /// The outcome.
     #[inline]
     pub fn outcome(&self) -> Outcome {
         match self.outcome {
@@ -92,7 +92,7 @@ pub struct Total {
     pub bytes: u64,
 }
 
-/// What became of all packets that a sender offered.
+/// How many of a sender's packets were accepted, refused, evicted and emitted, and of how many bytes.
 ///
 /// `accepted` and `refused` together are what it offered. `evicted` and `emitted` are parts of `accepted`; what is left of it is still
 /// inside the router.
