@@ -25,8 +25,8 @@ pub record IsAdded (bytes before after : List ℕ) (used end : ℕ) : Type 0 whe
 -- them; or else the record may not go on with them.
 pub data AddsLines (bytes : List ℕ) (count : ℕ) (moment : Option ℕ) (before after : List ℕ) (used used' lines lines' status : ℕ) : Type 0 where
   added : status ≡ OK → MayGoOn lines count moment → IsAdded bytes before after used used' → lines' ≡ lines + count
-    → AddsLines bytes count moment before after used used' lines lines' status
+      → AddsLines bytes count moment before after used used' lines lines' status
   full : status ≡ FULL → MayGoOn lines count moment → length before < used + length bytes → take used after ≡ take used before → used' ≡ used → lines' ≡ lines
-    → AddsLines bytes count moment before after used used' lines lines' status
+      → AddsLines bytes count moment before after used used' lines lines' status
   at_end : status ≡ AT_END → (MayGoOn lines count moment → ⊥) → after ≡ before → used' ≡ used → lines' ≡ lines
-    → AddsLines bytes count moment before after used used' lines lines' status
+      → AddsLines bytes count moment before after used used' lines lines' status

@@ -1,6 +1,7 @@
 //! The lines of a script's answer and of its record. Each is written from its end to its front.
 
 ghost use Rattle.std.specs.Prelude.{◌≡◌, ◌+◌, ◌≤◌, ◌++◌, drop, length, Some};
+ghost use Rattle.clk_script.specs.declared.text.TheConstants.{COMMAND_ROOM};
 ghost use Rattle.clk_script.specs.Meaning.{name_text, packet_text, outcome_text, result_text, device_text, pull_text, offer_text};
 ghost use Rattle.clk_script.specs.Record.{named_device, command_text, drain_text};
 
@@ -11,8 +12,8 @@ use clk_report::{put, put_number};
 /// How many bytes a line has at most.
 pub const LINE: usize = 128;
 
-/// How many bytes of room `command_line` and `drain_line` want.
-pub const COMMAND_ROOM: usize = 64;
+/// How many bytes the line of a command or of a drain has at most: the room that `command_line` and `drain_line` want.
+pub const COMMAND_ROOM: usize = 48;
 
 /// Puts the line of an offer before the place `end`. Returns where it starts.
 #[inline(always)]
@@ -136,8 +137,8 @@ pub fn command_line(room: &mut [u8; COMMAND_ROOM], command: Command) -> &[u8]
 
 /// Puts the line of a command before the place `end`. Returns where it starts.
 #[inline(always)]
-fn put_command(line: &mut [u8], command: Command, end: usize) -> usize
-    requires room { 64 ≤ end }
+pub fn put_command(line: &mut [u8], command: Command, end: usize) -> usize
+    requires room { COMMAND_ROOM ≤ end }
     requires within { end ≤ length line.old }
     ensures piece { drop result line.new ≡ command_text command ++ drop end line.old }
     ensures before { result ≤ end }

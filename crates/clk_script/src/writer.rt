@@ -11,7 +11,7 @@ ghost use Rattle.clk_script.specs.Records.{Records};
 use crate::limits::{MAX_LINES, MAX_MOMENT};
 use crate::lines::Lines;
 use crate::script::Command;
-use crate::text::{COMMAND_ROOM, command_line, drain_line};
+use crate::text::{COMMAND_ROOM, drain_line};
 use clk_packet::{Fault, Sink};
 
 /// Writes the record of a router: the script of the commands that were carried out, line by line.
@@ -54,8 +54,7 @@ impl ScriptWriter {
         if !self.has_room(handed_in(command)) {
             return Err(Fault::TooLarge);
         }
-        let mut room = [0; COMMAND_ROOM];
-        self.held.add(command_line(&mut room, command), sink)?;
+        self.held.add_command(command, sink)?;
         self.lines += 1;
         Ok(())
     }

@@ -4,7 +4,6 @@ use Rattle.clk_script.specs.Record.{record_text}
 use Rattle.clk_script.specs.Examples.{one_pull}
 use Rattle.clk_script.proofs.laws.writer_examples.Goals as goal
 
-
 record-is : record_text one_pull None ≡ codes "pull 3\n"
 record-is = rw (decimal_digit 3 (omega arith)) refl
 
