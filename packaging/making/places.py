@@ -9,7 +9,8 @@ from making.library import INTERFACE
 
 # The name of the program and of the library.
 NAME = "clickpull"
-HEADERS = tuple(f"{NAME}{it}" for it in (".h", ".hpp", "_live.hpp", "_values.hpp"))
+SOURCES = Path(__file__).resolve().parent.parent.parent / "include"
+HEADERS = tuple(sorted(it.name for it in SOURCES.iterdir()))
 
 
 @dataclass(frozen=True)
