@@ -84,8 +84,8 @@ extern "C" {
 #define CLK_DOTTED(MAJOR, MINOR, PATCH) CLK_QUOTED(MAJOR) "." CLK_QUOTED(MINOR) "." CLK_QUOTED(PATCH)
 #define CLK_QUOTED(IT) #IT
 
-/* The version of the library to which the program is linked, as a text of this form. An installed library has this call; the archive that
- * `rt lib` makes has only the exports below. */
+/* The version of the library to which the program is linked, as a text like CLK_VERSION. An installed library has this call; the archive
+ * that `rt lib` makes has only the exports that are proved. */
 extern const char *clk_version(void);
 
 /* ------------------------------------------------------------------------------------------------------------ statuses */

@@ -1,4 +1,4 @@
-"""Makes the libraries and the file for pkg-config. This is Python and no part of what is proved."""
+"""Makes the libraries. This is Python and no part of what is proved."""
 import os
 import re
 import shutil
@@ -9,13 +9,10 @@ from collections.abc import Iterator
 from dataclasses import dataclass
 from pathlib import Path
 
-PACKAGING = Path(__file__).resolve().parent.parent
-
-# The header, which says the version.
-HEADER = PACKAGING.parent / "include" / "clickpull.h"
+from making.sources import HEADER, ROOT
 
 # The calls of the header as exports, and all that the shared library exports.
-CALLS, EXPORTS = PACKAGING / "calls.c", PACKAGING / "exports.map"
+CALLS, EXPORTS = ROOT / "packaging" / "calls.c", ROOT / "packaging" / "exports.map"
 
 # The call that an archive has if it has those of CALLS.
 VERSION_CALL = "clk_version"
@@ -115,16 +112,3 @@ def make_shared(archive: Path, path: Path) -> None:
     """Makes the shared library of an archive that is whole. It exports what the header declares and nothing else."""
     flags = ["-shared", f"-Wl,-soname,{path.name}", f"-Wl,--version-script={EXPORTS}", "-Wl,-z,defs", "-Wl,-z,relro", "-Wl,-z,now"]
     run(["cc", *flags, "-o", path, "-Wl,--whole-archive", archive, "-Wl,--no-whole-archive"])
-
-
-def pkg_config(folders: dict[str, Path], licence: str) -> str:
-    """What pkg-config reads. It takes a blank in a path for an end unless a backslash stands before."""
-    variables = "".join(f"{name}={str(path).replace(' ', chr(92) + ' ')}\n" for name, path in folders.items())
-    return f"""{variables}
-Name: clickpull
-Description: Queues and pull schedulers of a Click router
-Version: {VERSION}
-License: {licence}
-Cflags: -I${{includedir}}
-Libs: -L${{libdir}} -lclickpull
-"""

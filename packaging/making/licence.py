@@ -1,11 +1,9 @@
 """Reads which licence the repository has, and writes it as Debian does. This is Python and no part of what is proved."""
 import re
 from dataclasses import dataclass
-from pathlib import Path
 
 from making.library import Unmade
-
-ROOT = Path(__file__).resolve().parent.parent.parent
+from making.sources import ROOT
 
 # What Debian calls a licence where SPDX has another name.
 OF_DEBIAN = {"MIT": "Expat"}

@@ -6,11 +6,8 @@ from dataclasses import dataclass
 from pathlib import Path
 
 from making.library import INTERFACE
-
-# The name of the program and of the library.
-NAME = "clickpull"
-SOURCES = Path(__file__).resolve().parent.parent.parent / "include"
-HEADERS = tuple(sorted(it.name for it in SOURCES.iterdir()))
+from making.manuals import header
+from making.sources import HEADERS, NAME
 
 
 @dataclass(frozen=True)
@@ -27,10 +24,9 @@ class Places:
         """The program."""
         return self.prefix / "bin" / NAME
 
-    @property
-    def manual(self) -> Path:
-        """The manual page."""
-        return self.prefix / "share" / "man" / "man1" / f"{NAME}.1"
+    def manual(self, name: str, section: int) -> Path:
+        """A manual page."""
+        return self.prefix / "share" / "man" / f"man{section}" / f"{name}.{section}"
 
     @property
     def bash_completions(self) -> Path:
@@ -67,10 +63,21 @@ class Places:
         """What pkg-config reads."""
         return self.libraries / "pkgconfig" / f"{NAME}.pc"
 
+    @property
+    def cmake(self) -> Path:
+        """The folder of what CMake reads."""
+        return self.libraries / "cmake" / NAME
+
+    @property
+    def cmake_files(self) -> list[Path]:
+        """What CMake reads: by what it finds the library, and by what it tells its version."""
+        return [self.cmake / f"{NAME}-config.cmake", self.cmake / f"{NAME}-config-version.cmake"]
+
     def all_of_them(self) -> list[Path]:
         """Each path at which something is installed."""
-        of_program = [self.program, self.manual, self.bash_completions, self.zsh_completions]
-        return [*of_program, *(self.include / it for it in HEADERS), self.archive, self.shared, self.link, self.pkg_config]
+        of_program = [self.program, self.bash_completions, self.zsh_completions, *(self.manual(NAME, it) for it in (1, 5))]
+        of_library = [self.archive, self.shared, self.link, self.pkg_config, *self.cmake_files, *(self.include / it for it in HEADERS)]
+        return [*of_program, *of_library, *(self.manual(it, 3) for it in [NAME, *header.names()])]
 
     def under(self, path: Path) -> Path:
         """A path under the root."""

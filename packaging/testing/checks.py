@@ -1,8 +1,8 @@
 """What the tests of packaging compare with. This is Python and no part of what is proved."""
 from making.library import Unmade
-from of_library.checks import LeftOut, need
+from of_library.checks import Failed, LeftOut, need
 
-__all__ = ["LeftOut", "compare", "need"]
+__all__ = ["Failed", "LeftOut", "compare", "need"]
 
 
 def compare(what: str, found: object, wanted: object) -> None:

@@ -7,10 +7,11 @@ from email import message_from_bytes
 from email.message import Message
 from pathlib import Path
 
+from making.debian.packages import DEVELOPING, LIBRARY
 from making.library import INTERFACE, VERSION, Unmade, run
 from of_library.module import python
-from testing import standin
-from testing.checks import compare, need
+from testing import packaged, standin
+from testing.checks import compare
 
 HERE = Path(__file__).resolve().parent
 ROOT = HERE.parent.parent
@@ -49,24 +50,18 @@ def wanted_licence() -> str:
     return wanted
 
 
-def package_of(folder: Path) -> Path:
-    """A Debian package of the stand-in, unpacked."""
-    need("dpkg", "dpkg-deb", "dpkg-architecture", "objdump", "strip", "file")
-    it = standin.made(folder / "made")
-    archive = folder / "installed" / "lib" / "libclickpull.a"
-    it.install("--prefix", folder / "installed")
-    package = run([HERE.parent / "debian", folder, "--program", it.program, "--archive", archive]).strip()
-    run(["dpkg-deb", "--raw-extract", package, folder / "package"])
-    return folder / "package"
-
-
-def licences_agree(folder: Path) -> None:
-    """The Debian package, what pkg-config reads and the Python module name the licence that LICENSE has."""
+def licences_agree(_: Path) -> None:
+    """The Debian packages, what pkg-config reads and the Python module name the licence that LICENSE has."""
     wanted = wanted_licence()
     compare("pyproject.toml", said(ROOT / "python" / "pyproject.toml", r'^license = \{text = "(.+)"\}'), wanted)
-    package = package_of(folder)
-    compare("clickpull.pc", said(next(package.rglob("clickpull.pc")), r"^License: (.+)$"), wanted)
-    copyright_ = package / "usr/share/doc/clickpull/copyright"
+    package = packaged.of_standin()
+    compare("clickpull.pc", said(next(package.unpacked(DEVELOPING).rglob("clickpull.pc")), r"^License: (.+)$"), wanted)
+    for it in package.files:
+        copyright_agrees(package.unpacked(it) / "usr/share/doc" / it / "copyright", wanted)
+
+
+def copyright_agrees(copyright_: Path, wanted: str) -> None:
+    """What Debian reads of the licence is that of LICENSE, with its texts."""
     names = [LICENCES[it][2] for it in wanted.split(" OR ")]
     compare("Debian's licence", said(copyright_, r"^Files: \*\n.+\nLicense: (.+)$"), " or ".join(names))
     compare("Debian's holder", said(copyright_, r"^Copyright: (.+)$"), said(ROOT / "LICENSE", r"^Copyright \(c\) (.+)$"))
@@ -76,22 +71,23 @@ def licences_agree(folder: Path) -> None:
     compare("where the Apache licence is", "/usr/share/common-licenses/Apache-2.0." in stanzas["Apache-2.0"], True)
 
 
-def versions_agree(folder: Path) -> None:
-    """What pkg-config reads and the Debian package have the version that the header says."""
-    package = package_of(folder)
-    compare("clickpull.pc", said(next(package.rglob("clickpull.pc")), r"^Version: (.+)$"), VERSION)
-    compare("Debian's version", said(package / "DEBIAN/control", r"^Version: (.+)$"), VERSION)
-    architecture = run(["dpkg", "--print-architecture"]).strip()
-    compare("the package", [it.name for it in folder.glob("*.deb")], [f"clickpull_{VERSION}_{architecture}.deb"])
+def versions_agree(_: Path) -> None:
+    """What pkg-config reads and the Debian packages have the version that the header says."""
+    package = packaged.of_standin()
+    compare("clickpull.pc", said(next(package.unpacked(DEVELOPING).rglob("clickpull.pc")), r"^Version: (.+)$"), VERSION)
+    for name, it in package.files.items():
+        control = package.unpacked(name) / "DEBIAN/control"
+        compare(f"the version of {name}", said(control, r"^Version: (.+)$"), VERSION)
+        compare("the file", it.name, f"{name}_{VERSION}_{said(control, r'^Architecture: (.+)$')}.deb")
 
 
-def interfaces_agree(folder: Path) -> None:
-    """The shared library, the Debian package and the Python module have one number of the interface."""
-    package = package_of(folder)
+def interfaces_agree(_: Path) -> None:
+    """The shared library, its Debian package and the Python module have one number of the interface."""
+    package = packaged.of_standin().unpacked(LIBRARY)
     shared = next(package.rglob("libclickpull.so.*"))
     compare("the library's name", said_by(["objdump", "-p", shared], r"SONAME +libclickpull\.so\.(\d+)$"), str(INTERFACE))
     compare("the library's file", shared.name, f"libclickpull.so.{INTERFACE}")
-    compare("Debian's shlibs", (package / "DEBIAN/shlibs").read_text(), f"libclickpull {INTERFACE} clickpull\n")
+    compare("Debian's shlibs", (package / "DEBIAN/shlibs").read_text(), f"libclickpull {INTERFACE} libclickpull{INTERFACE}\n")
     compare("the Python module", said(ROOT / "python" / "clickpull" / "library.py", r'NAME \+ "\.(\d+)"'), str(INTERFACE))
 
 

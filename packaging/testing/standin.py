@@ -9,7 +9,8 @@ import sys
 from dataclasses import dataclass
 from pathlib import Path
 
-from making.library import HEADER, VERSION, run
+from making.library import VERSION, run
+from making.sources import HEADER
 from testing.checks import LeftOut, need
 
 INSTALL = Path(__file__).resolve().parent.parent / "install"
@@ -27,9 +28,10 @@ int main(int count, char **words) {{
 
 # The members of the library's archive, which has two of one name, and of the heap's, which has one of that name too. The second has all exports
 # that the header's calls want.
-FIRST = "void *rattle_alloc(void); int clk_router_first(void) { return rattle_alloc() != 0; }"
+OWN = ("clk_router_first", "clk_router_second")
+FIRST = f"void *rattle_alloc(void); int {OWN[0]}(void) {{ return rattle_alloc() != 0; }}"
 WANTED = re.findall(r"^extern \w+ (clk_(?:router|raw)_\w+)\(", HEADER.read_text(), re.MULTILINE)
-SECOND = "\n".join(f"int {it}(void) {{ return 1; }}" for it in ("clk_router_second", *WANTED))
+SECOND = "\n".join(f"int {it}(void) {{ return 1; }}" for it in (OWN[1], *WANTED))
 HEAP = "static int given; void *rattle_alloc(void) { return &given; }"
 CALLER = f"""
 #include <string.h>

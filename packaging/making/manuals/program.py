@@ -1,21 +1,16 @@
 """Makes the manual page of the program from its help. This is Python and no part of what is proved."""
 from making.help import Entry, Help, Words
+from making.manuals import formats, troff
+from making.manuals.troff import escaped
 
 PLACES = """Fair queueing by deficits: M. Shreedhar and G. Varghese, Efficient Fair Queueing using Deficit Round Robin, 1995.
 Shares by tickets: C. A. Waldspurger, Lottery and Stride Scheduling, 1995. The elements: E. Kohler and others, The Click Modular Router, 2000."""
 
 
-def escaped(text: str) -> str:
-    """A text for troff, in which a line neither begins a request nor has its marks read as any."""
-    for mark, written in (("\\", "\\e"), ("-", "\\-"), ("'", "\\(aq"), ("`", "\\(ga"), ("^", "\\(ha"), ("~", "\\(ti")):
-        text = text.replace(mark, written)
-    return "\n".join(f"\\&{line}" if line.startswith(".") else line for line in text.splitlines())
-
-
 def item(entry: Entry) -> str:
     """An entry of a list."""
     said = entry.said[:1].upper() + entry.said[1:]
-    return f".TP\n.B {escaped(entry.word)}\n{escaped(said) or chr(92) + '&'}\n"
+    return troff.item(f".B {escaped(entry.word)}", escaped(said))
 
 
 def paragraph(block: str) -> str:
@@ -23,8 +18,8 @@ def paragraph(block: str) -> str:
     lines = block.splitlines()
     if lines[0].endswith(":") and all(it.startswith(" ") for it in lines[1:]):
         body = "\n".join(lines[1:])
-        return f".PP\n{escaped(lines[0])}\n.PP\n.nf\n{escaped(body)}\n.fi\n"
-    return f".PP\n{escaped(block)}\n"
+        return f"{troff.paragraph(escaped(lines[0]))}.PP\n.nf\n{escaped(body)}\n.fi\n"
+    return troff.paragraph(escaped(block))
 
 
 def command(name: str, told: Help) -> str:
@@ -40,14 +35,16 @@ def manual(words: Words) -> str:
     usages = "\n.br\n".join(f".B {escaped(it.usage)}" for it in [top, *words.commands.values()])
     own = [it for it in top.more if not headed(it)]
     parts = [
-        f'.TH {words.name.upper()} 1 "" "{words.name} {words.version}" "User Commands"\n',
-        f".SH NAME\n{words.name} \\- {escaped(about)}\n",
+        troff.title(words.name, 1, "User Commands"),
+        troff.named(words.name, about),
         f".SH SYNOPSIS\n{usages}\n",
         f".SH DESCRIPTION\n{escaped(top.about)}.\n{''.join(map(paragraph, own))}",
         f".SH OPTIONS\n{''.join(map(item, top.options))}",
         ".SH COMMANDS\n" + "".join(command(name, told) for name, told in words.commands.items()),
         *(section(it) for it in top.more if headed(it)),
-        f".SH SEE ALSO\n{escaped(PLACES)}\n",
+        formats.for_program(),
+        troff.see_also([f"{words.name}(3)", f"{words.name}(5)"]),
+        troff.paragraph(escaped(PLACES)),
     ]
     return "".join(parts)
 
