@@ -1,6 +1,6 @@
 -- Bytes that are added to a record, one line after another.
-use Rattle.std.proofs.Common.{◌≡◌, ℕ, ◌+◌, ◌-◌, ◌<◌, ◌≤◌, zero, suc, List, [], ◌∷◌, ◌++◌, length, take, drop, map, replicate, get_or, None, refl, sym, ap, ◌∙◌, arith, append-nil, append_assoc, length-append}
-use Rattle.std.proofs.lemmas.List.{take-append-le, take-append-drop, map-append, length-take-le, replicate-append-replicate}
+use Rattle.std.proofs.Common.{◌≡◌, ℕ, ◌+◌, ◌-◌, ◌<◌, ◌≤◌, List, [], ◌++◌, length, take, drop, map, replicate, get_or, None, sym, ap, ◌∙◌, arith, append-nil, append_assoc, length-append}
+use Rattle.std.proofs.lemmas.List.{take-append-le, take-append-drop, take-take, map-append, length-take-le, replicate-append-replicate}
 use Rattle.clk_script.specs.declared.script.Command.{Command}
 use Rattle.clk_script.specs.Record.{command_text, record_text}
 use Rattle.clk_script.proofs.Callers.Records.{command-more, front-shorter}
@@ -29,13 +29,7 @@ added-keeps bytes before after used end h same =
     let w = h.within in
     let low : used ≤ length before = omega (arith, e, w) in
     let front : length (take used before) ≡ used = length-take-le used before low in
-    take-take used end after (omega (arith, e)) ∙ ap (take used) h.is ∙ take-append-le used (take used before) bytes (omega (arith, front)) ∙ sym (take-take used used before (omega arith))
-  where
-    take-take : (n m : ℕ) (l : List ℕ) → n ≤ m → take n l ≡ take n (take m l)
-    take-take zero m l low = refl
-    take-take (suc n) zero l low = absurd (omega (arith, low))
-    take-take (suc n) (suc m) [] low = refl
-    take-take (suc n) (suc m) (x ∷ l) low = ap (λ r. x ∷ r) (take-take n m l (omega (arith, low)))
+    sym (take-take used end after (omega (arith, e))) ∙ ap (take used) h.is ∙ take-append-le used (take used before) bytes (omega (arith, front)) ∙ take-take used used before (omega arith)
 
 -- the line of the next of some items
 pub sends-more : {X : Type 0} (f : X → Command) (xs : List X) (n : ℕ) (x : X) (c : Command) → n < length xs → get_or xs n x ≡ x → c ≡ f x

@@ -10,7 +10,7 @@ use crate::statuses::{AT_END, FULL, OK};
 use crate::values::{COffered, CPacket};
 use clk_script::{COMMAND_ROOM, Command, MAX_LINES, MAX_MOMENT, command_line, drain_line};
 
-/// What is told of a packet that was offered.
+/// What a line of a record says of a packet that was offered.
 trait Sent {
     ghost use Rattle.std.specs.Prelude.{◌≡◌};
     ghost use Rattle.clickpull_c.specs.declared.values.CPacket.{CPacket};

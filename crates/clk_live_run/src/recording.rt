@@ -57,6 +57,7 @@ impl<R: Sink + Drop> Recording<R> {
     }
 
     /// Adds the line of a command, unless the record has ended.
+    #[inline(always)]
     pub fn note(&mut self, command: Command)
         requires early { IfSome (handed_in command) (λ moment. moment ≤ most_moment) }
         ensures noted { (commands : List Command) → LeadsOn self.old self.new commands (commands ++ command ∷ []) }

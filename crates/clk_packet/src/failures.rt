@@ -4,7 +4,7 @@ ghost use Rattle.std.specs.Borrow.{ftrue};
 
 use std::marker::Model;
 
-/// How many calls have failed, as ghost state. It takes no memory, so it counts without a bound.
+/// How many calls have failed, as ghost state. It occupies no memory, so it counts without a bound.
 #[derive(Drop)]
 pub struct Failures {
     pub ghost count: { ℕ },

@@ -12,7 +12,7 @@ use clk_packet::{Offered, Packet};
 use clk_tree::Plan;
 use std::marker::Model;
 
-/// The setup of a router and all its events: ghost state, which only contracts read and which takes no memory.
+/// The setup of a router and all its events: ghost state, which only contracts read and which occupies no memory.
 #[derive(Drop)]
 pub struct Past {
     /// What the router was made over.

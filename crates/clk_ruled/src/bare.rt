@@ -9,7 +9,7 @@ use crossbeam_queue::Pass;
 use std::marker::Model;
 use std::sync::Wait;
 
-/// The bare tap of a shared queue. The packets that it pulled are ghost state, and take no memory.
+/// The bare tap of a shared queue. The packets that it pulled are ghost state, and occupy no memory.
 #[derive(Drop)]
 pub struct BareTap {
     pass: Pass<Packet, View>,

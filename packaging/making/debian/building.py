@@ -42,7 +42,7 @@ fi
 
 @dataclass(frozen=True)
 class Release:
-    """What is told of all packages: for which machines compiled files are, and when the sources were committed."""
+    """What all packages have in common: for which machines compiled files are, and when the sources were committed."""
 
     architecture: str
     made: int

@@ -7,7 +7,7 @@ use crate::session::idle::IdleInputs;
 use crate::visit::Visit;
 use std::marker::Model;
 
-/// Every visit of a session so far, as ghost state: it takes no memory.
+/// Every visit of a session so far, as ghost state: it occupies no memory.
 #[derive(Drop)]
 pub struct AllVisits {
     /// All of them, in order.

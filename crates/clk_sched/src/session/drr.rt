@@ -293,7 +293,7 @@ impl Deficits {
 
     // Takes what was got at the input whose turn it is, by asking (fresh) or as its head. Records the visit, and returns whether it is
     // passed.
-    #[inline]
+    #[inline(always)]
     fn visit(&mut self, nodes: &mut Nodes, node: u16, got: Option<Packet>, fresh: bool) -> bool
         requires room { 1 ≤ nodes.old.log.spare }
         requires held { fresh ≡ false → IsHead self.old got }

@@ -13,7 +13,7 @@ use crate::visit::Visit;
 use std::alloc::{AllocError, Global};
 use std::marker::Model;
 
-/// Every visit so far, in order. In a log that keeps no visits they are ghost state and take no memory.
+/// Every visit so far, in order. In a log that keeps no visits they are ghost state and occupy no memory.
 #[derive(Drop)]
 pub struct Log {
     kept: Vec<Visit>,
