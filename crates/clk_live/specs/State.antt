@@ -1,4 +1,4 @@
--- What is seen of a live router: the course of its router and its outlets. And the token of each packet that was taken.
+-- What contracts see of a live router: the course of its router, its outlets, and the token of each packet that was taken.
 use Rattle.std.specs.Prelude.{◌≡◌, ℕ, List, [], ◌++◌, map, Some, slice_get, nat_lt, if◌then◌else◌, length}
 use mathlib.Core.List.{IsPrefix}
 use Rattle.std.specs.List.{AllZip}
@@ -16,13 +16,13 @@ use Rattle.clk_router.specs.Course.{Course, sender_at}
 use Rattle.clk_router.specs.Events.{Setup}
 use Rattle.clk_router.specs.Stored.{course_code}
 
--- what is seen of a live router: the course of its router, the outlet of each sender, by place, and where the next round starts
+-- a live router as contracts see it: the course of its router, the outlet of each sender, by place, and where the next round starts
 pub record LiveState : Type 0 where
   pub course : Course
   pub outlets : List Outlet
   pub turn : ℕ
 
--- how the logic stores what is seen of a live router
+-- how the logic stores the state of a live router
 abbrev pub live_code : Coded LiveState
 live_code =
     code_by (Course × (List Outlet × ℕ)) (coded× course_code (coded× (coded_list outlet_row.coded) coded_ℕ)) (λ l. (l.course, (l.outlets, l.turn)))

@@ -59,7 +59,7 @@ pub record IsSenderSettled (setup : Setup) (events : List Event) (s : SenderSpec
   pub tally : IsTallyOf (offered_of events s.number) (of_sender s.number (emitted_by setup room.device events)) room.kind (tally_after events s.number)
   pub elsewhere : (d : ℕ) → (room.device == d) ≡ false → of_sender s.number (emitted_by setup d events) ≡ []
 
--- whether a sender's queue is one of a device
+-- whether the sender of this number sends to a queue of a device
 abbrev pub sends_at : Setup → ℕ → ℕ → Bool
 sends_at setup d s = list_any (λ (x : SenderSpec). (x.number == s) && is_of_device setup.queues d x) setup.senders
 
