@@ -1,4 +1,4 @@
--- What is seen of a live router, and what its calls do.
+-- What contracts see of a live router, and what its calls do.
 pub mod State
 pub mod Opening
 pub mod Taking
