@@ -73,8 +73,8 @@ extern "C" {
 
 /* ------------------------------------------------------------------------------------------------------------ version */
 
-/* The version of this header, MAJOR.MINOR.PATCH. The name of the shared library ends in MAJOR, and what else tells the version is read from
- * here or compared with it. */
+/* The version of this header, MAJOR.MINOR.PATCH. The soname of the shared library ends in MAJOR, and before version 1.0 in 0.MINOR, since a
+ * minor version may then break callers. What else tells the version is read from here or compared with it. */
 #define CLK_VERSION_MAJOR 0
 #define CLK_VERSION_MINOR 1
 #define CLK_VERSION_PATCH 0

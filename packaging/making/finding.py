@@ -25,7 +25,7 @@ unset(clickpull_include)
 unset(clickpull_libraries)
 """
 
-CMAKE_VERSION = """# Before version 1.0 a minor version may change calls.
+CMAKE_VERSION = """# Another major version may break callers, and before version 1.0 another minor version too.
 set(PACKAGE_VERSION "{version}")
 set(PACKAGE_VERSION_COMPATIBLE FALSE)
 if(PACKAGE_FIND_VERSION VERSION_GREATER_EQUAL "{least}" AND PACKAGE_FIND_VERSION VERSION_LESS_EQUAL "{version}")
@@ -58,4 +58,4 @@ def cmake(folder: Path, include: Path, libraries: Path) -> str:
 
 def cmake_version() -> str:
     """By what CMake tells whether a version serves that is asked for."""
-    return CMAKE_VERSION.format(version=VERSION, least=VERSION.rpartition(".")[0])
+    return CMAKE_VERSION.format(version=VERSION, least=INTERFACE)

@@ -23,8 +23,13 @@ def version_numbers() -> list[int]:
     return [int(it) for it in re.findall(r"^#define CLK_VERSION_(?:MAJOR|MINOR|PATCH) (\d+)$", HEADER.read_text(), re.MULTILINE)]
 
 
-# The version, and the number of the library's interface, which stands in the name that programs ask for.
-VERSION, INTERFACE = ".".join(map(str, version_numbers())), version_numbers()[0]
+def interface_of(major: int, minor: int) -> str:
+    """The part of a version in which the soname ends: MAJOR, and 0.MINOR before 1.0, where a minor version may break callers."""
+    return f"0.{minor}" if major == 0 else str(major)
+
+
+# The version, and the end of the soname.
+VERSION, INTERFACE = ".".join(map(str, version_numbers())), interface_of(*version_numbers()[:2])
 
 # How the names of the toolchain's functions begin.
 HEAP = "rattle_"

@@ -9,7 +9,7 @@ import shutil
 from collections.abc import Callable
 from pathlib import Path
 
-from making.library import VERSION, Unmade, run
+from making.library import INTERFACE, VERSION, Unmade, run
 from making.sources import NAME, ROOT
 from of_library.checks import Setting
 from of_library.compiled import ALONE, CASES, PACKETS
@@ -57,7 +57,7 @@ def built(root: Path, name: str, words: list[str | Path], more: tuple[str, ...] 
     flags = shlex.split(run(["pkg-config", "--cflags", "--libs", NAME], environment=asked(root)))
     program = root / "srv" / name
     run([*words, "-pthread", "-o", program, *flags, *more])
-    if "libclickpull.so.0" not in run(["ldd", program]):
+    if f"libclickpull.so.{INTERFACE} =>" not in run(["ldd", program]):
         raise Unmade(f"{name} isn't linked to the shared library")
     return f"/srv/{name}"
 

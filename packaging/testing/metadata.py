@@ -8,7 +8,8 @@ from email.message import Message
 from pathlib import Path
 
 from making.debian.packages import DEVELOPING, LIBRARY
-from making.library import INTERFACE, VERSION, Unmade, run
+from making.library import INTERFACE, VERSION, Unmade, interface_of, run
+from of_library.linked import interface_of_soname, wanted_interface
 from of_library.module import python
 from testing import packaged, standin
 from testing.checks import compare
@@ -19,20 +20,15 @@ ROOT = HERE.parent.parent
 # The licences, how their texts begin, and what Debian calls them.
 LICENCES = {"MIT": ("LICENSE-MIT", "MIT License", "Expat"), "Apache-2.0": ("LICENSE-APACHE", "Apache License Version 2.0", "Apache-2.0")}
 
+# Versions, each by its first two numbers, and the end of its soname.
+INTERFACES = {(0, 1): "0.1", (0, 2): "0.2", (0, 10): "0.10", (1, 0): "1", (1, 2): "1", (10, 3): "10"}
+
 
 def said(path: Path, pattern: str) -> str:
     """What a file says: the group of a pattern."""
     found = re.search(pattern, path.read_text(), re.MULTILINE)
     if found is None:
         raise Unmade(f"{path} has nothing like {pattern}")
-    return found[1]
-
-
-def said_by(command: list[str | Path], pattern: str) -> str:
-    """What a command writes: the group of a pattern."""
-    found = re.search(pattern, run(command), re.MULTILINE)
-    if found is None:
-        raise Unmade(f"{command[0]} writes nothing like {pattern}")
     return found[1]
 
 
@@ -82,13 +78,23 @@ def versions_agree(_: Path) -> None:
 
 
 def interfaces_agree(_: Path) -> None:
-    """The shared library, its Debian package and the Python module have one number of the interface."""
-    package = packaged.of_standin().unpacked(LIBRARY)
+    """The shared library, its Debian package and the Python module have the soname of the version."""
+    package, wanted = packaged.of_standin().unpacked(LIBRARY), wanted_interface()
     shared = next(package.rglob("libclickpull.so.*"))
-    compare("the library's name", said_by(["objdump", "-p", shared], r"SONAME +libclickpull\.so\.(\d+)$"), str(INTERFACE))
-    compare("the library's file", shared.name, f"libclickpull.so.{INTERFACE}")
-    compare("Debian's shlibs", (package / "DEBIAN/shlibs").read_text(), f"libclickpull {INTERFACE} libclickpull{INTERFACE}\n")
-    compare("the Python module", said(ROOT / "python" / "clickpull" / "library.py", r'NAME \+ "\.(\d+)"'), str(INTERFACE))
+    compare("the library's name", interface_of_soname(shared), wanted)
+    compare("the library's file", shared.name, f"libclickpull.so.{wanted}")
+    compare("Debian's package", LIBRARY, f"libclickpull{wanted}")
+    compare("Debian's shlibs", (package / "DEBIAN/shlibs").read_text(), f"libclickpull {wanted} libclickpull{wanted}\n")
+    # The second line is that of the symbols file only where the first is.
+    symbols = [f"libclickpull.so.{wanted} libclickpull{wanted} #MINVER#", f"* Build-Depends-Package: {DEVELOPING}"]
+    compare("Debian's symbols", (package / "DEBIAN/symbols").read_text().splitlines()[:2], symbols)
+    compare("the Python module", said(ROOT / "python" / "clickpull" / "library.py", r'NAME \+ "\.([\d.]+)"'), wanted)
+
+
+def sonames_of_versions(_: Path) -> None:
+    """The soname ends in MAJOR, and before version 1.0 in 0.MINOR."""
+    for numbers, wanted in INTERFACES.items():
+        compare(f"the end of the soname of {numbers}", interface_of(*numbers), wanted)
 
 
 def wheel_of(source: Path, folder: Path) -> tuple[str, dict[str, bytes]]:
@@ -114,15 +120,16 @@ def wheels_are_right(folder: Path) -> None:
     compare("the version", told["Version"], said(ROOT / "python" / "clickpull" / "__init__.py", r'^__version__ = "(.+)"$'))
     compare("the licence", told["License"], wanted_licence())
     compare("the texts of licences", [files.get(f"dist-info/{it}") for it in texts], [(ROOT / it).read_bytes() for it in texts])
-    (source / "clickpull" / "libclickpull.so.0").write_text("stands in")
+    (source / "clickpull" / f"libclickpull.so.{INTERFACE}").write_text("stands in")
     tag, files = wheel_of(source, folder / "carries")
     compare("the tag with the library", re.fullmatch(r"py3-none-linux_\w+", tag) is not None, True)
-    compare("the library", files.get("clickpull/libclickpull.so.0"), b"stands in")
+    compare("the library", files.get(f"clickpull/libclickpull.so.{INTERFACE}"), b"stands in")
 
 
 TESTS: dict[str, Callable[[Path], None]] = {
     "licences": licences_agree,
     "versions": versions_agree,
     "interfaces": interfaces_agree,
+    "sonames of versions": sonames_of_versions,
     "wheels": wheels_are_right,
 }

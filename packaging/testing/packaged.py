@@ -9,7 +9,7 @@ from pathlib import Path
 
 from making.debian.building import SYMBOLS
 from making.debian.packages import DEVELOPING, DOCUMENTS, LIBRARY, PACKAGES, PYTHON, RUST
-from making.library import VERSION, run
+from making.library import INTERFACE, VERSION, run
 from making.sources import HEADERS, NAME, ROOT
 from of_library.checks import Setting
 from of_library.declared import checked_calls, exported, header_of
@@ -21,7 +21,7 @@ DEBIAN = Path(__file__).resolve().parent.parent / "debian"
 # A few files of each package, those whose loss a user would see first. V stands for the version.
 WANTED = {
     NAME: ("usr/bin/clickpull", "usr/share/man/man1/clickpull.1.gz", "usr/share/man/man5/clickpull.5.gz"),
-    LIBRARY: ("usr/lib/*/libclickpull.so.0", "DEBIAN/shlibs", "DEBIAN/symbols", "DEBIAN/triggers"),
+    LIBRARY: (f"usr/lib/*/libclickpull.so.{INTERFACE}", "DEBIAN/shlibs", "DEBIAN/symbols", "DEBIAN/triggers"),
     DEVELOPING: (
         *(f"usr/include/{it}" for it in HEADERS),
         *(f"usr/lib/*/{it}" for it in ("libclickpull.a", "libclickpull.so", "pkgconfig/clickpull.pc", "cmake/clickpull/clickpull-config.cmake")),

@@ -210,7 +210,7 @@ def places() -> list[str]:
     if named := os.environ.get(VARIABLE):
         return [named]
     beside = sorted(str(it) for it in Path(__file__).parent.glob(NAME + "*"))
-    return [*beside, NAME + ".0", NAME]
+    return [*beside, NAME + ".0.1", NAME]
 
 
 def loaded() -> ctypes.PyDLL:

@@ -3,6 +3,7 @@
 It stands outside what is proved.
 """
 import json
+import re
 import shutil
 import sys
 from pathlib import Path
@@ -74,7 +75,30 @@ def calls_are_found_by_name(setting: Setting) -> str:
     return f"{len(calls)} calls of {VERSION}"
 
 
+def wanted_interface() -> str:
+    """The end that the soname has to have. It is read from the version here, without the code that names the library."""
+    major, minor, _ = VERSION.split(".")
+    return f"{major}.{minor}" if major == "0" else major
+
+
+def interface_of_soname(shared: Path) -> str:
+    """The end of a shared library's soname."""
+    need("objdump")
+    found = re.search(r"^ +SONAME +libclickpull\.so\.([\d.]+)$", run(["objdump", "-p", shared]), re.MULTILINE)
+    if found is None:
+        raise Failed(f"{shared} has no soname that begins with libclickpull.so.")
+    return found[1]
+
+
+def soname_is_of_the_version(setting: Setting) -> str:
+    """The soname changes where a version may break callers, so that no program loads a library that breaks it."""
+    found = interface_of_soname(setting.shared)
+    compare("the end of the soname", found, wanted_interface())
+    return f"libclickpull.so.{found}"
+
+
 CHECKS = [
+    Check("the soname and the version", soname_is_of_the_version),
     Check("files linked with the archive", calls_do_not_collide),
     Check("the calls by their names", calls_are_found_by_name),
 ]

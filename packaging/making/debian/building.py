@@ -108,6 +108,8 @@ def control(root: Path, package: Package, release: Release) -> str:
 
 def put_library(root: Path) -> None:
     """What dpkg reads of the shared library: what programs over it depend on, which symbols it has, and that the loader's list is made anew."""
+    if not SYMBOLS.exists():
+        raise Unmade(f"{SYMBOLS} is missing: where the soname is new, rename the symbols file and change its first line")
     told = root / "DEBIAN"
     write("activate-noawait ldconfig\n", told / "triggers")
     write(f"lib{NAME} {INTERFACE} {LIBRARY}\n", told / "shlibs")
