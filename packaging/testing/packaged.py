@@ -67,14 +67,14 @@ def made_twice(folder: Path, *words: str | Path) -> Packaged:
     return first
 
 
-# The folder of the packages of the stand-in, which all tests share.
+# The folder of the packages of the stand-in, which all tests share. Where making them fails, the next test tries again in a new folder below.
 SHARED = tempfile.TemporaryDirectory(prefix="clickpull-packaged-")
 
 
 @functools.cache
 def of_standin() -> Packaged:
     """The packages of the stand-in."""
-    folder = Path(SHARED.name)
+    folder = Path(tempfile.mkdtemp(dir=SHARED.name))
     it = standin.made(folder / "made")
     it.install("--prefix", folder / "installed")
     return made_twice(folder / "packages", "--program", it.program, "--archive", folder / "installed" / "lib" / "libclickpull.a")
