@@ -36,7 +36,7 @@ HEAP = "rattle_"
 
 
 class Unmade(Exception):
-    """Something couldn't be made: what is told of it."""
+    """Making something failed. The message gives the reason, or the command that failed with its output."""
 
 
 def run(command: list[str | Path], environment: dict[str, str] | None = None, folder: Path | None = None) -> str:

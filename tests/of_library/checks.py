@@ -11,11 +11,11 @@ LONGEST = 600
 
 
 class Failed(Exception):
-    """A check doesn't hold: what is told of it."""
+    """A check doesn't hold. The message says what differs, or gives the command that failed with its output."""
 
 
 class LeftOut(Exception):
-    """A check can't be made on this machine: what is missing."""
+    """A check can't be made on this machine. The message says what is missing."""
 
 
 @dataclass(frozen=True)
