@@ -206,11 +206,14 @@ CALLS = {
 
 
 def places() -> list[str]:
-    """Where the library is looked for: only at the path that the variable names, or else beside this file and then by the loader."""
+    """Where the library is looked for: only at the path that the variable names, or else beside this file and then by the loader.
+
+    The loader is asked for the soname alone, since a libclickpull.so may be of a version that breaks this module.
+    """
     if named := os.environ.get(VARIABLE):
         return [named]
     beside = sorted(str(it) for it in Path(__file__).parent.glob(NAME + "*"))
-    return [*beside, NAME + ".0.1", NAME]
+    return [*beside, NAME + ".0.1"]
 
 
 def loaded() -> ctypes.PyDLL:

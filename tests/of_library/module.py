@@ -3,7 +3,7 @@ import shutil
 import subprocess
 import sys
 
-from of_library.checks import Check, LeftOut, Setting, run
+from of_library.checks import Check, LeftOut, Setting, compare, run
 
 # Where Debian's packages are.
 DEBIAN = "/usr/bin/python3"
@@ -55,8 +55,23 @@ def installed_it_works(setting: Setting) -> str:
     return ""
 
 
+def loader_is_asked_for_the_soname(setting: Setting) -> str:
+    """The loader's library is taken by its soname, and a libclickpull.so without a number, which may be of any version, isn't."""
+    alone, soname = setting.made / "alone", setting.shared.resolve().name
+    shutil.copytree(setting.root / "python" / "clickpull", alone / "clickpull", ignore=shutil.ignore_patterns("libclickpull.so*", "__pycache__"))
+    asked = "try: from clickpull.library import LIBRARY; print(LIBRARY._name)\nexcept ImportError: print('none')"
+    for name, is_taken in (("libclickpull.so", False), (soname, True)):
+        folder = setting.made / f"only-{name}"
+        folder.mkdir()
+        shutil.copy(setting.shared, folder / name)
+        known = {"CLICKPULL_LIBRARY": "", "LD_LIBRARY_PATH": str(folder), "PYTHONPATH": str(alone), "PYTHONDONTWRITEBYTECODE": "1"}
+        compare(f"whether {name} is loaded", run([sys.executable, "-c", asked], known) == f"{name}\n", is_taken)
+    return soname
+
+
 CHECKS = [
     Check("Python's types", types_are_right),
     Check("Python's tests", tests_pass),
     Check("Python, installed by pip", installed_it_works),
+    Check("Python and the loader", loader_is_asked_for_the_soname),
 ]
