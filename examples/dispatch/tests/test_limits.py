@@ -1,0 +1,103 @@
+"""What a front makes of Dask's own limits, over real clusters. These tests stand outside what is proved."""
+import asyncio
+import os
+import signal
+import subprocess
+import sys
+import time
+from pathlib import Path
+
+import pytest
+from distributed import KilledWorker
+
+import jobs
+from fair.account import State
+from fair.cluster import Cluster
+from fair.front import Front, Refused, Stopped
+from watched import WatchedClient, wait_until, with_cluster
+
+TREE = "a :: Sender(0); q :: Queue(20); d :: ToDevice(dask); a -> q -> d;"
+
+
+def states(front: Front) -> dict[State, int]:
+    """How many jobs are in which state, without zeros."""
+    row, = front.account.rows()
+    assert row.adds_up
+    return {it: count for it, count in row.states.items() if count}
+
+
+def test_a_job_that_kills_its_workers_fails() -> None:
+    """Dask allows one worker to die with it, and gives up on it at the second. The jobs behind it are done by the third."""
+
+    async def body(cluster: Cluster, client: WatchedClient) -> None:
+        front = Front(client, TREE, in_flight=1)
+        killing = front.submit("a", jobs.kill_worker, size=1)
+        others = [front.submit("a", abs, -value, size=1) for value in range(5)]
+        front.close()
+        await front.run()
+        assert isinstance(killing.exception(0), KilledWorker)
+        assert [it.result(0) for it in others] == list(range(5))
+        assert states(front) == {State.FAILED: 1, State.DONE: 5}
+
+    with_cluster(3, 1, body)
+
+
+def test_a_job_that_raises_runs_again(tmp_path: Path) -> None:
+    """As often as its retries say, and not more."""
+
+    async def body(cluster: Cluster, client: WatchedClient) -> None:
+        front = Front(client, TREE, in_flight=2)
+        again = front.submit("a", jobs.fail_at_first, str(tmp_path / "again"), size=1, retries=1)
+        once = front.submit("a", jobs.fail_at_first, str(tmp_path / "once"), size=1)
+        front.close()
+        await front.run()
+        assert again.result(0) == str(tmp_path / "again")
+        assert isinstance(once.exception(0), OSError)
+        assert states(front) == {State.FAILED: 1, State.DONE: 1}
+
+    with_cluster(1, 3, body)
+
+
+def test_a_lost_scheduler_settles_all_jobs() -> None:
+    async def body(cluster: Cluster, client: WatchedClient) -> None:
+        front = Front(client, TREE, in_flight=2)
+        outcomes = [front.submit("a", time.sleep, 60, size=1) for _ in range(10)]
+        running = asyncio.create_task(front.run())
+        await asyncio.sleep(0.5)
+        cluster.kill_scheduler()
+        with pytest.raises(Stopped):
+            await running
+        assert all(it.exception(0) for it in outcomes) and front.closed
+        assert sum(isinstance(it.exception(0), Refused) for it in outcomes) >= 6
+        assert not front.account.unsettled() and sum(states(front).values()) == 10
+
+    with_cluster(1, 3, body)
+
+
+# Starts a cluster, prints the numbers of its processes, and leaves it alone.
+STARTER = """
+import time
+from fair import cluster
+cluster.ALONE = "2s"
+started = cluster.Cluster(2)
+print(*(it.pid for it in [started._scheduler, *started._workers]), flush=True)
+time.sleep(600)
+"""
+
+
+def test_processes_end_if_their_starter_is_killed() -> None:
+    with subprocess.Popen([sys.executable, "-c", STARTER], stdout=subprocess.PIPE, text=True) as starter:
+        assert starter.stdout
+        numbers = [int(it) for it in starter.stdout.readline().split()]
+        assert len(numbers) == 3 and all(map(is_running, numbers))
+        time.sleep(2)
+        starter.send_signal(signal.SIGKILL)
+    assert wait_until(lambda: not any(map(is_running, numbers)), 60)
+
+
+def is_running(number: int) -> bool:
+    """Whether there is a process of this number, other than one that has ended and waits to be asked for its status."""
+    try:
+        return Path(f"/proc/{number}/stat").read_text().rpartition(")")[2].split()[0] != "Z"
+    except OSError:
+        return False

@@ -1,0 +1,56 @@
+"""The program of the example is run. These tests stand outside what is proved."""
+import re
+import subprocess
+import sys
+from pathlib import Path
+from urllib.request import urlopen
+from xml.etree import ElementTree
+
+from clickpull import Router
+from watched import LONGEST, wait_until
+
+FOLDER = Path(__file__).resolve().parent.parent
+
+
+def row(line: str) -> list[str]:
+    """The words of a line of the account."""
+    return re.split(r"\s{2,}", line.strip())
+
+
+def test_it_serves_all_tenants_while_a_worker_is_killed(tmp_path: Path) -> None:
+    picture, record = tmp_path / "shares.svg", tmp_path / "run.script"
+    words = ["--seconds", "4", "--kill", "--picture", str(picture), "--record", str(record)]
+    with subprocess.Popen([sys.executable, FOLDER / "dispatch", *words], stdout=subprocess.PIPE, text=True) as program:
+        assert program.stdout
+        address = program.stdout.readline().partition(" ")[2].strip()
+        assert wait_until(lambda: "<td>physics</td>" in urlopen(address).read().decode(), 10)
+        printed, _ = program.communicate(timeout=LONGEST)
+    assert program.returncode == 0, printed
+    head, *rows, sums = printed.splitlines()
+    assert [row(it)[0] for it in rows] == ["alerts", "physics", "biology", "guests"]
+    for it in rows:
+        submitted, waiting, in_flight, done, refused, failed = (int(word.replace(",", "")) for word in row(it)[1:7])
+        assert submitted == done + refused and done > 0 and (waiting, in_flight, failed) == (0, 0, 0)
+    assert re.fullmatch(r"[\d,]+ jobs: [\d,]+ done, [\d,]+ refused, 0 failed", sums)
+    drawn = ElementTree.parse(picture).getroot()
+    assert len(drawn.findall("{*}polyline")) == 6
+    assert "a worker is killed" in [it.text for it in drawn.findall("{*}text")]
+    emitted = replayed(record.read_text(), (FOLDER / "tenants.click").read_text())
+    assert emitted == [int(row(it)[4].replace(",", "")) for it in rows]
+
+
+def replayed(script: str, tree: str) -> list[int]:
+    """How many packets of each sender a router emits that is asked what a record has."""
+    *lines, last = script.splitlines()
+    assert last == "drain 0"
+    with Router(tree) as router:
+        for line in lines:
+            word, *numbers = line.split()
+            router.offer(*map(int, numbers)) if word == "send" else router.pull(*map(int, numbers))
+        assert router.left() == 0
+        return [it.emitted.packets for it in router.accounts()]
+
+
+def test_wrong_words_are_refused() -> None:
+    done = subprocess.run([sys.executable, FOLDER / "dispatch", "--kill", "--scheduler", "tcp://127.0.0.1:1"], capture_output=True, text=True)
+    assert done.returncode == 2 and "only a worker that was started is killed" in done.stderr
