@@ -8,7 +8,7 @@ from threading import RLock
 from typing import Any
 
 
-class State(Enum):
+class State(str, Enum):
     """The state of a job. From `DONE`, `REFUSED` and `FAILED` it never moves."""
 
     WAITING = "waiting"

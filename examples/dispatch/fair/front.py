@@ -2,6 +2,7 @@
 import asyncio
 from collections.abc import Callable
 from concurrent.futures import Future
+from functools import partial
 from typing import Any, TypeVar
 
 from clickpull import Dispatcher, Record, Shut, UnknownSender
@@ -24,11 +25,20 @@ class Stopped(Exception):
     """The front stopped before the cluster had settled its jobs."""
 
 
+# What submits a job to the cluster.
+Submit = Callable[[], Any]
+
+
+# At each call of `submit`, Dask reads the source of the function that called it, which takes time by the length of that. So it is short.
+def _called(submit: Submit) -> Any:
+    return submit()
+
+
 class Front:
     """Takes jobs of tenants, and hands them to a cluster in the order in which a tree pulls them, at most so many at a time.
 
-    Any thread may submit jobs. `run` hands them over, in the event loop of the client. A job whose worker died stays in flight: Dask runs it
-    again, up to its own limits (`allowed-failures`). So a job may run more than once, and has one outcome.
+    Any thread may submit jobs. `run` hands them over, in the event loop of the client. A job whose worker died stays in flight: Dask runs
+    it again, up to its own limits (`allowed-failures`). So a job may run more than once, and has one outcome.
     """
 
     # There are as many lanes as jobs may be in flight. A lane takes the next job only once its job before has its outcome. So the tree
@@ -58,8 +68,8 @@ class Front:
     def submit(self, tenant: str, call: Callable[..., T], *arguments: Any, size: int, retries: int = 0) -> "Future[T]":
         """Submits a job of a tenant: a call for the cluster, and its size, 1 to 65,535. Never waits.
 
-        Returns the future of its result. Raises `Refused` if the queue of the tenant is full or the front is closed; if a FrontDropQueue evicts
-        a job for a later one, its future raises it. Raises `UnknownSender` and `BadLength`, and then nothing was submitted.
+        Returns the future of its result. Raises `Refused` if the queue of the tenant is full or the front is closed. If a FrontDropQueue
+        evicts the job for a later one, its future raises `Refused`. Raises `UnknownSender` and `BadLength`; then nothing was submitted.
         """
         if tenant not in self._numbers:
             raise UnknownSender(f"there is no tenant {tenant}")
@@ -106,9 +116,9 @@ class Front:
     async def run(self) -> None:
         """Hands jobs over until the front is closed and each job has its outcome.
 
-        If the scheduler is lost, Dask cancels jobs in flight, which fail. The others wait until the client has found the scheduler again. If
-        the client gives up, this raises `Stopped`. Then, and if this is cancelled, the front is closed, jobs in flight fail, and jobs that
-        wait are refused.
+        If the scheduler is lost, Dask cancels jobs in flight, which fail. The others wait until the client has found the scheduler again.
+        If the client gives up, this raises `Stopped`. Then, and if this is cancelled, the front is closed, jobs in flight fail, and jobs
+        that wait are refused.
         """
         lanes = [asyncio.create_task(self._lane()) for _ in range(self._in_flight)]
         try:
@@ -138,7 +148,7 @@ class Front:
         self.account.move(work, State.IN_FLIGHT)
         try:
             self._need_cluster()
-            future = self._client.submit(work.call, *work.arguments, pure=False, retries=work.retries)
+            future = _called(partial(self._client.submit, work.call, *work.arguments, pure=False, retries=work.retries))
             try:
                 result = await future
             finally:

@@ -23,8 +23,11 @@ class Habit:
 
 
 def habits(tenants: list[Tenant], seconds: float) -> dict[str, Habit]:
-    """A habit for each tenant. Those that share by size keep their queues full. The last of them comes late and leaves early, and their jobs
-    differ in size. The others submit a short job now and then."""
+    """Returns a habit for each tenant.
+
+    Those that share by size keep their queues full, with jobs of different sizes. The last of them comes late and leaves early. Tenants
+    without a share submit a short job now and then.
+    """
     sharing = [it for it in tenants if it.scheduler]
     found = {it.name: Habit(0, seconds, (1000, 5000), pause=0.2) for it in tenants}
     for place, it in enumerate(sharing):

@@ -1,6 +1,7 @@
 """Draws what tenants got beside their shares, as SVG. It stands outside what is proved."""
 from collections.abc import Iterator
 from html import escape
+from itertools import cycle
 
 from fair.shares import Point, Shares
 
@@ -9,7 +10,7 @@ COLOURS = ("#0072b2", "#d55e00", "#009e73", "#cc79a7", "#e69f00", "#56b4e9")
 INK, FAINT = "#1b1b1b", "#5e5e5e"
 
 # The whole picture, and where the lines are drawn.
-WIDTH, HEIGHT = 760, 340
+WIDTH, HEIGHT = 820, 340
 LEFT, RIGHT, TOP, BOTTOM = 90, 600, 46, 290
 # How far apart names stand at least.
 LINE = 16
@@ -18,7 +19,7 @@ LINE = 16
 def draw(shares: Shares) -> str:
     """The sizes that tenants got, as lines over what was handed over in all, with their shares as dashed lines."""
     course = shares.course()
-    title = f"Size handed over to each tenant of {shares.tenants[0].scheduler}, and its share (dashed)"
+    title = f"What each tenant of the scheduler {shares.tenants[0].scheduler} got, and its share (dashed)"
     return "\n".join([
         f'<svg xmlns="http://www.w3.org/2000/svg" viewBox="0 0 {WIDTH} {HEIGHT}" width="{WIDTH}" height="{HEIGHT}" role="img"'
         ' font-family="DejaVu Sans, Verdana, sans-serif" font-size="11">',
@@ -50,13 +51,12 @@ def _text(x: float, y: float, text: str, *attributes: str) -> str:
     return f'<text x="{x:.1f}" y="{y:.1f}"{fill}{more}>{escape(text)}</text>'
 
 
-def _ticks(most: float) -> Iterator[int]:
-    """Round numbers up to the most, five at most besides 0."""
-    power = 1
-    while most > 10 * power:
-        power *= 10
-    step = next(power * it for it in (1, 2, 5, 10) if most <= 5 * power * it)
-    return iter(range(0, int(most) + 1, step))
+def _ticks(most: float) -> range:
+    """Round numbers from 0 up to the most, seven at most."""
+    step, factors = 1, cycle((2, 2.5, 2))
+    while most > 6 * step:
+        step = round(step * next(factors))
+    return range(0, int(most) + 1, step)
 
 
 def _axes(last: Point) -> Iterator[str]:

@@ -1,7 +1,7 @@
 """Tells what became of the jobs of each tenant, as text and as HTML. It stands outside what is proved."""
 from html import escape
 
-from fair.account import Row, State
+from fair.account import NEXT, Row, State
 from fair.front import Front
 from fair.picture import draw
 from fair.shares import Shares
@@ -40,8 +40,9 @@ def text(front: Front, all_of_them: list[Shares]) -> str:
 
 def sums(rows: list[Row]) -> str:
     """How many jobs were submitted in all, and what became of them."""
-    states = {it: sum(row.states[it] for row in rows) for it in State}
-    return f"{sum(it.submitted for it in rows):,} jobs: " + ", ".join(f"{count:,} {it.value}" for it, count in states.items() if count or it not in (State.WAITING, State.IN_FLIGHT))
+    counts = {it: sum(row.states[it] for row in rows) for it in State}
+    told = [f"{count:,} {it.value}" for it, count in counts.items() if count or it not in NEXT]
+    return f"{sum(it.submitted for it in rows):,} jobs: {', '.join(told)}"
 
 
 def page(front: Front, all_of_them: list[Shares]) -> str:

@@ -20,8 +20,8 @@ class Point:
 class Shares:
     """The sizes that the tenants of one DRRSched got, beside their shares.
 
-    Of each job that is handed over, every tenant that has a job then is due a share of the size, by weights. This is what an ideal scheduler
-    would give, which hands over jobs bit by bit. A DRRSched hands over whole jobs, turn by turn.
+    Of each job that is handed over, every tenant that has a job then is due a share of the size, by weights. This is what an ideal
+    scheduler would give, which hands over jobs bit by bit. A DRRSched hands over whole jobs, turn by turn.
     """
 
     def __init__(self, account: Account, tenants: list[Tenant]) -> None:

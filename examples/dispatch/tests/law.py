@@ -1,7 +1,7 @@
 """The law of a DRRSched, over the order in which jobs were handed over. It stands outside what is proved.
 
-The law is `SharesByDeficit` in crates/clk_sched/specs/Service.antt, which `runs_share_out` proves of every run of a tree. Two of its clauses
-speak of an unbroken range of visits in which inputs always had packets:
+The law is `SharesByDeficit` in crates/clk_sched/specs/Service.antt, which `runs_share_out` proves of every run of a tree. Two of its
+clauses, over an unbroken range of visits in which inputs always had packets:
 
 - `arrivals_near`: the turns of two inputs differ by 1 at most.
 - `bytes_near`: the bytes of an input differ from its quantum times its turns by at most the quantum and 65,534.

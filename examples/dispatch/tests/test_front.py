@@ -10,7 +10,8 @@ from fair.account import State
 from fair.front import LOOK, Front, Refused, Stopped
 from fakes import FakeClient, settle
 
-PRIO = "first :: Sender(0); last :: Sender(1); p, q :: Queue(3); s :: PrioSched; d :: ToDevice(x); first -> p -> s -> d; last -> q -> [1] s;"
+PRIO = """first :: Sender(0); last :: Sender(1); p, q :: Queue(3); s :: PrioSched; d :: ToDevice(x);
+first -> p -> s -> d; last -> q -> [1] s;"""
 FRONT_DROP = "news :: Sender(0); q :: FrontDropQueue(2); d :: ToDevice(x); news -> q -> d;"
 
 

@@ -18,8 +18,9 @@ from fair.front import Front
 from law import faults, while_all_have_jobs
 from watched import Watch, WatchedClient, with_cluster
 
-TREE = """physics :: Sender(0); biology :: Sender(1); guests :: Sender(2); a, b, c :: Queue(100); shares :: DRRSched(200000, 100000, 100000);
-cluster :: ToDevice(dask); physics -> a -> shares; biology -> b -> [1] shares; guests -> c -> [2] shares; shares -> cluster;"""
+TREE = """physics :: Sender(0); biology :: Sender(1); guests :: Sender(2); a, b, c :: Queue(100);
+shares :: DRRSched(200000, 100000, 100000); cluster :: ToDevice(dask);
+physics -> a -> shares; biology -> b -> [1] shares; guests -> c -> [2] shares; shares -> cluster;"""
 QUANTA = {"physics": 200_000, "biology": 100_000, "guests": 100_000}
 CAPACITY, REFUSED, IN_FLIGHT, WORKERS = 100, 3, 6, 3
 

@@ -60,7 +60,8 @@ def test_the_bound_is_exact() -> None:
     """Of a quantum of 100 the bytes differ by 1 less the quantum after the first job, and by all but the quantum after the second."""
     quanta = {"a": 100, "b": 100}
     assert not list(faults([("b", 1), ("b", 100 + MOST_LENGTH - 1), ("a", 100)], quanta))
-    assert list(faults([("b", 1), ("b", 100 + MOST_LENGTH), ("a", 100)], quanta)) == ["the bytes of b differ by 65635 from 100 times its turns"]
+    found = list(faults([("b", 1), ("b", 100 + MOST_LENGTH), ("a", 100)], quanta))
+    assert found == ["the bytes of b differ by 65635 from 100 times its turns"]
 
 
 def test_where_a_tenant_runs_out_the_order_is_cut() -> None:

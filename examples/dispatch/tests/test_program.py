@@ -52,5 +52,6 @@ def replayed(script: str, tree: str) -> list[int]:
 
 
 def test_wrong_words_are_refused() -> None:
-    done = subprocess.run([sys.executable, FOLDER / "dispatch", "--kill", "--scheduler", "tcp://127.0.0.1:1"], capture_output=True, text=True)
+    words = ["--kill", "--scheduler", "tcp://127.0.0.1:1"]
+    done = subprocess.run([sys.executable, FOLDER / "dispatch", *words], capture_output=True, text=True)
     assert done.returncode == 2 and "only a worker that was started is killed" in done.stderr
