@@ -1,5 +1,6 @@
 """Serves a page on loopback. It stands outside what is proved."""
 from collections.abc import Callable
+from contextlib import suppress
 from http.server import BaseHTTPRequestHandler, ThreadingHTTPServer
 from threading import Thread
 from types import TracebackType
@@ -40,7 +41,8 @@ def _handler(made: Callable[[], str]) -> type[BaseHTTPRequestHandler]:
             self.send_header("Content-Type", "text/html; charset=utf-8")
             self.send_header("Content-Length", str(len(body)))
             self.end_headers()
-            self.wfile.write(body)
+            with suppress(ConnectionError):
+                self.wfile.write(body)
 
         def log_message(self, format: str, *arguments: object) -> None:
             """Tells nothing of each request."""

@@ -7,14 +7,11 @@ from urllib.request import urlopen
 from xml.etree import ElementTree
 
 from clickpull import Router
+from fair import report
+from told import counts, words_of
 from watched import LONGEST, wait_until
 
 FOLDER = Path(__file__).resolve().parent.parent
-
-
-def row(line: str) -> list[str]:
-    """The words of a line of the account."""
-    return re.split(r"\s{2,}", line.strip())
 
 
 def test_it_serves_all_tenants_while_a_worker_is_killed(tmp_path: Path) -> None:
@@ -27,16 +24,17 @@ def test_it_serves_all_tenants_while_a_worker_is_killed(tmp_path: Path) -> None:
         printed, _ = program.communicate(timeout=LONGEST)
     assert program.returncode == 0, printed
     head, *rows, sums = printed.splitlines()
-    assert [row(it)[0] for it in rows] == ["alerts", "physics", "biology", "guests"]
+    assert words_of(head) == list(report.COLUMNS)
+    assert [words_of(it)[0] for it in rows] == ["alerts", "physics", "biology", "guests"]
     for it in rows:
-        submitted, waiting, in_flight, done, refused, failed = (int(word.replace(",", "")) for word in row(it)[1:7])
+        submitted, waiting, in_flight, done, refused, failed = counts(it)
         assert submitted == done + refused and done > 0 and (waiting, in_flight, failed) == (0, 0, 0)
     assert re.fullmatch(r"[\d,]+ jobs: [\d,]+ done, [\d,]+ refused, 0 failed", sums)
     drawn = ElementTree.parse(picture).getroot()
     assert len(drawn.findall("{*}polyline")) == 6
     assert "a worker is killed" in [it.text for it in drawn.findall("{*}text")]
     emitted = replayed(record.read_text(), (FOLDER / "tenants.click").read_text())
-    assert emitted == [int(row(it)[4].replace(",", "")) for it in rows]
+    assert emitted == [counts(it)[3] for it in rows]
 
 
 def replayed(script: str, tree: str) -> list[int]:
