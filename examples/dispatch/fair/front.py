@@ -146,19 +146,27 @@ class Front:
     async def _hand_over(self, work: Work) -> None:
         """Hands a job to the cluster, and waits for its outcome."""
         self.account.move(work, State.IN_FLIGHT)
+        error, result = await self._outcome(work)
+        if error is None:
+            self.account.move(work, State.DONE)
+            work.outcome.set_result(result)
+        else:
+            self.account.move(work, State.FAILED)
+            work.outcome.set_exception(error)
+
+    async def _outcome(self, work: Work) -> tuple[BaseException | None, Any]:
+        """Has the cluster do a job, and returns what it raised or else its result."""
         try:
             self._need_cluster()
             future = _called(partial(self._client.submit, work.call, *work.arguments, pure=False, retries=work.retries))
             try:
-                result = await future
+                # Waiting for the result raises what the job raised. If that is a CancelledError, it would end the lane.
+                error = await future.exception()
+                return error, None if error else await future
             finally:
                 future.release()
         except Exception as error:
-            self.account.move(work, State.FAILED)
-            work.outcome.set_exception(error)
-        else:
-            self.account.move(work, State.DONE)
-            work.outcome.set_result(result)
+            return error, None
 
     def _give_up(self) -> None:
         """Settles the jobs that are left after a run that ended early."""

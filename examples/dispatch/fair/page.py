@@ -18,7 +18,8 @@ class Page:
     @property
     def address(self) -> str:
         """Where the page is."""
-        return f"http://127.0.0.1:{self._server.server_port}/"
+        host, port = self._server.socket.getsockname()
+        return f"http://{host}:{port}/"
 
     def __enter__(self) -> "Page":
         return self

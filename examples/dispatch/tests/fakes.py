@@ -15,6 +15,10 @@ class FakeFuture:
     def __await__(self) -> Generator[Any, None, Any]:
         return self._outcome.__await__()
 
+    async def exception(self) -> BaseException | None:
+        await asyncio.wait([self._outcome])
+        return self._outcome.exception()
+
     def release(self) -> None:
         self.released = True
 
@@ -22,7 +26,7 @@ class FakeFuture:
         """Calls what the job calls, as a worker would."""
         try:
             self._outcome.set_result(self.call(*self.arguments))
-        except Exception as error:
+        except BaseException as error:
             self._outcome.set_exception(error)
 
 

@@ -1,4 +1,5 @@
 """Jobs that tests hand to a cluster. Workers import this file. It stands outside what is proved."""
+import asyncio
 import os
 import signal
 import time
@@ -19,6 +20,11 @@ def fail_at_first(path: str) -> str:
         Path(path).touch()
         raise OSError("it was the first time")
     return path
+
+
+def seem_cancelled() -> None:
+    """Raises what a task of asyncio raises when it is cancelled."""
+    raise asyncio.CancelledError("by the job")
 
 
 def kill_worker() -> None:

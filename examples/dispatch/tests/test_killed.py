@@ -39,9 +39,15 @@ class Run:
     script: str
 
 
+async def kill(cluster: Cluster, watch: Watch) -> None:
+    """Kills a worker after a third of the jobs."""
+    await watch.until_done(CAPACITY)
+    cluster.kill_worker()
+
+
 @pytest.fixture(scope="module")
 def run(tmp_path_factory: pytest.TempPathFactory) -> Run:
-    """A run of more jobs than queues can hold, over three workers, one of which is killed after a third of the jobs."""
+    """A run of more jobs than queues can hold, over three workers, one of which is killed."""
     found: list[Run] = []
 
     async def body(cluster: Cluster, client: WatchedClient) -> None:
@@ -53,11 +59,7 @@ def run(tmp_path_factory: pytest.TempPathFactory) -> Run:
             for tenant in QUANTA:
                 watch.submit(tenant, chance.randint(*SIZES), seconds=0.02)
         front.close()
-        killing = watch.until_done(CAPACITY)
-        running = asyncio.ensure_future(front.run())
-        await killing
-        cluster.kill_worker()
-        await running
+        await asyncio.gather(front.run(), kill(cluster, watch))
         found.append(Run(watch, front.account.rows(), watch.started(), client.most, record.text().decode()))
 
     with_cluster(WORKERS, 3, body)

@@ -5,16 +5,20 @@ import signal
 import subprocess
 import sys
 import time
+from collections.abc import Callable
+from functools import partial
 from pathlib import Path
+from threading import Lock
 
 import pytest
 from distributed import KilledWorker
 
 import jobs
+from fair import cluster
 from fair.account import State
 from fair.cluster import Cluster
 from fair.front import Front, Refused, Stopped
-from watched import WatchedClient, wait_until, with_cluster
+from watched import WatchedClient, is_running, wait_until, with_cluster
 
 TREE = "a :: Sender(0); q :: Queue(20); d :: ToDevice(dask); a -> q -> d;"
 
@@ -29,7 +33,7 @@ def states(front: Front) -> dict[State, int]:
 def test_a_job_that_kills_its_workers_fails() -> None:
     """Dask allows one worker to die with it, and gives up on it at the second. The jobs behind it are done by the third."""
 
-    async def body(cluster: Cluster, client: WatchedClient) -> None:
+    async def body(_: Cluster, client: WatchedClient) -> None:
         front = Front(client, TREE, in_flight=1)
         killing = front.submit("a", jobs.kill_worker, size=1)
         others = [front.submit("a", abs, -value, size=1) for value in range(5)]
@@ -45,7 +49,7 @@ def test_a_job_that_kills_its_workers_fails() -> None:
 def test_a_job_that_raises_runs_again(tmp_path: Path) -> None:
     """As often as its retries say, and not more."""
 
-    async def body(cluster: Cluster, client: WatchedClient) -> None:
+    async def body(_: Cluster, client: WatchedClient) -> None:
         front = Front(client, TREE, in_flight=2)
         again = front.submit("a", jobs.fail_at_first, str(tmp_path / "again"), size=1, retries=1)
         once = front.submit("a", jobs.fail_at_first, str(tmp_path / "once"), size=1)
@@ -58,13 +62,43 @@ def test_a_job_that_raises_runs_again(tmp_path: Path) -> None:
     with_cluster(1, 3, body)
 
 
+def test_a_job_that_cannot_be_done_stops_no_other() -> None:
+    """One seems to cancel who waits for it, another can't be sent to a worker, and the result of the third can't be sent back."""
+
+    async def body(_: Cluster, client: WatchedClient) -> None:
+        front = Front(client, TREE, in_flight=1)
+        calls: list[Callable[[], object]] = [jobs.seem_cancelled, partial(print, Lock()), Lock]
+        failing = [front.submit("a", it, size=1) for it in calls]
+        after = front.submit("a", abs, -1, size=1)
+        front.close()
+        await front.run()
+        assert [type(it.exception(0)) for it in failing] == [asyncio.CancelledError, TypeError, TypeError]
+        assert after.result(0) == 1 and states(front) == {State.FAILED: 3, State.DONE: 1}
+
+    with_cluster(1, 3, body)
+
+
+def test_equal_jobs_are_two_jobs(tmp_path: Path) -> None:
+    """Dask takes two calls of one function with one argument for one job, unless it is told that they are none."""
+
+    async def body(_: Cluster, client: WatchedClient) -> None:
+        front = Front(client, TREE, in_flight=2)
+        outcomes = [front.submit("a", jobs.echo, "token", 0.1, str(tmp_path), size=1) for _ in range(2)]
+        front.close()
+        await front.run()
+        assert [it.result(0) for it in outcomes] == ["token", "token"]
+        assert (tmp_path / "token").read_text() == "started\n" * 2
+
+    with_cluster(1, 3, body)
+
+
 def test_a_lost_scheduler_settles_all_jobs() -> None:
-    async def body(cluster: Cluster, client: WatchedClient) -> None:
+    async def body(started: Cluster, client: WatchedClient) -> None:
         front = Front(client, TREE, in_flight=2)
         outcomes = [front.submit("a", time.sleep, 60, size=1) for _ in range(10)]
         running = asyncio.create_task(front.run())
         await asyncio.sleep(0.5)
-        cluster.kill_scheduler()
+        started.kill_scheduler()
         with pytest.raises(Stopped):
             await running
         assert all(it.exception(0) for it in outcomes) and front.closed
@@ -95,9 +129,15 @@ def test_processes_end_if_their_starter_is_killed() -> None:
     assert wait_until(lambda: not any(map(is_running, numbers)), 60)
 
 
-def is_running(number: int) -> bool:
-    """Whether there is a process of this number, other than one that has ended and waits to be asked for its status."""
-    try:
-        return Path(f"/proc/{number}/stat").read_text().rpartition(")")[2].split()[0] != "Z"
-    except OSError:
-        return False
+def test_a_worker_without_a_scheduler_ends(monkeypatch: pytest.MonkeyPatch) -> None:
+    monkeypatch.setattr(cluster, "ALONE", "2s")
+    with Cluster(0) as lonely:
+        lonely.kill_scheduler()
+        lonely.add_worker()
+        assert wait_until(lambda: lonely._workers[0].poll() is not None, 60)
+
+
+def test_a_scheduler_that_does_not_start_is_told(monkeypatch: pytest.MonkeyPatch) -> None:
+    monkeypatch.setattr(cluster, "START", 0)
+    with pytest.raises(RuntimeError, match="the scheduler doesn't start"):
+        Cluster(1)

@@ -9,7 +9,7 @@ from xml.etree import ElementTree
 from clickpull import Router
 from fair import report
 from told import counts, words_of
-from watched import LONGEST, wait_until
+from watched import LONGEST, is_running, wait_until
 
 FOLDER = Path(__file__).resolve().parent.parent
 
@@ -21,6 +21,8 @@ def test_it_serves_all_tenants_while_a_worker_is_killed(tmp_path: Path) -> None:
         assert program.stdout
         address = program.stdout.readline().partition(" ")[2].strip()
         assert wait_until(lambda: "<td>physics</td>" in urlopen(address).read().decode(), 10)
+        killed = re.fullmatch(r"killed worker (\d+), and started another\n", program.stdout.readline())
+        assert killed and not is_running(int(killed[1]))
         printed, _ = program.communicate(timeout=LONGEST)
     assert program.returncode == 0, printed
     head, *rows, sums = printed.splitlines()

@@ -77,12 +77,20 @@ def with_cluster(workers: int, allowed_failures: int, body: Callable[[Cluster, W
     """Runs a body with a cluster of its own, for a limited time."""
 
     async def connected(cluster: Cluster) -> None:
-        async with WatchedClient(scheduler_file=cluster.scheduler_file, asynchronous=True, timeout=RECONNECT) as client:
+        async with WatchedClient(cluster.address, asynchronous=True, timeout=RECONNECT) as client:
             await client.wait_for_workers(workers)
             await body(cluster, client)
 
     with Cluster(workers, allowed_failures) as cluster:
         asyncio.run(asyncio.wait_for(connected(cluster), LONGEST))
+
+
+def is_running(number: int) -> bool:
+    """Whether there is a process of this number, other than one that has ended and waits to be asked for its status."""
+    try:
+        return Path(f"/proc/{number}/stat").read_text().rpartition(")")[2].split()[0] != "Z"
+    except OSError:
+        return False
 
 
 def wait_until(holds: Callable[[], bool], seconds: float) -> bool:
