@@ -8,7 +8,7 @@ from fair.shares import Shares
 
 COLUMNS = ("tenant", "submitted", *(it.value for it in State), "size", "got", "share")
 
-# How many seconds a page stands before it is loaded again.
+# After how many seconds a page reloads itself.
 REFRESH = 1
 
 STYLE = """body { font-family: sans-serif; margin: 2em; max-width: 60em } table { border-collapse: collapse; margin-bottom: 1em }
@@ -46,7 +46,7 @@ def sums(rows: list[Row]) -> str:
 
 
 def page(front: Front, all_of_them: list[Shares]) -> str:
-    """The account as a page that loads itself again, with a picture of each scheduler's shares."""
+    """The account as a page that reloads itself, with a picture of each scheduler's shares."""
     head = "".join(f"<th>{escape(it)}</th>" for it in COLUMNS)
     body = "".join("<tr>" + "".join(f"<td>{escape(it)}</td>" for it in line) + "</tr>\n" for line in lines(front, all_of_them))
     return (

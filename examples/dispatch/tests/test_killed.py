@@ -7,7 +7,6 @@ import asyncio
 import random
 from collections import Counter
 from dataclasses import dataclass
-from pathlib import Path
 
 import pytest
 

@@ -1,6 +1,5 @@
 """What a front makes of Dask's own limits, over real clusters. These tests stand outside what is proved."""
 import asyncio
-import os
 import signal
 import subprocess
 import sys
