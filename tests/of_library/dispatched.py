@@ -23,7 +23,7 @@ def tests_pass(setting: Setting) -> str:
     """The tests, by pytest. Dask is Debian's python3-distributed."""
     found = environment(setting)
     found["PYTHONPATH"] = os.pathsep.join([found["PYTHONPATH"], str(folder(setting))])
-    words = ["-m", "pytest", "-q", "-p", "no:cacheprovider", "."]
+    words = ["-m", "pytest", "-q", "-p", "no:cacheprovider", "--capture=sys", "."]
     return run([python("pytest", "distributed"), *words], found, folder(setting) / "tests").strip().splitlines()[-1]
 
 

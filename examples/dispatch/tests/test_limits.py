@@ -1,8 +1,5 @@
 """What a front makes of Dask's own limits, over real clusters. These tests stand outside what is proved."""
 import asyncio
-import signal
-import subprocess
-import sys
 import time
 from collections.abc import Callable
 from functools import partial
@@ -17,7 +14,7 @@ from fair import cluster
 from fair.account import State
 from fair.cluster import Cluster
 from fair.front import Front, Refused, Stopped
-from watched import WatchedClient, is_running, wait_until, with_cluster
+from watched import WatchedClient, is_running, started, wait_until, with_cluster
 
 TREE = "a :: Sender(0); q :: Queue(20); d :: ToDevice(dask); a -> q -> d;"
 
@@ -119,12 +116,10 @@ time.sleep(600)
 
 
 def test_processes_end_if_their_starter_is_killed() -> None:
-    with subprocess.Popen([sys.executable, "-c", STARTER], stdout=subprocess.PIPE, text=True) as starter:
-        assert starter.stdout
-        numbers = [int(it) for it in starter.stdout.readline().split()]
+    with started("-c", STARTER) as (_, printing):
+        numbers = [int(it) for it in printing.readline().split()]
         assert len(numbers) == 3 and all(map(is_running, numbers))
         time.sleep(2)
-        starter.send_signal(signal.SIGKILL)
     assert wait_until(lambda: not any(map(is_running, numbers)), 60)
 
 

@@ -9,7 +9,7 @@ from xml.etree import ElementTree
 from clickpull import Router
 from fair import report
 from told import counts, words_of
-from watched import LONGEST, is_running, wait_until
+from watched import LONGEST, is_running, started, wait_until
 
 FOLDER = Path(__file__).resolve().parent.parent
 
@@ -17,11 +17,10 @@ FOLDER = Path(__file__).resolve().parent.parent
 def test_it_serves_all_tenants_while_a_worker_is_killed(tmp_path: Path) -> None:
     picture, record = tmp_path / "shares.svg", tmp_path / "run.script"
     words = ["--seconds", "4", "--kill", "--picture", str(picture), "--record", str(record)]
-    with subprocess.Popen([sys.executable, FOLDER / "dispatch", *words], stdout=subprocess.PIPE, text=True) as program:
-        assert program.stdout
-        address = program.stdout.readline().partition(" ")[2].strip()
+    with started(FOLDER / "dispatch", *words) as (program, printing):
+        address = printing.readline().partition(" ")[2].strip()
         assert wait_until(lambda: "<td>physics</td>" in urlopen(address).read().decode(), 10)
-        killed = re.fullmatch(r"killed worker (\d+), and started another\n", program.stdout.readline())
+        killed = re.fullmatch(r"killed worker (\d+), and started another\n", printing.readline())
         assert killed and not is_running(int(killed[1]))
         printed, _ = program.communicate(timeout=LONGEST)
     assert program.returncode == 0, printed

@@ -1,11 +1,14 @@
 """Watches what a front does with a real cluster. It stands outside what is proved."""
 import asyncio
+import subprocess
+import sys
 import time
 from collections import Counter
-from collections.abc import Callable, Coroutine
+from collections.abc import Callable, Coroutine, Iterator
 from concurrent.futures import Future
+from contextlib import contextmanager
 from pathlib import Path
-from typing import Any
+from typing import IO, Any
 
 import jobs
 from distributed import Client
@@ -71,6 +74,17 @@ class Watch:
             return State.FAILED
         assert it.result(0) == token
         return State.DONE
+
+
+@contextmanager
+def started(*words: str | Path) -> Iterator[tuple[subprocess.Popen[str], IO[str]]]:
+    """Starts a program in Python, and kills it at the end. Yields it with what it prints."""
+    with subprocess.Popen([sys.executable, *words], stdout=subprocess.PIPE, text=True) as program:
+        assert program.stdout
+        try:
+            yield program, program.stdout
+        finally:
+            program.kill()
 
 
 def with_cluster(workers: int, allowed_failures: int, body: Callable[[Cluster, WatchedClient], Coroutine[Any, Any, None]]) -> None:
