@@ -5,6 +5,7 @@ under a heading.
 """
 import re
 import subprocess
+from collections.abc import Sequence
 from dataclasses import dataclass, field
 from pathlib import Path
 
@@ -99,11 +100,11 @@ class Words:
     commands: dict[str, Help]
 
 
-def words_of(program: Path) -> Words:
-    """What a program says. Its commands are those that it lists, help aside."""
+def words_of(command: Sequence[str | Path]) -> Words:
+    """What a program says, which this command runs. Its commands are those that it lists, help aside."""
 
     def said(*words: str) -> str:
-        done = subprocess.run([program, *words], capture_output=True, text=True, timeout=60, check=True)
+        done = subprocess.run([*command, *words], capture_output=True, text=True, timeout=60, check=True)
         return done.stdout
 
     name, _, version = said("--version").strip().partition(" ")

@@ -6,13 +6,16 @@ import subprocess
 import tempfile
 from collections import Counter
 from collections.abc import Iterator
-from dataclasses import dataclass
 from pathlib import Path
 
 from making.sources import HEADER, ROOT
+from making.targets import ARM64, OWN, Target
 
 # The calls of the header as exports, and all that the shared library exports.
 CALLS, EXPORTS = ROOT / "packaging" / "calls.c", ROOT / "packaging" / "exports.map"
+
+# What takes memory from the C library on a machine for which the toolchain has nothing that does.
+HEAPS = {ARM64: ROOT / "packaging" / "heap_arm64.c"}
 
 # The call that an archive has if it has those of CALLS.
 VERSION_CALL = "clk_version"
@@ -48,23 +51,15 @@ def run(command: list[str | Path], environment: dict[str, str] | None = None, fo
     return done.stdout
 
 
-@dataclass(frozen=True)
-class Archives:
-    """The archive of the library, and the toolchain's that takes memory from the C library, where the first doesn't have that too."""
-
-    library: Path
-    heap: Path | None
-
-    @property
-    def all_of_them(self) -> list[Path]:
-        """The archives, as they are linked."""
-        return [it.resolve() for it in (self.library, self.heap) if it]
-
-
-def need_compiler() -> None:
-    """Raises Unmade where there is no C compiler: an archive without the calls isn't installed."""
-    if shutil.which("cc") is None:
-        raise Unmade("cc, a C compiler, isn't on the PATH: it compiles the calls of clickpull.h and links the shared library")
+def need_tools(target: Target) -> None:
+    """Raises Unmade where there is no C compiler, or nothing that runs a program for another machine."""
+    compiler = target.tool("cc")
+    if shutil.which(compiler) is None:
+        package = "" if target.is_own else f" Debian's {target.package('gcc')} has it."
+        what = "it compiles the calls of clickpull.h and links the shared library."
+        raise Unmade(f"{compiler}, a C compiler, isn't on the PATH: {what}{package}")
+    if target.runner and shutil.which(target.runner[0]) is None:
+        raise Unmade(f"{target.runner[0]} isn't on the PATH: it runs the program, whose help becomes its manual page. Debian's qemu-user has it.")
 
 
 def names(kind: str, prefix: str, archive: Path) -> set[str]:
@@ -77,13 +72,35 @@ def lacks_heap(archive: Path) -> bool:
     return bool(names("U", HEAP, archive) - names("[A-TV-Z]", HEAP, archive))
 
 
-def compiled_calls(archive: Path, folder: Path) -> list[Path]:
-    """The calls of the header, compiled to a file in a folder; none if the archive has them."""
-    if VERSION_CALL in names("T", "clk_", archive):
+def kit() -> Path | None:
+    """The folder of the toolchain, if rt is on the PATH."""
+    rt = shutil.which("rt")
+    return Path(rt).resolve().parent.parent if rt else None
+
+
+def heap(archive: Path, target: Target, folder: Path) -> list[Path]:
+    """What takes memory from the C library, in a folder; none if the archive has it."""
+    if not lacks_heap(archive):
         return []
-    made = free(folder, "clickpull-calls.o")
-    run(["cc", "-std=c11", "-O2", "-fPIC", "-c", CALLS, "-o", made])
-    return [made]
+    if target in HEAPS:
+        return [compiled(HEAPS[target], target, folder)]
+    toolchain = kit()
+    path = toolchain / "c" / "liblibc_c.a" if toolchain else None
+    if path is None or not path.exists():
+        raise Unmade(f"{archive} lacks the toolchain's heap, and liblibc_c.a isn't there, beside rt on the PATH")
+    return list(members(path, folder))
+
+
+def calls(archive: Path, target: Target, folder: Path) -> list[Path]:
+    """The calls of the header, compiled to a file in a folder; none if the archive has them."""
+    return [] if VERSION_CALL in names("T", "clk_", archive) else [compiled(CALLS, target, folder)]
+
+
+def compiled(source: Path, target: Target, folder: Path) -> Path:
+    """A source of C, compiled to a file in a folder."""
+    made = free(folder, f"clickpull-{source.stem}.o")
+    run([target.tool("cc"), "-std=c11", "-O2", "-fPIC", "-c", source, "-o", made])
+    return made
 
 
 def members(archive: Path, folder: Path) -> Iterator[Path]:
@@ -105,15 +122,15 @@ def free(folder: Path, name: str) -> Path:
     return path
 
 
-def make_archive(archives: Archives, path: Path) -> None:
-    """Makes one archive of all, with the calls of the header, so that a program links it alone."""
+def make_archive(archive: Path, path: Path, target: Target = OWN) -> None:
+    """Makes one archive of an archive, a heap and the calls of the header, so that a program links it alone."""
     with tempfile.TemporaryDirectory(prefix="clickpull-archive-") as below:
         folder = Path(below)
-        all_members = [it for archive in archives.all_of_them for it in members(archive, folder)]
-        run(["ar", "rcsD", path, *all_members, *compiled_calls(archives.library, folder)])
+        parts = [*members(archive.resolve(), folder), *heap(archive, target, folder), *calls(archive, target, folder)]
+        run([target.tool("ar"), "rcsD", path, *parts])
 
 
-def make_shared(archive: Path, path: Path) -> None:
+def make_shared(archive: Path, path: Path, target: Target = OWN) -> None:
     """Makes the shared library of an archive that is whole. It exports what the header declares and nothing else."""
     flags = ["-shared", f"-Wl,-soname,{path.name}", f"-Wl,--version-script={EXPORTS}", "-Wl,-z,defs", "-Wl,-z,relro", "-Wl,-z,now"]
-    run(["cc", *flags, "-o", path, "-Wl,--whole-archive", archive, "-Wl,--no-whole-archive"])
+    run([target.tool("cc"), *flags, "-o", path, "-Wl,--whole-archive", archive, "-Wl,--no-whole-archive"])

@@ -8,4 +8,5 @@ ROOT = Path(__file__).resolve().parent.parent.parent
 INCLUDE = ROOT / "include"
 HEADER = INCLUDE / f"{NAME}.h"
 PAGES = ROOT / "docs"
+CRATES = ROOT / "crates"
 HEADERS = tuple(sorted(it.name for it in INCLUDE.iterdir()))

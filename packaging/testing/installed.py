@@ -73,13 +73,22 @@ def written(root: Path, name: str, text: str) -> Path:
 # The program.
 
 
-def program_runs(root: Path) -> None:
-    """The program has the version of the library, and each example prints what it is said to."""
-    compare("the version", inside(root, f"/usr/bin/{NAME}", "--version"), f"{NAME} {VERSION}\n")
+def answers_are_right(examples: Path, answer: Callable[..., str]) -> None:
+    """The program has the version of the library, and each example prints what it is said to. `answer` is what the program prints for words."""
+    compare("the version", answer("--version"), f"{NAME} {VERSION}\n")
     for command, ending in (("script", ".script"), ("run", ".trace")):
-        for it in sorted((root / EXAMPLES).glob(f"*{ending}")):
-            paths = [Path("/") / it.with_suffix(that).relative_to(root) for that in (".click", ending)]
-            compare(it.name, inside(root, f"/usr/bin/{NAME}", command, *paths), it.with_suffix(".out").read_text())
+        for it in sorted(examples.glob(f"*{ending}")):
+            compare(it.name, answer(command, it.with_suffix(".click"), it), it.with_suffix(".out").read_text())
+
+
+def program_runs(root: Path) -> None:
+    """The program runs in the root."""
+
+    def answer(*words: str | Path) -> str:
+        there: list[str | Path] = [Path("/") / it.relative_to(root) if isinstance(it, Path) else it for it in words]
+        return inside(root, f"/usr/bin/{NAME}", *there)
+
+    answers_are_right(root / EXAMPLES, answer)
 
 
 # The library.

@@ -11,6 +11,7 @@ from making.debian.building import SYMBOLS
 from making.debian.packages import DEVELOPING, DOCUMENTS, LIBRARY, PACKAGES, PYTHON, RUST
 from making.library import INTERFACE, VERSION, run
 from making.sources import HEADERS, NAME, ROOT
+from making.targets import OWN, Target
 from of_library.checks import Setting
 from of_library.declared import checked_calls, exported, header_of
 from testing import standin
@@ -50,17 +51,17 @@ class Packaged:
         return folder
 
 
-def made(folder: Path, *words: str | Path) -> Packaged:
-    """The packages that packaging/debian makes with these words."""
-    need("dpkg", "dpkg-deb", "dpkg-architecture", "dpkg-gensymbols", "objdump", "strip")
+def made(folder: Path, target: Target, *words: str | Path) -> Packaged:
+    """The packages for a machine that packaging/debian makes with these words."""
+    need("dpkg", "dpkg-deb", "dpkg-gensymbols", target.tool("objdump"), target.tool("strip"))
     folder.mkdir(parents=True, exist_ok=True)
-    paths = map(Path, run([DEBIAN, folder, *words]).splitlines())
+    paths = map(Path, run([DEBIAN, folder, "--target", target.architecture, *words]).splitlines())
     return Packaged(folder, {it.name.partition("_")[0]: it for it in paths})
 
 
-def made_twice(folder: Path, *words: str | Path) -> Packaged:
+def made_twice(folder: Path, *words: str | Path, target: Target = OWN) -> Packaged:
     """The packages, which are made again to see that they are the same."""
-    first, again = made(folder / "first", *words), made(folder / "again", *words)
+    first, again = made(folder / "first", target, *words), made(folder / "again", target, *words)
     compare("the packages", sorted(first.files), sorted(it.name for it in PACKAGES))
     differ = [name for name, it in first.files.items() if it.read_bytes() != again.files[name].read_bytes()]
     compare("packages that differ when they are made again", differ, [])

@@ -11,6 +11,7 @@ from pathlib import Path
 
 from making.library import VERSION, run
 from making.sources import HEADER
+from making.targets import OWN as THIS_MACHINE, Target
 from testing.checks import LeftOut, need
 
 INSTALL = Path(__file__).resolve().parent.parent / "install"
@@ -29,10 +30,11 @@ int main(int count, char **words) {{
 # The members of the library's archive, which has two of one name, and of the heap's, which has one of that name too. The second has all exports
 # that the header's calls want.
 OWN = ("clk_router_first", "clk_router_second")
-FIRST = f"void *rattle_alloc(void); int {OWN[0]}(void) {{ return rattle_alloc() != 0; }}"
+DECLARED = "void *rattle_alloc(unsigned long size, unsigned long align)"
+FIRST = f"{DECLARED}; int {OWN[0]}(void) {{ return rattle_alloc(8, 8) != 0; }}"
 WANTED = re.findall(r"^extern \w+ (clk_(?:router|raw)_\w+)\(", HEADER.read_text(), re.MULTILINE)
 SECOND = "\n".join(f"int {it}(void) {{ return 1; }}" for it in (OWN[1], *WANTED))
-HEAP = "static int given; void *rattle_alloc(void) { return &given; }"
+HEAP = f"static char given[64]; {DECLARED} {{ return given + (size + align) % 64; }}"
 CALLER = f"""
 #include <string.h>
 int clk_router_first(void);
@@ -44,9 +46,10 @@ int main(void) {{ return clk_router_first() && clk_router_second() && strcmp(clk
 
 @dataclass(frozen=True)
 class StandIn:
-    """A folder with a program, an archive without the heap, and a toolchain that has the heap."""
+    """A folder with a program and an archive without the heap, both for a machine, and a toolchain that has the heap."""
 
     folder: Path
+    target: Target
 
     @property
     def program(self) -> Path:
@@ -65,7 +68,7 @@ class StandIn:
 
     def install(self, *words: str | Path, toolchain: bool = True, archive: Path | None = None, searched: str | None = None) -> str:
         """What packaging/install writes, with the toolchain on the PATH or without, or with another PATH."""
-        named: list[str | Path] = ["--program", self.program, "--archive", archive or self.archive]
+        named: list[str | Path] = ["--target", self.target.architecture, "--program", self.program, "--archive", archive or self.archive]
         return self.alone(*named, *words, toolchain=toolchain, searched=searched)
 
     def alone(self, *words: str | Path, toolchain: bool = False, searched: str | None = None) -> str:
@@ -76,8 +79,8 @@ class StandIn:
         """Builds a program of C that calls each member, with these flags, and runs it."""
         source, built = self.folder / "caller.c", self.folder / "caller"
         source.write_text(CALLER)
-        run(["cc", source, "-o", built, *flags])
-        return run([built])
+        run([self.target.tool("cc"), source, "-o", built, *flags])
+        return run([*self.target.runner, built])
 
 
 def path(first: Path | None) -> str:
@@ -90,30 +93,30 @@ def path(first: Path | None) -> str:
     return whole
 
 
-def compiled(text: str, path: Path) -> Path:
+def compiled(text: str, path: Path, target: Target = THIS_MACHINE) -> Path:
     """Compiles a text of C."""
     path.parent.mkdir(parents=True, exist_ok=True)
     source = path.with_suffix(".c")
     source.write_text(text + "\n")
-    run(["cc", "-Wall", "-Wextra", "-Werror", "-fPIC", "-c", source, "-o", path])
+    run([target.tool("cc"), "-Wall", "-Wextra", "-Werror", "-fPIC", "-c", source, "-o", path])
     return path
 
 
-def program(name: str, path: Path) -> Path:
+def program(name: str, path: Path, target: Target = THIS_MACHINE) -> Path:
     """A program that says that it has this name."""
-    run(["cc", compiled(PROGRAM.replace("clickpull", name), path.with_suffix(".o")), "-o", path])
+    run([target.tool("cc"), compiled(PROGRAM.replace("clickpull", name), path.with_suffix(".o"), target), "-o", path])
     return path
 
 
-def made(folder: Path) -> StandIn:
-    """Makes them in a folder."""
-    need("ar", "cc", "nm", "ranlib")
-    it = StandIn(folder)
+def made(folder: Path, target: Target = THIS_MACHINE) -> StandIn:
+    """Makes them in a folder, for a machine."""
+    need("ar", "cc", "nm", "ranlib", target.tool("cc"), *target.runner[:1])
+    it = StandIn(folder, target)
     folder.mkdir(parents=True)
-    program("clickpull", it.program)
+    program("clickpull", it.program, target)
     # With q, and without s, a member doesn't replace one of its name.
     for number, text in enumerate((FIRST, SECOND)):
-        run(["ar", "qc", it.archive, compiled(text, folder / str(number) / "same.o")])
+        run(["ar", "qc", it.archive, compiled(text, folder / str(number) / "same.o", target)])
     run(["ranlib", it.archive])
     (it.kit / "bin").mkdir(parents=True)
     (it.kit / "c").mkdir()

@@ -17,8 +17,9 @@
 //! - An inlet and its router also share atomic variables. For these, coherence follows the same order: a call reads nothing older than
 //!   what an earlier call on its handle read or wrote. So the other side can't tell a handle that moved from one that stayed: what it sees
 //!   of the handle's calls, it sees in their order.
-//! - The library is an archive for x86-64, where each store is a release and each load is an acquire. Rust's compiler moves no call of C across
-//!   the release or the acquire of a hand-over.
+//! - The library is compiled code. Rust's compiler moves no call of it across the release or the acquire of a hand-over, and neither does the
+//!   processor: on x86-64 each store is a release and each load is an acquire, and on ARM64 a release waits for all accesses before it, and an
+//!   acquire holds back all after it.
 //! - Safe code has no hand-over that orders less. A value that moves between threads without a release and an acquire would be a data race
 //!   with any type, so that all hand-overs of safe Rust have both.
 //!

@@ -98,7 +98,7 @@ def commands(chance: random.Random, senders: list[int], devices: int) -> Iterato
         yield f"drain {max(0, moment + chance.choice([-5, 0, 1, 100]))}\n"
 
 
-def program_of(named: str | None) -> str:
+def clickpull(named: str | None) -> str:
     """The built program."""
     found = named or shutil.which("clickpull")
     if found is None:
@@ -108,7 +108,7 @@ def program_of(named: str | None) -> str:
 
 def replayed(setting: Setting, count: int, seed: int, named: str | None) -> str:
     """Each script prints through C and through Python what the program prints, and the records of both are the script."""
-    program, replay = program_of(named), replayer(setting)
+    program, replay = clickpull(named), replayer(setting)
     folder = setting.made / "chance"
     folder.mkdir()
     for number in range(count):
@@ -175,7 +175,7 @@ def fault_of(words: list[str | Path]) -> tuple[int, int] | None:
 
 def told(setting: Setting, count: int, seed: int, named: str | None) -> str:
     """Of each text the library tells the fault that the program does, at the same place."""
-    program, replay = program_of(named), replayer(setting)
+    program, replay = clickpull(named), replayer(setting)
     folder = setting.made / "texts"
     folder.mkdir()
     (folder / "none.script").write_text("")

@@ -19,12 +19,21 @@ class LeftOut(Exception):
 
 
 @dataclass(frozen=True)
+class Machine:
+    """Another machine, for which programs are built: what a tool for it is called, and what runs its programs here."""
+
+    tool: Callable[[str], str]
+    runner: Sequence[str]
+
+
+@dataclass(frozen=True)
 class Setting:
-    """Where things are: the repository, the archive, and a folder for what is made."""
+    """Where things are: the repository, the archive, and a folder for what is made; and the machine for which that is, if it isn't this one."""
 
     root: Path
     archive: Path
     made: Path
+    machine: Machine | None = None
 
     @property
     def installed(self) -> Path:
@@ -40,6 +49,20 @@ class Setting:
     def include(self) -> Path:
         """The headers."""
         return self.root / "include"
+
+    def tool(self, name: str) -> str:
+        """What a compiler or a tool of it is called. Leaves the check out where it is missing."""
+        called = self.machine.tool(name) if self.machine else name
+        need(called)
+        return called
+
+    def command(self, program: Path) -> list[str | Path]:
+        """The command that runs a built program."""
+        return [*(self.machine.runner if self.machine else ()), program]
+
+    def run(self, program: Path, *words: str | Path) -> str:
+        """What a built program writes."""
+        return run([*self.command(program), *words])
 
 
 @dataclass(frozen=True)

@@ -28,7 +28,7 @@ PACKETS, FEW = "40000", "400"
 COMPILERS = {"gcc": "g++", "clang": "clang++"}
 
 # Programs that stand alone, and so are no part of the tests of calls.
-ALONE = ("replay.c", "memory.c", "sleeping.c", "at_length.c", "live_calls.c", "live_threads.c", "cases.c")
+ALONE = ("replay.c", "memory.c", "sleeping.c", "at_length.c", "live_calls.c", "live_threads.c", "cases.c", "heap.c", "process.c")
 
 # The requests for memory that tests/c/memory.c answers.
 WRAPPED = [f"-Wl,--wrap={it}" for it in ("malloc", "calloc", "realloc", "free")]
@@ -45,28 +45,40 @@ def heap() -> Path:
     return path
 
 
-def tests_of(setting: Setting, compiler: str) -> Path:
-    """The tests of C that a compiler builds, over the archive."""
-    need(compiler)
-    program = setting.made / f"calls-{compiler}"
-    sources = sorted(it for it in (setting.root / "tests" / "c").glob("*.c") if it.name not in ALONE)
-    run([compiler, *C, "-I", setting.include, *sources, "-o", program, setting.archive, heap()])
+def libraries(setting: Setting) -> list[Path]:
+    """What a program is linked with: the archive as it is built, and the toolchain's heap. For another machine, the installed archive."""
+    return [setting.installed] if setting.machine else [setting.archive, heap()]
+
+
+def program_of(setting: Setting, compiler: str, words: Sequence[str | Path], name: str) -> Path:
+    """A program of this name over the archive, which a compiler builds with these words."""
+    program = setting.made / name
+    run([setting.tool(compiler), *words, "-I", setting.include, "-o", program, *libraries(setting)])
     return program
+
+
+def tests_in_c(setting: Setting) -> list[Path]:
+    """The sources of the tests of calls."""
+    return sorted(it for it in (setting.root / "tests" / "c").glob("*.c") if it.name not in ALONE)
 
 
 def tests_of_cpp(setting: Setting, compiler: str, variant: str) -> Path:
     """The tests of C++ that a compiler builds in this way, over the archive."""
-    need(compiler)
-    program = setting.made / f"calls-{compiler}-{list(VARIANTS).index(variant)}"
     sources = sorted((setting.root / "tests" / "cpp").glob("*.cpp"))
-    run([compiler, *VARIANTS[variant], "-I", setting.include, *sources, "-o", program, setting.archive, heap()])
-    return program
+    return program_of(setting, compiler, [*VARIANTS[variant], *sources], f"calls-{compiler}-{list(VARIANTS).index(variant)}")
 
 
-def clean(program: Path, words: Sequence[str | Path] = (), checked: Sequence[str | Path] | None = None) -> str:
+def has_valgrind(setting: Setting) -> bool:
+    """Whether valgrind is there, and runs the programs that are built."""
+    return setting.machine is None and shutil.which("valgrind") is not None
+
+
+def clean(setting: Setting, program: Path, words: Sequence[str | Path] = (), checked: Sequence[str | Path] | None = None) -> str:
     """Runs tests with these words, alone and then, with the words that are `checked`, under valgrind where it is there."""
-    told = run([program, *words]).strip()
-    if shutil.which("valgrind") is None:
+    told = setting.run(program, *words).strip()
+    if setting.machine:
+        return told
+    if not has_valgrind(setting):
         return f"{told}, without valgrind, which is missing"
     with_words = words if checked is None else checked
     run(["valgrind", "-q", "--error-exitcode=9", "--leak-check=full", "--show-leak-kinds=all", program, *with_words])
@@ -75,27 +87,25 @@ def clean(program: Path, words: Sequence[str | Path] = (), checked: Sequence[str
 
 def in_c(compiler: str) -> Callable[[Setting], str]:
     """The tests of C by this compiler."""
-    return lambda setting: clean(tests_of(setting, compiler))
+    return lambda setting: clean(setting, program_of(setting, compiler, [*C, *tests_in_c(setting)], f"calls-{compiler}"))
 
 
-def in_cpp(compiler: str, variant: str) -> Callable[[Setting], str]:
-    """The tests of C++ by this compiler, built in this way."""
+def in_cpp(compiler: str, variant: str, packets: str = PACKETS) -> Callable[[Setting], str]:
+    """The tests of C++ by this compiler, built in this way, with so many packets of each sender on a thread."""
 
     def check(setting: Setting) -> str:
         program, cases = tests_of_cpp(setting, compiler, variant), setting.root / CASES
         if VARIANTS[variant] is CPP:
-            return clean(program, [cases, PACKETS], [cases, FEW])
-        return run([program, cases, PACKETS]).strip()
+            return clean(setting, program, [cases, packets], [cases, FEW])
+        return setting.run(program, cases, packets).strip()
 
     return check
 
 
 def cases_in_c(setting: Setting) -> str:
     """The table of cases, by the calls of C themselves."""
-    need("cc")
-    program = setting.made / "cases"
-    run(["cc", *C, "-I", setting.include, setting.root / "tests" / "c" / "cases.c", "-o", program, setting.archive, heap()])
-    return clean(program, [setting.root / CASES])
+    program = program_of(setting, "cc", [*C, setting.root / "tests" / "c" / "cases.c"], "cases")
+    return clean(setting, program, [setting.root / CASES])
 
 
 def values_by_thread_sanitizer(compiler: str) -> Callable[[Setting], str]:
@@ -118,6 +128,14 @@ def values_by_thread_sanitizer(compiler: str) -> Callable[[Setting], str]:
             raise
 
     return check
+
+
+def compilers(setting: Setting) -> list[str]:
+    """The compilers of C that are there."""
+    found = [it for it in COMPILERS if shutil.which(setting.machine.tool(it) if setting.machine else it)]
+    if not found:
+        raise LeftOut("neither gcc nor clang is there")
+    return found
 
 
 # What a program that includes a header may ask of it besides.
@@ -147,25 +165,16 @@ def headers_stand_alone(setting: Setting) -> str:
 
 def over_the_shared_library(setting: Setting) -> str:
     """The tests of C run over the shared library as over the archive."""
-    need("cc")
     program = setting.made / "calls-shared"
-    sources = sorted(it for it in (setting.root / "tests" / "c").glob("*.c") if it.name not in ALONE)
-    run(["cc", *C, "-I", setting.include, *sources, "-o", program, setting.shared, f"-Wl,-rpath,{setting.made}"])
-    return run([program]).strip()
+    words: list[str | Path] = [*C, "-I", setting.include, *tests_in_c(setting), "-o", program]
+    run([setting.tool("cc"), *words, setting.shared, f"-Wl,-rpath,{setting.made}"])
+    return setting.run(program).strip()
 
 
 def memory_is_refused(setting: Setting) -> str:
     """Each request for memory is refused in turn."""
-    told = []
-    for compiler in COMPILERS:
-        if shutil.which(compiler) is None:
-            continue
-        program = setting.made / f"memory-{compiler}"
-        source = setting.root / "tests" / "c" / "memory.c"
-        run([compiler, *C, "-I", setting.include, source, "-o", program, *WRAPPED, setting.archive, heap()])
-        told.append(run([program]).strip())
-    if not told:
-        raise LeftOut("neither gcc nor clang is there")
+    words: list[str | Path] = [*C, *WRAPPED, setting.root / "tests" / "c" / "memory.c"]
+    told = [setting.run(program_of(setting, it, words, f"memory-{it}")).strip() for it in compilers(setting)]
     compare("requests by compiler", len(set(told)), 1)
     if told[0].startswith("0 "):
         raise Failed("no request was refused")

@@ -8,7 +8,8 @@ import shutil
 import sys
 from pathlib import Path
 
-from making.library import INTERFACE, VERSION, Archives, Unmade, make_archive, make_shared
+from making.library import INTERFACE, VERSION, Unmade, make_archive, make_shared
+from making.targets import OWN, Target
 from of_library.checks import Check, Failed, LeftOut, Setting, compare, need, run
 from of_library.compiled import BUILT, COMPILERS, STRICT, heap
 from of_library.declared import checked_calls
@@ -25,18 +26,20 @@ MEMBERS = ("--no-whole-archive", "--whole-archive")
 NO_LTO = ("LLVMgold.so", "ld.lld", "lto-wrapper", "plugin needed")
 
 
-def make_installed(setting: Setting, kept: Path | None) -> None:
-    """Makes the archive and the shared library as packaging does, and keeps the second at a path where one is named."""
-    need("cc", "ar", "nm")
+def make_installed(setting: Setting, target: Target = OWN) -> None:
+    """Makes the archive and the shared library as packaging does."""
+    need("ar", "nm")
+    for tool in ("cc", "ar"):
+        setting.tool(tool)
+    if setting.machine is None:
+        heap()
     named = setting.made / f"libclickpull.so.{INTERFACE}"
     try:
-        make_archive(Archives(setting.archive, heap()), setting.installed)
-        make_shared(setting.installed, named)
+        make_archive(setting.archive, setting.installed, target)
+        make_shared(setting.installed, named, target)
     except Unmade as it:
         raise Failed(str(it)) from None
     setting.shared.symlink_to(named.name)
-    if kept:
-        shutil.copy(named, kept)
 
 
 def is_linked(setting: Setting, compiler: str, language: str, way: str) -> bool:

@@ -1,14 +1,13 @@
 """Judges what tests/c/live_threads.c prints, by the model of live routers, and its record. It stands outside what is proved."""
 import random
 import re
-import shutil
 from dataclasses import dataclass
 from pathlib import Path
 
-from of_library.again import is_done_again
+from of_library.again import Program, is_done_again
 from of_library.chance import tree_and_script
-from of_library.checks import Check, Failed, Setting, need, run
-from of_library.compiled import C, heap
+from of_library.checks import Check, Failed, Setting, run
+from of_library.compiled import C, has_valgrind, program_of
 from of_library.model import Model
 from of_library.replayed import replayer
 
@@ -80,19 +79,16 @@ def altered(chance: random.Random, printed: str) -> str:
 
 @dataclass(frozen=True)
 class Programs:
-    """A program that runs a live router, and one that replays records."""
+    """The command of a program that runs a live router, and that of one that replays records."""
 
-    live: Path
-    replay: Path
+    live: Program
+    replay: Program
 
 
 def built(setting: Setting) -> Programs:
     """The programs."""
-    need("cc")
-    program = setting.made / "live-threads"
-    source = setting.root / "tests" / "c" / "live_threads.c"
-    run(["cc", *C, "-I", setting.include, source, "-o", program, setting.archive, heap()])
-    return Programs(program, replayer(setting))
+    program = program_of(setting, "cc", [*C, setting.root / "tests" / "c" / "live_threads.c"], "live-threads")
+    return Programs(setting.command(program), setting.command(replayer(setting)))
 
 
 def live_once(programs: Programs, chance: random.Random, room: Path) -> int:
@@ -104,10 +100,10 @@ def live_once(programs: Programs, chance: random.Random, room: Path) -> int:
     path, record = room / "tree.click", room / "record.script"
     path.write_text(tree)
     slots, packets, seed = chance.choice([1, 2, 7, 64, 300]), chance.choice([0, 5, 100, 2000]), chance.getrandbits(30)
-    printed = run([programs.live, path, str(slots), str(packets), str(seed), record])
+    printed = run([*programs.live, path, str(slots), str(packets), str(seed), record])
     (room / "printed").write_text(printed)
     calls = [it.split(" = ") for it in printed.splitlines() if " = " in it]
-    is_done_again([programs.replay], path, record, [call for call, _ in calls], [f"{call.split()[0]} {answer}" for call, answer in calls])
+    is_done_again(programs.replay, path, record, [call for call, _ in calls], [f"{call.split()[0]} {answer}" for call, answer in calls])
     try:
         taken = judge(tree, slots, printed)
     except (Broken, LookupError, ValueError) as it:
@@ -124,10 +120,10 @@ def are_judged(setting: Setting) -> str:
     programs, folder = built(setting), setting.made / "lived"
     folder.mkdir()
     packets = sum(live_once(programs, random.Random(f"library {it}"), folder) for it in range(ROUTERS))
-    if shutil.which("valgrind"):
+    if has_valgrind(setting):
         checker = ["valgrind", "-q", "--error-exitcode=9", "--leak-check=full"]
         for seed in ("2", "3"):
-            run([*checker, programs.live, folder / "tree.click", "4", "60", seed, folder / "record.script"])
+            run([*checker, *programs.live, folder / "tree.click", "4", "60", seed, folder / "record.script"])
     return f"{packets} packets through {ROUTERS} routers"
 
 

@@ -1,15 +1,14 @@
 """Calls on live routers by chance, beside the model of them, and the records of these calls. It stands outside what is proved."""
 import random
-import shutil
 from collections.abc import Callable, Iterator
 from concurrent.futures import ThreadPoolExecutor
 from functools import partial
 from pathlib import Path
 
 from of_library.again import Program, is_done_again
-from of_library.chance import program_of, tree_and_script
-from of_library.checks import Check, Failed, Setting, compare, need, run
-from of_library.compiled import C, heap
+from of_library.chance import clickpull, tree_and_script
+from of_library.checks import Check, Failed, Setting, compare, run
+from of_library.compiled import C, has_valgrind, program_of
 from of_library.model import END_OF_MOMENTS, LONGEST, Model
 from of_library.replayed import replayer
 
@@ -129,22 +128,17 @@ def script_of(seed: str) -> tuple[str, int, list[str], str]:
 
 def built(setting: Setting) -> Path:
     """The program that makes calls."""
-    need("cc")
-    program = setting.made / "live-calls"
-    source = setting.root / "tests" / "c" / "live_calls.c"
-    run(["cc", *C, "-I", setting.include, source, "-o", program, setting.archive, heap()])
-    return program
+    return program_of(setting, "cc", [*C, setting.root / "tests" / "c" / "live_calls.c"], "live-calls")
 
 
-def compared(program: Path, programs: list[Program], folder: Path, seed: int, number: int) -> int:
+def compared(program: Program, programs: list[Program], folder: Path, seed: int, checked: int, number: int) -> int:
     """Compares what the calls of a script return with the model, and what programs print of their record. Returns how many calls it has."""
     tree, room, calls, wanted = script_of(f"{seed} live {number}")
     paths = folder / f"{number}.click", folder / f"{number}.calls", folder / f"{number}.record"
     for path, text in zip(paths, (tree, "".join(f"{it}\n" for it in calls))):
         path.write_text(text)
-    is_checked = number < CHECKED and shutil.which("valgrind") is not None
-    checker = ["valgrind", "-q", "--error-exitcode=9", "--leak-check=full", "--show-leak-kinds=all"] if is_checked else []
-    found = run([*checker, program, paths[0], str(room), *paths[1:]])
+    checker = ["valgrind", "-q", "--error-exitcode=9", "--leak-check=full", "--show-leak-kinds=all"] if number < checked else []
+    found = run([*checker, *program, paths[0], str(room), *paths[1:]])
     for at, (line, other) in enumerate(zip(found.splitlines(), wanted.splitlines())):
         if line != other:
             before = "\n".join(calls[: at + 1])
@@ -160,11 +154,14 @@ def calls_agree(count: int, seed: int, named: str | None) -> Callable[[Setting],
     """Calls by chance return what the model says, and their records repeat them: through C, and by the program that is named."""
 
     def check(setting: Setting) -> str:
-        program, folder = built(setting), setting.made / "live"
-        programs: list[Program] = [[replayer(setting)], *([[program_of(named), "script"]] if named else [])]
+        program, folder = setting.command(built(setting)), setting.made / "live"
+        programs = [setting.command(replayer(setting))]
+        if named:
+            programs.append([clickpull(named), "script"])
+        checked = CHECKED if has_valgrind(setting) else 0
         folder.mkdir()
         with ThreadPoolExecutor() as pool:
-            calls = sum(pool.map(partial(compared, program, programs, folder, seed), range(count)))
+            calls = sum(pool.map(partial(compared, program, programs, folder, seed, checked), range(count)))
         return f"{calls} calls on {count} routers"
 
     return check

@@ -2,8 +2,8 @@
 import threading
 from pathlib import Path
 
-from of_library.checks import Check, Failed, Setting, need, run
-from of_library.compiled import C, heap
+from of_library.checks import Check, Failed, Setting, run
+from of_library.compiled import C, program_of
 from of_library.module import environment, python
 
 # Several checks want the replaying program, and one of them makes it.
@@ -12,13 +12,9 @@ BEING_MADE = threading.Lock()
 
 def replayer(setting: Setting) -> Path:
     """The program that replays scripts."""
-    need("cc")
     program = setting.made / "replay"
     with BEING_MADE:
-        if not program.exists():
-            source = setting.root / "tests" / "c" / "replay.c"
-            run(["cc", *C, "-I", setting.include, source, "-o", program, setting.archive, heap()])
-    return program
+        return program if program.exists() else program_of(setting, "cc", [*C, setting.root / "tests" / "c" / "replay.c"], program.name)
 
 
 def examples(setting: Setting) -> list[Path]:
@@ -55,7 +51,7 @@ def agree(setting: Setting, language: str, program: list[str | Path], more: dict
 
 def by_c(setting: Setting) -> str:
     """The examples, through C."""
-    return agree(setting, "c", [replayer(setting)], {})
+    return agree(setting, "c", setting.command(replayer(setting)), {})
 
 
 def by_python(setting: Setting) -> str:

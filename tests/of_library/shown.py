@@ -5,7 +5,7 @@ from collections.abc import Callable
 from pathlib import Path
 
 from of_library.checks import Check, Failed, Setting, compare, need, run
-from of_library.compiled import WARNINGS, heap
+from of_library.compiled import WARNINGS, program_of
 from of_library.module import environment
 from of_library.replayed import replayer
 from of_library.rusted import run_program
@@ -32,12 +32,11 @@ def compiled(part: str, language: str, compiler: str, standard: str, place: int 
     """A program is built without a warning, and prints what the page says."""
 
     def check(setting: Setting) -> str:
-        need(compiler)
         program, answer = shown(setting, part, language, place)
-        source, made = setting.made / f"shown_{place}.{language}", setting.made / f"shown_{language}_{place}"
+        source = setting.made / f"shown_{place}.{language}"
         source.write_text(program)
-        run([compiler, standard, "-pthread", *WARNINGS, "-I", setting.include, source, "-o", made, setting.archive, heap()])
-        compare(f"what the program in {language} prints", run([made]), answer)
+        made = program_of(setting, compiler, [standard, "-pthread", *WARNINGS, source], f"shown_{language}_{place}")
+        compare(f"what the program in {language} prints", setting.run(made), answer)
         return f"{len(program.splitlines())} lines"
 
     return check
@@ -45,20 +44,18 @@ def compiled(part: str, language: str, compiler: str, standard: str, place: int 
 
 def of_threads(setting: Setting, part: str, name: str) -> tuple[Path, str, str]:
     """A program of examples/threads, built, what a part of the page shows of it, and what the page says that it prints."""
-    need("cc")
     parts, answer = shown(setting, part, "c")
-    source, made = setting.root / "examples" / "threads" / f"{name}.c", setting.made / name
+    source = setting.root / "examples" / "threads" / f"{name}.c"
     for it in parts.split("\n\n"):
         if it.strip("\n") not in source.read_text():
             raise Failed(f"docs/LIBRARY.md shows what isn't in {source}:\n{it}")
-    run(["cc", "-std=gnu11", "-pthread", *WARNINGS, "-I", setting.include, source, "-o", made, setting.archive, heap()])
-    return made, parts, answer
+    return program_of(setting, "cc", ["-std=gnu11", "-pthread", *WARNINGS, source], name), parts, answer
 
 
 def threads_are_right(setting: Setting) -> str:
     """What the page shows of a program on threads stands in it, and the program prints what the page says."""
     program, parts, answer = of_threads(setting, "Producers on threads", "first")
-    compare("what the program on threads prints", run([program]), answer)
+    compare("what the program on threads prints", setting.run(program), answer)
     return f"{len(parts.splitlines())} lines"
 
 
@@ -66,8 +63,8 @@ def records_are_right(setting: Setting) -> str:
     """What the page shows of a program that records its run stands in it, and the record ends in the report that the page has."""
     program, _, answer = of_threads(setting, "Records", "recorded")
     tree, record = setting.root / "examples" / "threads" / "recorded.click", setting.made / "run.script"
-    record.write_text(run([program, tree]))
-    printed = run([replayer(setting), tree, record])
+    record.write_text(setting.run(program, tree))
+    printed = setting.run(replayer(setting), tree, record)
     compare("what the record ends in", "".join(printed.splitlines(keepends=True)[-2:]), answer)
     return f"{len(printed.splitlines())} lines"
 

@@ -1,11 +1,10 @@
 """Live routers on threads: the example, wake-ups, and many packets. It stands outside what is proved."""
 import re
-import shutil
 from collections.abc import Callable
 from pathlib import Path
 
-from of_library.checks import Check, Failed, LeftOut, Setting, compare, need, run
-from of_library.compiled import C, COMPILERS, heap
+from of_library.checks import Check, Failed, Setting, compare, run
+from of_library.compiled import C, COMPILERS, compilers, has_valgrind, program_of
 
 # The two ways to wait of examples/threads.
 WAITERS = ("cond", "eventfd")
@@ -18,9 +17,7 @@ def built(setting: Setting, compiler: str, source: str, waiter: str | None = Non
     """A program of one source, with a waiter if it wants one."""
     example = setting.root / "examples" / "threads"
     sources = [setting.root / source, *([example / f"waiter_{waiter}.c"] if waiter else [])]
-    program = setting.made / f"{Path(source).stem}-{waiter or 'alone'}-{compiler}"
-    run([compiler, *C, "-I", setting.include, "-I", example, *sources, "-o", program, setting.archive, heap()])
-    return program
+    return program_of(setting, compiler, [*C, "-I", example, *sources], f"{Path(source).stem}-{waiter or 'alone'}-{compiler}")
 
 
 def checked(program: Path, *words: str) -> str:
@@ -28,17 +25,9 @@ def checked(program: Path, *words: str) -> str:
     return run(["valgrind", "-q", "--error-exitcode=9", "--leak-check=full", "--show-leak-kinds=all", program, *words])
 
 
-def compilers() -> list[str]:
-    """The compilers that are there."""
-    found = [it for it in COMPILERS if shutil.which(it)]
-    if not found:
-        raise LeftOut("neither gcc nor clang is there")
-    return found
-
-
-def told(printed: str) -> str:
+def told(setting: Setting, printed: str) -> str:
     """What is told of a program that valgrind was to check too."""
-    return printed.strip() + (", and by valgrind" if shutil.which("valgrind") else "; valgrind is missing")
+    return printed.strip() + ("" if setting.machine else ", and by valgrind" if has_valgrind(setting) else "; valgrind is missing")
 
 
 def example(setting: Setting) -> str:
@@ -47,37 +36,36 @@ def example(setting: Setting) -> str:
     wanted = (folder / "senders.out").read_text()
     compare("README's output", wanted in (folder / "README.md").read_text(), True)
     for waiter in WAITERS:
-        for compiler in compilers():
+        for compiler in compilers(setting):
             program = built(setting, compiler, "examples/threads/senders.c", waiter)
-            compare("what the senders come to", run([program]), wanted)
-        if shutil.which("valgrind"):
+            compare("what the senders come to", setting.run(program), wanted)
+        if has_valgrind(setting):
             compare("what the senders come to", checked(program), wanted)
-    return told("with either waiter")
+    return told(setting, "with either waiter")
 
 
 def no_wake_up_is_lost(setting: Setting) -> str:
     """A consumer that sleeps whenever it finds nothing is woken for each packet."""
     for waiter in WAITERS:
-        for compiler in compilers():
+        for compiler in compilers(setting):
             program = built(setting, compiler, "tests/c/sleeping.c", waiter)
-            run([program])
-        if shutil.which("valgrind"):
+            setting.run(program)
+        if has_valgrind(setting):
             checked(program, "0")
-    return told("with either waiter")
+    return told(setting, "with either waiter")
 
 
 def at_length(compiler: str) -> Callable[[Setting], str]:
     """Many packets on up to eight threads, each of which is compared."""
 
     def check(setting: Setting) -> str:
-        need(compiler)
         program = built(setting, compiler, "tests/c/at_length.c")
-        printed = run([program])
+        printed = setting.run(program)
         if re.fullmatch(r"\d{6,} packets\n", printed) is None:
             raise Failed(f"it printed {printed!r}")
-        if shutil.which("valgrind"):
+        if has_valgrind(setting):
             checked(program, str(FEW))
-        return told(printed)
+        return told(setting, printed)
 
     return check
 

@@ -12,6 +12,7 @@ from making.debian.contents import packed, write
 from making.debian.packages import LIBRARY, MEANS, PYTHON, Package
 from making.library import INTERFACE, VERSION, Unmade, run
 from making.sources import NAME
+from making.targets import Target
 
 MAINTAINER = "Joistdock maintainers <maintainers@users.noreply.joistdock.example>"
 SYMBOLS = Path(__file__).resolve().parents[2] / f"{LIBRARY}.symbols"
@@ -44,8 +45,12 @@ fi
 class Release:
     """What all packages have in common: for which machines compiled files are, and when the sources were committed."""
 
-    architecture: str
+    target: Target
     made: int
+
+    def architecture(self, package: Package) -> str:
+        """For which machines a package is."""
+        return self.target.architecture if package.compiled else "all"
 
 
 def files(root: Path) -> Iterator[Path]:
@@ -70,20 +75,21 @@ def linked(root: Path) -> list[Path]:
     return [it for it in files(root) if not it.is_symlink() and it.read_bytes().startswith(b"\x7fELF")]
 
 
-def strip(root: Path) -> None:
+def strip(root: Path, target: Target) -> None:
     """Takes out what only debuggers read."""
-    sections = ["--remove-section=.comment", "--remove-section=.note"]
+    words: list[str | Path] = [target.tool("strip"), "--remove-section=.comment", "--remove-section=.note"]
     for it in linked(root):
-        run(["strip", "--strip-unneeded", *sections, it])
+        run([*words, "--strip-unneeded", it])
     for it in root.rglob("*.a"):
-        run(["strip", "--strip-debug", "--enable-deterministic-archives", *sections, it])
+        run([*words, "--strip-debug", "--enable-deterministic-archives", it])
 
 
-def libc_of(root: Path) -> str:
+def libc_of(root: Path, target: Target) -> str:
     """The version of the C library that linked files need."""
     needed = [(2, 17)]
     for it in linked(root):
-        needed += [(int(found[1]), int(found[2])) for found in re.finditer(r"GLIBC_(\d+)\.(\d+)", run(["objdump", "-T", it]))]
+        told = run([target.tool("objdump"), "-T", it])
+        needed += [(int(found[1]), int(found[2])) for found in re.finditer(r"GLIBC_(\d+)\.(\d+)", told)]
     return ".".join(map(str, max(needed)))
 
 
@@ -99,14 +105,14 @@ def control(root: Path, package: Package, release: Release) -> str:
     """The file that names the package and what it needs."""
     size = sum((it.lstat().st_size + 1023) // 1024 for it in files(root))
     fields = {"Package": package.name, "Source": NAME} if package.name != NAME else {"Package": NAME}
-    fields |= {"Version": VERSION, "Architecture": release.architecture if package.compiled else "all", "Maintainer": MAINTAINER}
+    fields |= {"Version": VERSION, "Architecture": release.architecture(package), "Maintainer": MAINTAINER}
     fields |= {"Installed-Size": str(size), "Section": package.section, "Priority": "optional"}
-    fields |= {name: it.format(version=VERSION, libc=libc_of(root)) for name, it in package.fields.items()}
+    fields |= {name: it.format(version=VERSION, libc=libc_of(root, release.target)) for name, it in package.fields.items()}
     account = "".join(f" {it or '.'}\n" for it in f"{MEANS}\n\n{package.account}".splitlines())
     return "".join(f"{name}: {it}\n" for name, it in fields.items()) + f"Description: {package.title}\n{account}"
 
 
-def put_library(root: Path) -> None:
+def put_library(root: Path, target: Target) -> None:
     """What dpkg reads of the shared library: what programs over it depend on, which symbols it has, and that the loader's list is made anew."""
     if not SYMBOLS.exists():
         raise Unmade(f"{SYMBOLS} is missing: where the soname is new, rename the symbols file and change its first line")
@@ -114,7 +120,8 @@ def put_library(root: Path) -> None:
     write("activate-noawait ldconfig\n", told / "triggers")
     write(f"lib{NAME} {INTERFACE} {LIBRARY}\n", told / "shlibs")
     shared = next(root.glob(f"usr/lib/*/lib{NAME}.so.{INTERFACE}"))
-    run(["dpkg-gensymbols", "-q", "-c0", f"-p{LIBRARY}", f"-v{VERSION}", f"-I{SYMBOLS}", f"-e{shared}", f"-P{root}", f"-O{told / 'symbols'}"])
+    words: list[str | Path] = ["dpkg-gensymbols", "-q", "-c0", f"-a{target.architecture}", f"-p{LIBRARY}", f"-v{VERSION}"]
+    run([*words, f"-I{SYMBOLS}", f"-e{shared}", f"-P{root}", f"-O{told / 'symbols'}"])
 
 
 def put_scripts(root: Path) -> None:
@@ -131,7 +138,7 @@ def describe(root: Path, package: Package, release: Release) -> None:
     sums = (f"{hashlib.md5(it.read_bytes()).hexdigest()}  {it.relative_to(root)}\n" for it in files(root) if not it.is_symlink())
     write("".join(sums), told / "md5sums")
     if package.name == LIBRARY:
-        put_library(root)
+        put_library(root, release.target)
     if package.name == PYTHON:
         put_scripts(root)
 
@@ -139,14 +146,14 @@ def describe(root: Path, package: Package, release: Release) -> None:
 def build(root: Path, package: Package, release: Release, folder: Path) -> Path:
     """Makes a package of its files, and says where it is."""
     if package.compiled:
-        strip(root)
+        strip(root, release.target)
     document(root, package, release)
     describe(root, package, release)
     for it in root.rglob("*"):
         if it.is_dir() and not it.is_symlink():
             it.chmod(0o755)
     root.chmod(0o755)
-    path = folder / f"{package.name}_{VERSION}_{release.architecture if package.compiled else 'all'}.deb"
+    path = folder / f"{package.name}_{VERSION}_{release.architecture(package)}.deb"
     # No file is newer than the sources, so that these make the same package again.
     run(["dpkg-deb", "--root-owner-group", "--build", root, path], environment={"SOURCE_DATE_EPOCH": str(release.made)})
     shutil.rmtree(root)
