@@ -19,13 +19,12 @@
 #include "rate.h"
 #include "report.h"
 #include "table.h"
+#include "texts.h"
 #include "told.h"
 
-#include <errno.h>
 #include <stdio.h>
-#include <string.h>
 
-enum { MOST_TEXT = 1 << 20 };
+const char told_by[] = "shape";
 
 struct shaper {
     clk_router router;
@@ -35,27 +34,12 @@ struct shaper {
     uint64_t left_out; /* how many frames */
 };
 
-static void open_table(struct shaper *shaper, const char *path) {
-    int wrong = read_table(path, &shaper->table);
-    if (wrong < 0)
-        stop("%s: %s", path, strerror(errno));
-    if (wrong > 0)
-        stop("%s: line %d isn't SENDER ADDRESS PORT", path, wrong);
-}
-
 static void open_router(struct shaper *shaper, const char *path) {
-    // One byte more than the library takes, so that it refuses a text that is longer.
-    static char text[MOST_TEXT + 1];
+    size_t length;
     clk_fault fault;
-    FILE *file = fopen(path, "rb");
-    if (!file)
-        stop("%s: %s", path, strerror(errno));
-    size_t length = fread(text, 1, sizeof text, file);
-    if (ferror(file))
-        stop("%s: %s", path, strerror(errno));
-    fclose(file);
+    const char *text = read_tree(path, &length);
     if (clk_open(text, length, &shaper->router, &fault) != CLK_OK)
-        stop("%s: fault %u: %s at byte %u", path, fault.number, clk_fault_name(fault.number), fault.offset);
+        stop_at_fault(path, &fault);
 }
 
 /* Stops if the table has a sender that the tree lacks. */
@@ -114,7 +98,7 @@ int main(int argc, char **argv) {
     uint64_t rate;
     if (!read_rate(argv[3], &rate))
         stop("'%s' isn't a rate: bits a second from 1 on, as 8000000, 8000k or 8M", argv[3]);
-    open_table(&shaper, argv[2]);
+    open_table(argv[2], &shaper.table);
     open_router(&shaper, argv[1]);
     match_senders(&shaper, argv[1], argv[2]);
     open_in(&shaper.captures, argv[4]);

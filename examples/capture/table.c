@@ -123,6 +123,14 @@ void free_table(struct table *table) {
     *table = (struct table){0};
 }
 
+uint32_t senders_of(const struct table *table) {
+    uint32_t senders = 0;
+    for (size_t i = 0; i < table->length; i++)
+        if (table->lines[i].sender >= senders)
+            senders = table->lines[i].sender + 1u;
+    return senders;
+}
+
 static int same_bits(const uint8_t *one, const uint8_t *other, unsigned bits) {
     unsigned whole = bits / 8, rest = bits % 8;
     if (memcmp(one, other, whole) != 0)

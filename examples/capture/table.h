@@ -26,6 +26,9 @@ int read_table(const char *path, struct table *table);
 /* Frees the lines. */
 void free_table(struct table *table);
 
+/* One more than the greatest sender of a table; 0 if it has no lines. */
+uint32_t senders_of(const struct table *table);
+
 /* The sender of the first line that a packet fits; -1 where it fits none. It looks at one line after the other. */
 int sender_of(const struct table *table, const struct ends *ends);
 

@@ -8,7 +8,7 @@
 #include <unistd.h>
 
 __attribute__((format(printf, 1, 0))) static void tell(const char *format, va_list rest) {
-    fprintf(stderr, "shape: ");
+    fprintf(stderr, "%s: ", told_by);
     vfprintf(stderr, format, rest);
     fprintf(stderr, "\n");
 }

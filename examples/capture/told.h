@@ -4,6 +4,9 @@
 
 #include <stdio.h>
 
+/* The program's name, with which its messages begin. Each program defines it. */
+extern const char told_by[];
+
 /* Writes a message to standard error. */
 __attribute__((format(printf, 1, 2))) void complain(const char *format, ...);
 

@@ -14,6 +14,9 @@ from of_library.module import python
 # The rate of the link in bits a second, and how many microseconds a second has.
 RATE, MICROSECONDS = 8_000_000, 1_000_000
 
+# How a capture of Ethernet frames begins.
+HEADER = struct.pack("<IHHiIII", 0xA1B2C3D4, 2, 4, 0, 0, 65535, 1)
+
 
 @dataclass(frozen=True)
 class Frame:
@@ -33,6 +36,13 @@ def frames_of(path: Path) -> list[Frame]:
         frames.append(Frame(seconds * MICROSECONDS + rest, length, data[at + 16 : at + 16 + kept]))
         at += 16 + kept
     return frames
+
+
+def write_capture(path: Path, frames: list[Frame]) -> Path:
+    """A capture of these frames."""
+    heads = [struct.pack("<IIII", it.time // MICROSECONDS, it.time % MICROSECONDS, len(it.kept), it.length) for it in frames]
+    path.write_bytes(HEADER + b"".join(head + it.kept for head, it in zip(heads, frames)))
+    return path
 
 
 def judge(before: list[Frame], after: list[Frame]) -> None:

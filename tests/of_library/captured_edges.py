@@ -9,12 +9,11 @@ from dataclasses import dataclass, replace
 from pathlib import Path
 from typing import IO
 
-from of_library.captured import MICROSECONDS, Frame, built, cleanly, frames_of, refused
+from of_library.captured import HEADER, Frame, built, cleanly, frames_of, refused, write_capture
 from of_library.checks import Check, Failed, LeftOut, Setting, compare, run
 from of_library.compiled import COMPILERS
 from of_library.module import python
 
-HEADER = struct.pack("<IHHiIII", 0xA1B2C3D4, 2, 4, 0, 0, 65535, 1)
 ONE_SENDER = "a :: Sender(0); q :: Queue(100); d :: ToDevice(x); a -> q -> d;"
 
 
@@ -66,10 +65,7 @@ def text(shaper: Shaper, name: str, words: str) -> Path:
 
 def capture(shaper: Shaper, frames: list[Frame]) -> Path:
     """A capture of these frames."""
-    path = shaper.folder / "made.pcap"
-    heads = [struct.pack("<IIII", it.time // MICROSECONDS, it.time % MICROSECONDS, len(it.kept), it.length) for it in frames]
-    path.write_bytes(HEADER + b"".join(head + it.kept for head, it in zip(heads, frames)))
-    return path
+    return write_capture(shaper.folder / "made.pcap", frames)
 
 
 def udp(port: int) -> bytes:
