@@ -170,8 +170,8 @@ static struct rte_mbuf **packets_of(struct rte_sched_port *port, struct rte_memp
     return own;
 }
 
-/* Dequeues from all rings, and passes on what was there. Returns how many packets came out. */
-static uint64_t pass_on(struct rte_sched_port *port, struct producer *all, uint32_t producers) {
+/* Dequeues from all rings, and passes on what was there, so many packets at once. Returns how many came out. */
+static uint64_t pass_on(struct rte_sched_port *port, struct producer *all, uint32_t producers, unsigned at_once) {
     struct rte_mbuf *burst[BATCH];
     uint64_t came = 0;
     for (uint32_t i = 0; i < producers; i++) {
@@ -180,13 +180,13 @@ static uint64_t pass_on(struct rte_sched_port *port, struct producer *all, uint3
             continue;
         enqueue(port, burst, given);
         for (unsigned left = given; left > 0;)
-            left -= (unsigned)rte_sched_port_dequeue(port, burst, left);
+            left -= (unsigned)rte_sched_port_dequeue(port, burst, left < at_once ? left : at_once);
         came += given;
     }
     return came;
 }
 
-static double with_producers(struct rte_mempool *pool, uint32_t producers, uint64_t packets) {
+static double with_producers(struct rte_mempool *pool, uint32_t producers, uint64_t packets, unsigned at_once) {
     static const struct setting SETTING = {"1 pipe, 8 queues busy", 1, 1, BUSY};
     struct rte_sched_port *port = port_of(&SETTING);
     struct producer all[MOST_PRODUCERS];
@@ -202,7 +202,7 @@ static double with_producers(struct rte_mempool *pool, uint32_t producers, uint6
         need(pthread_create(&threads[i], NULL, produce, &all[i]) == 0, "no thread");
     uint64_t sent = packets / producers * producers;
     for (uint64_t came = 0; came < sent;)
-        came += pass_on(port, all, producers);
+        came += pass_on(port, all, producers, at_once);
     double taken = seconds() - start;
     for (uint32_t i = 0; i < producers; i++) {
         pthread_join(threads[i], NULL);
@@ -214,11 +214,12 @@ static double with_producers(struct rte_mempool *pool, uint32_t producers, uint6
     return (double)sent / taken / 1e6;
 }
 
+/* rte_sched is asked for one packet at a time and for a batch at once, in turn. The faster way counts. */
 static void on_threads(struct rte_mempool *pool, uint64_t packets) {
     for (uint32_t producers = 1; producers <= MOST_PRODUCERS; producers *= 2) {
         double most = 0;
-        for (int round = 0; round < ROUNDS; round++) {
-            double it = with_producers(pool, producers, packets);
+        for (int round = 0; round < 2 * ROUNDS; round++) {
+            double it = with_producers(pool, producers, packets, round % 2 == 0 ? 1 : BATCH);
             most = it > most ? it : most;
         }
         printf("%u\t%.1f\n", producers, most);

@@ -48,13 +48,15 @@ static void close_live(struct bench *bench) {
     clk_live_close(&bench->live);
 }
 
-/* Takes all that waits, and pulls all that is inside. Returns how many packets came out, and adds up their tokens. */
-static uint64_t pass_on(clk_live *live, uint64_t *sum) {
+/* Takes a batch of what waits, as much of each sender as of any other, and pulls all that is inside. Returns how many packets came out, and
+ * adds up their tokens. */
+static uint64_t pass_on(struct bench *bench, uint64_t *sum) {
     clk_taken taken[BATCH];
     clk_emitted emitted[BATCH];
+    clk_live *live = &bench->live;
     size_t given;
     uint64_t came = 0;
-    clk_live_take_in(live, BATCH, taken, BATCH, &given);
+    clk_live_take_in(live, BATCH / bench->senders, taken, BATCH, &given);
     size_t left = given;
     while (left > 0) {
         /* A DRRSched may have to be pulled again. */
@@ -96,7 +98,7 @@ static double offers_alone(struct bench *bench, void (*offer)(clk_inlet *inlet),
             offer(&bench->inlets[0]);
             taken += seconds() - start;
             for (uint64_t came = 0; came < INLET_ROOM;)
-                came += pass_on(&bench->live, &sum);
+                came += pass_on(bench, &sum);
         }
         double it = taken * 1e9 / (double)((packets + INLET_ROOM - 1) / INLET_ROOM * INLET_ROOM);
         least = it < least ? it : least;
@@ -113,7 +115,7 @@ static void round_by_round(void *at, uint64_t packets) {
         for (uint32_t i = 0; i < bench->senders && some < packets; i += bench->each, some++)
             need(clk_inlet_offer(&bench->inlets[i], 100, i, NULL) == CLK_OK, "an offer isn't accepted");
         for (uint64_t came = 0; came < some;)
-            came += pass_on(&bench->live, &sum);
+            came += pass_on(bench, &sum);
         packets -= some;
     }
 }
@@ -173,7 +175,7 @@ static double with_producers(uint32_t producers, uint64_t packets) {
         need(pthread_create(&threads[i], NULL, produce, &all[i]) == 0, "no thread");
     }
     while (clk_live_ended(&bench.live) != CLK_OK || clk_live_drained(&bench.live) != CLK_OK)
-        came += pass_on(&bench.live, &sum);
+        came += pass_on(&bench, &sum);
     double taken = seconds() - start;
     for (uint32_t i = 0; i < producers; i++) {
         pthread_join(threads[i], NULL);
