@@ -1,5 +1,5 @@
 -- What is read of a tree's text, and what follows for what is done over it.
-use Rattle.std.proofs.Common.{◌+◌, ◌≡◌, ℕ, Bool, true, false, nat_lt, List, length, take, option_map, Option, Some, None, Result, Ok, Err, IfSome, refl, sym, subst, ◌∙◌, inl, inr, arith}
+use Rattle.std.proofs.Common.{◌+◌, ◌≡◌, ℕ, Bool, true, false, nat_lt, List, [], length, take, option_map, Option, Some, None, Result, Ok, Err, IfSome, refl, sym, subst, ◌∙◌, inl, inr, arith}
 use Rattle.std.proofs.KnownBytes.{Keeps-refl}
 use Rattle.std.proofs.lemmas.Bool.Decides.{nat_tests}
 use Rattle.std.proofs.lemmas.List.{take_all, length-take}
@@ -9,13 +9,13 @@ use Rattle.clk_syntax.specs.Faults.{text_fault}
 use Rattle.clk_syntax.specs.Limits.{most_tree_bytes}
 use Rattle.clk_tree.specs.Plan.{Planned, Denotes}
 use Rattle.clk_syntax.specs.Reading.{HasFault}
-use Rattle.clk_packet.specs.Bytes.{OfBytes, Wrote}
+use Rattle.clk_packet.specs.Bytes.{OfBytes, Takes, Wrote}
 use Rattle.clk_packet.specs.Written.{WroteWhat}
-use Rattle.clk_command.specs.Tasks.{Does, IsPlanIn, LivesOver, ReportsOver, WroteBoth}
-use Rattle.clk_command.specs.Words.{is_recorded, task, text_of}
+use Rattle.clk_command.specs.Tasks.{DoesWork, IsPlanIn, LivesOver, ReportsOver, WroteBoth}
+use Rattle.clk_command.specs.Words.{is_recorded, text_of, work}
 use Rattle.clk_command.specs.declared.pace.Pace.{Pace}
-use Rattle.clk_command.specs.declared.words.Asked.{Asked}
-use Rattle.clk_command.specs.declared.words.Asked.TheVariants.{Run, Live}
+use Rattle.clk_command.specs.declared.words.Job.{Job}
+use Rattle.clk_command.specs.declared.words.Job.TheVariants.{Run, Live}
 use Rattle.std.specs.Borrow.{Bor}
 
 -- a text without a fault of its own isn't too long
@@ -64,6 +64,11 @@ fault-read (Some all) bytes fault is has = by_test (nat_lt most_tree_bytes (leng
         absurd (cc)
     by_test false t has = subst (λ (text : List ℕ). HasFault text fault) (is ∙ take_all 1048577 all (grind (arith, nat_tests))) has
 
+-- nothing was read
+pub takes-none : (most : ℕ) (known : Option (List ℕ)) → Takes most known known
+takes-none most None = tt
+takes-none most (Some all) = ([], refl, omega arith)
+
 -- writing the text failed
 pub both-first : {T U : Type 0} (P : List ℕ → Type 0) (Q : List ℕ → List ℕ → Type 0) (fault : Fault) (old new visits_old : Option (List ℕ)) → ((text : List ℕ) → P text → (visits : List ℕ) × Q text visits)
     → WroteWhat {T = T} P (Err fault) old new → WroteBoth {T = U} Q old new (Err fault) visits_old visits_old
@@ -87,11 +92,11 @@ both-second P Q x (Err fault) old new visits_old visits_new before after visits 
     }
 
 -- a run was done, as it was asked for
-pub does-run : (asked : Asked) (tree trace : Bor (List ℕ)) (pace : Pace) (visits : Option (Bor (List ℕ))) (input : Option (List ℕ)) (P : List ℕ → Type 0) → asked ≡ Run tree trace pace visits
-    → (text : List ℕ) × ReportsOver None None pace text × P text → Does (task asked) input P
-does-run asked tree trace pace visits input P is h = subst (λ (a : Asked). Does (task a) input P) (sym is) (h.0, pace, refl, refl, h.1, h.2)
+pub does-run : (job : Job) (pace : Pace) (visits : Option (Bor (List ℕ))) (tree trace : Option (List ℕ)) (P : List ℕ → Type 0) → job ≡ Run pace visits
+    → (text : List ℕ) × ReportsOver tree trace pace text × P text → DoesWork (work job) tree trace P
+does-run job pace visits tree trace P is h = subst (λ (j : Job). DoesWork (work j) tree trace P) (sym is) (h.0, pace, refl, refl, h.1, h.2)
 
 -- so was a run through inlets
-pub does-live : (asked : Asked) (tree trace : Bor (List ℕ)) (pace : Pace) (script visits : Option (Bor (List ℕ))) (input : Option (List ℕ)) (P : List ℕ → Type 0) → asked ≡ Live tree trace pace script visits
-    → (text : List ℕ) × (lines : List ℕ) × LivesOver None None pace (is_recorded (option_map text_of script) (option_map text_of visits)) text lines × P text → Does (task asked) input P
-does-live asked tree trace pace script visits input P is h = subst (λ (a : Asked). Does (task a) input P) (sym is) (h.0, h.1, pace, refl, refl, h.2, h.3)
+pub does-live : (job : Job) (pace : Pace) (script visits : Option (Bor (List ℕ))) (tree trace : Option (List ℕ)) (P : List ℕ → Type 0) → job ≡ Live pace script visits
+    → (text : List ℕ) × (lines : List ℕ) × LivesOver tree trace pace (is_recorded (option_map text_of script) (option_map text_of visits)) text lines × P text → DoesWork (work job) tree trace P
+does-live job pace script visits tree trace P is h = subst (λ (j : Job). DoesWork (work j) tree trace P) (sym is) (h.0, h.1, pace, refl, refl, h.2, h.3)

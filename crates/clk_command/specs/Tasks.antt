@@ -1,7 +1,9 @@
 -- What is done for each task, by the bytes of its files, if these are known.
-use Rattle.std.specs.Prelude.{◌≡◌, ◌≢◌, ◌⊎◌, ℕ, Bool, true, List, Option, None, Some, Result, OnOk, IfErr, IsErrOf}
+use Rattle.std.specs.Prelude.{◌≡◌, ◌≢◌, ◌⊎◌, ℕ, Bool, true, List, Option, None, Some, if◌then◌else◌, Result, OnOk, IfErr, IsErrOf}
 use Rattle.std.specs.Io.KnownBytes.{Appends, Keeps}
+use Rattle.std.specs.Str.{bytes_eq}
 use Rattle.clap.specs.Kinds.{Kinds, IsAmong}
+use Rattle.clap.specs.Walk.{Text}
 use Rattle.clap.specs.declared.error.kind.ErrorKind.{ErrorKind}
 use Rattle.clap.specs.declared.error.kind.ErrorKind.TheVariants.{DisplayHelp, DisplayVersion}
 use Rattle.clk_packet.specs.declared.fault.Fault.{Fault}
@@ -14,7 +16,7 @@ use Rattle.clk_report.specs.VisitCsv.{visits_text}
 use Rattle.clk_packet.specs.Bytes.{AppendsFront, OfBytes}
 use Rattle.clk_script.specs.Meaning.{MeansOver, MeansOverWith, ExplainsPlan}
 use Rattle.clk_command.specs.Running.{RunWrites, ExplainsRun, EndsIn, ExplainsLive, LiveWrites}
-use Rattle.clk_command.specs.Words.{Task, builtin, check, script, run, live, is_recorded}
+use Rattle.clk_command.specs.Words.{Task, builtin, check, over, Work, script, run, live, dash, is_recorded}
 use Rattle.clk_command.specs.declared.pace.Pace.{Pace}
 use Rattle.clk_command.specs.declared.builtin.TheConstants.{TEXT}
 
@@ -92,15 +94,23 @@ pub record WroteBoth {T : Type 0} (Means : List ℕ → List ℕ → Type 0) (ol
 abbrev pub builtin_text : List ℕ
 builtin_text = TEXT.now
 
--- This was done for a task, if standard input held these bytes: one of the task's texts was written. The bytes of files aren't known.
+-- the bytes of an input: those of standard input where its path stands for that; of a file none are known
+abbrev pub bytes_at : Text → Option (List ℕ) → Option (List ℕ)
+bytes_at path input = if bytes_eq path dash then input else None
+
+-- This was done over a tree and a second input with these bytes, as far as they are known: one of the work's texts was written.
+abbrev pub DoesWork : Work → (tree input : Option (List ℕ)) → (List ℕ → Type 0) → Type 0
+DoesWork (script visits) tree input Written = (text : List ℕ) × WritesOver tree input text × Written text
+DoesWork (run step limit visits) tree input Written =
+    (text : List ℕ) × (pace : Pace) × (pace.step ≡ step) × (pace.limit ≡ limit) × ReportsOver tree input pace text × Written text
+DoesWork (live step limit record_file visits) tree input Written =
+    (text : List ℕ) × (script_text : List ℕ) × (pace : Pace) × (pace.step ≡ step) × (pace.limit ≡ limit) × LivesOver tree input pace (is_recorded record_file visits) text script_text × Written text
+
+-- This was done for a task, if standard input held these bytes: one of the task's texts was written.
 abbrev pub Does : Task → Option (List ℕ) → (List ℕ → Type 0) → Type 0
 Does builtin input Written = (text : List ℕ) × WritesOver (Some builtin_text) input text × Written text
-Does (check tree) input Written = (text : List ℕ) × IsCanonicalOf None text × Written text
-Does (script tree lines visits) input Written = (text : List ℕ) × WritesOver None None text × Written text
-Does (run tree trace step limit visits) input Written =
-    (text : List ℕ) × (pace : Pace) × (pace.step ≡ step) × (pace.limit ≡ limit) × ReportsOver None None pace text × Written text
-Does (live tree trace step limit record_file visits) input Written =
-    (text : List ℕ) × (script_text : List ℕ) × (pace : Pace) × (pace.step ≡ step) × (pace.limit ≡ limit) × LivesOver None None pace (is_recorded record_file visits) text script_text × Written text
+Does (check tree) input Written = (text : List ℕ) × IsCanonicalOf (bytes_at tree input) text × Written text
+Does (over tree path job) input Written = DoesWork job (bytes_at tree input) (bytes_at path input) Written
 
 -- Help or the version was asked for: clap may return an error of that kind.
 abbrev pub IsQuestion : Kinds → Type 0
@@ -123,10 +133,14 @@ abbrev pub ExplainsLiveOver : Option (List ℕ) → Option (List ℕ) → ℕ �
 ExplainsLiveOver tree trace limit recording fault =
     ((fault ≡ Write) ⊎ ExplainsTree tree fault) ⊎ ((plan : List Planned) × IsPlanIn tree plan × ExplainsLive plan trace limit recording fault)
 
+-- Why some work over a tree and a second input with these bytes fails with a fault.
+abbrev pub ExplainsWork : Work → (tree input : Option (List ℕ)) → Fault → Type 0
+ExplainsWork (script visits) tree input fault = ExplainsScriptOver tree input fault
+ExplainsWork (run step limit visits) tree input fault = ExplainsRunOver tree input fault
+ExplainsWork (live step limit record_file visits) tree input fault = ExplainsLiveOver tree input limit (is_recorded record_file visits) fault
+
 -- Why a task fails with a fault, if standard input held these bytes.
 abbrev pub ExplainsTask : Task → Option (List ℕ) → Fault → Type 0
 ExplainsTask builtin input fault = ExplainsScriptOver (Some builtin_text) input fault
-ExplainsTask (check tree) input fault = (fault ≡ Write) ⊎ ExplainsTree None fault
-ExplainsTask (script tree lines visits) input fault = ExplainsScriptOver None None fault
-ExplainsTask (run tree trace step limit visits) input fault = ExplainsRunOver None None fault
-ExplainsTask (live tree trace step limit record_file visits) input fault = ExplainsLiveOver None None limit (is_recorded record_file visits) fault
+ExplainsTask (check tree) input fault = (fault ≡ Write) ⊎ ExplainsTree (bytes_at tree input) fault
+ExplainsTask (over tree path job) input fault = ExplainsWork job (bytes_at tree input) (bytes_at path input) fault

@@ -1,8 +1,8 @@
 -- What the words after the program's name ask for. How a grammar reads words is clap's own definition (`matches_of`, `subcommand_of`), and
 -- so is which kind of error it returns for words that it doesn't accept (`fault_of`).
-use Rattle.std.specs.Prelude.{◌≡◌, ◌^◌, ◌&&◌, ℕ, Bool, true, false, List, [], ◌∷◌, length, nat_lt, if◌then◌else◌, Option, Some, None, codes, unwrap_or, option_map, pos}
+use Rattle.std.specs.Prelude.{⊤, ◌≡◌, ◌≢◌, ◌⊎◌, ◌^◌, ◌&&◌, ◌||◌, ℕ, Bool, true, false, is_some, IfSome, List, [], ◌∷◌, length, nat_lt, if◌then◌else◌, Option, Some, None, codes, unwrap_or, option_map, pos}
 use Rattle.std.specs.Option.{option_map_or}
-use Rattle.std.specs.List.{list_all}
+use Rattle.std.specs.List.{AllByRecursion, list_all}
 use Rattle.std.specs.Str.{bytes_eq}
 use Rattle.std.specs.Str.Parse.{digits_value, without_leading_plus}
 use Rattle.std.specs.Char.{digit_value}
@@ -13,9 +13,14 @@ use Rattle.clap.specs.declared.builder.command.Command.{Command}
 use Rattle.clap.specs.declared.builder.command.Command.TheViews.{out-Command as fields_of}
 use Rattle.clap.specs.declared.builder.value_parser.ValueParser.TheVariants.{Signed}
 use Rattle.std.specs.Borrow.{Bor}
+use Rattle.clk_packet.specs.Trace.{most_trace_bytes}
+use Rattle.clk_syntax.specs.Limits.{most_tree_bytes}
+use Rattle.clk_script.specs.Script.{most_script_bytes}
 use Rattle.clk_gate.specs.Limits.{most_step, most_limit}
 use Rattle.clk_command.specs.declared.words.Asked.{Asked}
-use Rattle.clk_command.specs.declared.words.Asked.TheVariants.{Builtin, Check, Script, Run, Live}
+use Rattle.clk_command.specs.declared.words.Asked.TheVariants.{Builtin, Check, Over}
+use Rattle.clk_command.specs.declared.words.Job.{Job}
+use Rattle.clk_command.specs.declared.words.Job.TheVariants.{Script, Run, Live}
 
 -- a word that names a file, and is required
 abbrev pub file_word : Text → Rule
@@ -74,19 +79,74 @@ pub record Reads (command : Command) (app : App) : Type 0 where
   pub reads : app_of command ≡ app
   pub local : (fields_of command).has_globals ≡ false
 
--- what the words ask for; files are named by their paths
+-- what is done over a tree and a second input; files are named by their paths
+pub data Work : Type 0 where
+  script : Option Text → Work
+  run : (step limit : ℕ) (visits : Option Text) → Work
+  live : (step limit : ℕ) (record_file visits : Option Text) → Work
+
+-- what the words ask for
 pub data Task : Type 0 where
   builtin : Task
   check : Text → Task
-  script : Text → Text → Option Text → Task
-  run : Text → Text → ℕ → ℕ → Option Text → Task
-  live : (tree trace : Text) (step limit : ℕ) (record_file visits : Option Text) → Task
+  over : (tree input : Text) → Work → Task
 
 -- whether a run is recorded: a file is named for its record or for its visits
 abbrev pub is_recorded : Option Text → Option Text → Bool
 is_recorded None None = false
 is_recorded None (Some visits) = true
 is_recorded (Some record_file) visits = true
+
+-- the path that stands for standard input
+abbrev pub dash : Text
+dash = codes "-"
+
+-- whether a task reads standard input
+abbrev pub reads_input : Task → Bool
+reads_input builtin = true
+reads_input (check tree) = bytes_eq tree dash
+reads_input (over tree input job) = bytes_eq tree dash || bytes_eq input dash
+
+-- how many bytes some work reads of its second input at most
+abbrev pub most_of_work : Work → ℕ
+most_of_work (script visits) = most_script_bytes
+most_of_work (run step limit visits) = most_trace_bytes
+most_of_work (live step limit record_file visits) = most_trace_bytes
+
+-- how many bytes a task reads of standard input at most
+abbrev pub most_of_input : Task → ℕ
+most_of_input builtin = most_script_bytes
+most_of_input (check tree) = most_tree_bytes
+most_of_input (over tree input job) = if bytes_eq tree dash then most_tree_bytes else most_of_work job
+
+-- whether some work writes a file
+abbrev pub writes_file : Work → Bool
+writes_file (script visits) = is_some visits
+writes_file (run step limit visits) = is_some visits
+writes_file (live step limit record_file visits) = is_recorded record_file visits
+
+-- a file that is to be written, if there is one, has another path than these, and than what stands for standard input
+abbrev pub IsApartFrom : Option Text → List Text → Type 0
+IsApartFrom file others = IfSome file (λ (path : Text). AllByRecursion (λ (other : Text). path ≢ other) (dash ∷ others))
+
+-- no file that some work writes has the path of another of its files
+abbrev pub WritesApart : Work → List Text → Type 0
+WritesApart (script visits) inputs = IsApartFrom visits inputs
+WritesApart (run step limit visits) inputs = IsApartFrom visits inputs
+WritesApart (live step limit None visits) inputs = IsApartFrom visits inputs
+WritesApart (live step limit (Some record_file) visits) inputs = IsApartFrom (Some record_file) inputs × IsApartFrom visits (record_file ∷ inputs)
+
+-- At most one input of a task is standard input, and no file that it writes has the path of another of its files.
+abbrev pub AreApart : Task → Type 0
+AreApart builtin = ⊤
+AreApart (check tree) = ⊤
+AreApart (over tree input job) = (tree ≡ dash → input ≢ dash) × WritesApart job (tree ∷ input ∷ [])
+
+-- A task may be one whose files are not apart: it writes a file, or both its inputs are standard input.
+abbrev pub MayClash : Task → Type 0
+MayClash builtin = ⊥
+MayClash (check tree) = ⊥
+MayClash (over tree input job) = ((tree ≡ dash) × (input ≡ dash)) ⊎ (writes_file job ≡ true)
 
 -- whether these are the digits of a number of 32 bits
 abbrev pub is_number : Text → Bool
@@ -112,21 +172,25 @@ path_of rows name = unwrap_or (first_of name rows) []
 abbrev pub text_of : Bor Text → Text
 text_of t = t.now
 
+-- what is to be done over a tree and a second input, with the texts of the paths
+abbrev pub work : Job → Work
+work (Script visits) = script (option_map text_of visits)
+work (Run pace visits) = run pace.step pace.limit (option_map text_of visits)
+work (Live pace record_file visits) = live pace.step pace.limit (option_map text_of record_file) (option_map text_of visits)
+
 -- what is asked for, with the texts of the paths
 abbrev pub task : Asked → Task
 task Builtin = builtin
 task (Check tree) = check tree.now
-task (Script tree script_path visits) = script tree.now script_path.now (option_map text_of visits)
-task (Run tree trace pace visits) = run tree.now trace.now pace.step pace.limit (option_map text_of visits)
-task (Live tree trace pace record_file visits) = live tree.now trace.now pace.step pace.limit (option_map text_of record_file) (option_map text_of visits)
+task (Over tree input job) = over tree.now input.now (work job)
 
 -- what a command asks for, by its name and what was found of its words
 abbrev pub task_by : Text → List Row → Task
 task_by name rows =
     if bytes_eq name (codes "check") then check (path_of rows (codes "TREE"))
-    else if bytes_eq name (codes "script") then script (path_of rows (codes "TREE")) (path_of rows (codes "SCRIPT")) (first_of (codes "visits") rows)
-    else if bytes_eq name (codes "run") then run (path_of rows (codes "TREE")) (path_of rows (codes "TRACE")) (number_of rows (codes "step") most_step) (number_of rows (codes "limit") most_limit) (first_of (codes "visits") rows)
-    else if bytes_eq name (codes "live") then live (path_of rows (codes "TREE")) (path_of rows (codes "TRACE")) (number_of rows (codes "step") most_step) (number_of rows (codes "limit") most_limit) (first_of (codes "record") rows) (first_of (codes "visits") rows)
+    else if bytes_eq name (codes "script") then over (path_of rows (codes "TREE")) (path_of rows (codes "SCRIPT")) (script (first_of (codes "visits") rows))
+    else if bytes_eq name (codes "run") then over (path_of rows (codes "TREE")) (path_of rows (codes "TRACE")) (run (number_of rows (codes "step") most_step) (number_of rows (codes "limit") most_limit) (first_of (codes "visits") rows))
+    else if bytes_eq name (codes "live") then over (path_of rows (codes "TREE")) (path_of rows (codes "TRACE")) (live (number_of rows (codes "step") most_step) (number_of rows (codes "limit") most_limit) (first_of (codes "record") rows) (first_of (codes "visits") rows))
     else builtin
 
 -- what the words ask for by their command, if they have one

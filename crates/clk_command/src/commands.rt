@@ -8,12 +8,15 @@ ghost use Rattle.clap.specs.Values.{kind_of};
 ghost use Rattle.clap.specs.declared.error.kind.ErrorKind.TheVariants.{OutOfMemory, DisplayHelp, DisplayVersion};
 ghost use Rattle.clk_packet.specs.declared.fault.Fault.TheVariants.{Memory, Read, Write};
 ghost use Rattle.clk_packet.specs.Bytes.{Takes, read_failures, write_failures};
+ghost use Rattle.clk_packet.specs.Trace.{most_trace_bytes};
 ghost use Rattle.clk_script.specs.Script.{most_script_bytes};
+ghost use Rattle.clk_syntax.specs.Limits.{most_tree_bytes};
 ghost use Rattle.clk_tree.specs.Plan.{Denotes};
 ghost use Rattle.clk_packet.specs.Written.{WroteWhat};
-ghost use Rattle.clk_command.specs.Tasks.{Does, ExplainsRunOver, ExplainsScriptOver, ExplainsTask, ExplainsTree, IsQuestion, IsMistake, ExplainsLiveOver, LivesOver, WritesOver, ReportsOver, builtin_text};
-ghost use Rattle.clk_command.specs.Words.{builtin, is_recorded, program_words, task, task_in, text_of};
+ghost use Rattle.clk_command.specs.Tasks.{Does, DoesWork, ExplainsWork, ExplainsRunOver, ExplainsScriptOver, ExplainsTask, ExplainsTree, IsQuestion, IsMistake, ExplainsLiveOver, LivesOver, WritesOver, ReportsOver, builtin_text};
+ghost use Rattle.clk_command.specs.Words.{builtin, is_recorded, most_of_input, most_of_work, program_words, reads_input, task, task_in, text_of, work, AreApart, MayClash};
 
+use crate::apart::{Clash, clash_of, is_standard};
 use crate::builtin;
 use crate::files::{FileToRead, FileToWrite};
 use crate::over::{
@@ -21,7 +24,7 @@ use crate::over::{
     script_with_visits,
 };
 use crate::pace::Pace;
-use crate::words::{Asked, asked_by};
+use crate::words::{Asked, Job, asked_by};
 use clap::Error;
 use clap::error::ErrorKind;
 use clk_packet::{Fault, FromRead, Sink, Source, ToWrite, write_all};
@@ -34,7 +37,8 @@ use std::sync::Wait;
 use std::thread::Threads;
 
 /// Does what the words after the program's name ask for. Returns the status that the program ends with: 0 if that is done, or 2 if the
-/// words are wrong; then it writes why to `errors`. It writes help and the version to `writer`.
+/// words are wrong, or if no task can have the files that they name. With 2 it writes why to `errors`, and no file is changed. It writes
+/// help and the version to `writer`.
 ///
 /// - No words: runs the script on `reader` over the built-in tree.
 /// - `check TREE`: writes the canonical text of the tree in the file TREE to `writer`.
@@ -47,6 +51,9 @@ use std::thread::Threads;
 /// - `live TREE TRACE [--step N] [--limit N] [--record FILE] [--visits FILE]`: runs a trace as `run` does, but through inlets. Each sender
 ///   offers to an inlet of its own, and one consumer takes packets from all inlets and pulls the devices. The FILE of `--record` gets the
 ///   record of the run, as a script that ends in the same report. The FILE of `--visits` gets the visits of that script.
+///
+/// One of TREE, SCRIPT and TRACE may be `-`, which stands for `reader`. A FILE can't be another of the files that the words name: it has
+/// another path, and if it exists, it is another file.
 ///
 /// `rt` has the files and starts the threads, and `wait` waits for queues.
 ///
@@ -73,35 +80,64 @@ pub fn command<
     ensures status { IfOk result (λ status. (status ≡ 0) ⊎ (status ≡ 2)) }
     // With status 0, help or the version was asked for, or what the words ask for was done.
     ensures done { result ≡ Ok 0 → IsQuestion (fault_of program_words (map string_bytes words.items))
-        ⊎ ((fault_of program_words (map string_bytes words.items) ≡ [])
+        ⊎ ((fault_of program_words (map string_bytes words.items) ≡ []) × AreApart (task_in (map string_bytes words.items))
         × Does (task_in (map string_bytes words.items)) (R.Source.remaining reader.old) (λ text. Appends (W.Sink.taken writer.old) (W.Sink.taken writer.new) text)) }
-    // With status 2, the words are wrong.
-    ensures mistaken { result ≡ Ok 2 → IsMistake (fault_of program_words (map string_bytes words.items)) }
+    // With status 2, the words are wrong, or name one file for two purposes, one of which is to write it, or standard input for two inputs.
+    ensures mistaken { result ≡ Ok 2 → IsMistake (fault_of program_words (map string_bytes words.items))
+        ⊎ ((fault_of program_words (map string_bytes words.items) ≡ []) × MayClash (task_in (map string_bytes words.items))) }
     // With status 0, nothing is written to `errors`.
     ensures silent { result ≡ Ok 0 → errors.new ≡ errors.old }
-    // If the words are wrong, nothing is read, and nothing is written to `writer`.
+    // With status 2, nothing is read, and nothing is written to `writer`.
     ensures refused { result ≡ Ok 2 → (reader.new ≡ reader.old) × (writer.new ≡ writer.old) }
     // At a fault nothing is written to `writer`, unless a write failed.
     ensures nothing { IfErr result (λ fault. fault ≢ Write → Keeps (W.Sink.taken writer.old) (W.Sink.taken writer.new)) }
     // At a fault other than 1 and 20 the words are right, and what they ask for has the fault.
     ensures fault { IfErr result (λ fault. fault ≢ Write → fault ≢ Memory → (fault_of program_words (map string_bytes words.items) ≡ [])
-        × ExplainsTask (task_in (map string_bytes words.items)) (R.Source.remaining reader.old) fault) }
+        × AreApart (task_in (map string_bytes words.items)) × ExplainsTask (task_in (map string_bytes words.items)) (R.Source.remaining reader.old) fault) }
     // If `writer` or `errors` failed, the fault is 20.
     ensures write_failures { (W.Sink.failures writer.new + E.Sink.failures errors.new ≡ W.Sink.failures writer.old + E.Sink.failures errors.old)
         ⊎ (W.Sink.failures writer.new + E.Sink.failures errors.new ≡ write_failures result (W.Sink.failures writer.old + E.Sink.failures errors.old)) }
-    // If the words name no file, a read of `reader` failed exactly if the fault is 19. Otherwise `reader` is unchanged.
+    // If there are no words, a read of `reader` failed exactly if the fault is 19. If `reader` is no input, it is unchanged.
     ensures read_failures { task_in (map string_bytes words.items) ≡ builtin → R.Source.failures reader.new ≡ read_failures result (R.Source.failures reader.old) }
-    ensures unread { (task_in (map string_bytes words.items) ≡ builtin) ⊎ (reader.new ≡ reader.old) }
-    // At most one byte past the limit of scripts is read from `reader`.
-    ensures limit { Takes (most_script_bytes + 1) (R.Source.remaining reader.old) (R.Source.remaining reader.new) }
+    ensures unread { (reads_input (task_in (map string_bytes words.items)) ≡ true) ⊎ (reader.new ≡ reader.old) }
+    // At most one byte past its limit is read from `reader`.
+    ensures limit { Takes (most_of_input (task_in (map string_bytes words.items)) + 1) (R.Source.remaining reader.old) (R.Source.remaining reader.new) }
 {
     match asked_by(rt.alloc(), &words) {
         Ok(asked) => {
+            if let Some(clash) = clash_of(rt, asked) {
+                return refuse(clash, errors);
+            }
             perform(rt, wait, asked, reader, writer)?;
             Ok(0)
         }
         Err(error) => tell(rt.alloc(), &error, writer, errors),
     }
+}
+
+/// Says why no task can have the files that the words name. Returns the status that the program ends with.
+fn refuse<E: Sink>(clash: Clash<'_>, errors: &mut E) -> Result<u8, Fault>
+    ensures status { IfOk result (λ status. status ≡ 2) }
+    ensures fault { IfErr result (λ fault. fault ≡ Write) }
+    ensures write_failures { E.Sink.failures errors.new ≡ write_failures result (E.Sink.failures errors.old) }
+{
+    match clash {
+        Clash::TwoInputs => {
+            write_all(
+                errors,
+                b"error: '-' stands for standard input, which can't be two inputs\n",
+            )?;
+        }
+        Clash::Overwritten(path) => {
+            write_all(
+                errors,
+                b"error: what is read, or written for something else, can't be written to: ",
+            )?;
+            write_all(errors, path.as_bytes())?;
+            write_all(errors, b"\n")?;
+        }
+    }
+    Ok(2)
 }
 
 /// Does what the words ask for. Opens a file when it is first read or written.
@@ -112,36 +148,68 @@ fn perform<H: Files + AllocGlobal + Threads + Wait, P: Wait + Sync, R: Source, W
     reader: &mut R,
     writer: &mut W,
 ) -> Result<(), Fault>
+    requires apart { AreApart (task asked) }
     ensures done { OnOk result (Does (task asked.entry) (R.Source.remaining reader.old) (λ text. Appends (W.Sink.taken writer.old) (W.Sink.taken writer.new) text)) }
     ensures nothing { IfErr result (λ fault. fault ≢ Write → Keeps (W.Sink.taken writer.old) (W.Sink.taken writer.new)) }
     ensures fault { IfErr result (ExplainsTask (task asked.entry) (R.Source.remaining reader.old)) }
     ensures write_failures { (W.Sink.failures writer.new ≡ W.Sink.failures writer.old)
         ⊎ (W.Sink.failures writer.new ≡ write_failures result (W.Sink.failures writer.old)) }
     ensures read_failures { task asked.entry ≡ builtin → R.Source.failures reader.new ≡ read_failures result (R.Source.failures reader.old) }
-    ensures unread { (task asked.entry ≡ builtin) ⊎ (reader.new ≡ reader.old) }
-    ensures limit { Takes (most_script_bytes + 1) (R.Source.remaining reader.old) (R.Source.remaining reader.new) }
+    ensures unread { (reads_input (task asked.entry) ≡ true) ⊎ (reader.new ≡ reader.old) }
+    ensures limit { Takes (most_of_input (task asked.entry) + 1) (R.Source.remaining reader.old) (R.Source.remaining reader.new) }
 {
     match asked {
         Asked::Builtin => script_builtin(rt.alloc(), reader, writer),
-        Asked::Check { tree } => check_tree(rt.alloc(), &mut source(rt, tree), writer),
-        Asked::Script {
-            tree,
-            script,
-            visits,
-        } => script_files(rt, tree, script, visits, writer),
-        Asked::Run {
-            tree,
-            trace,
-            pace,
-            visits,
-        } => run_files(rt, wait, tree, trace, pace, visits, writer),
-        Asked::Live {
-            tree,
-            trace,
+        Asked::Check { tree } => {
+            if is_standard(tree) {
+                return check_tree(rt.alloc(), reader, writer);
+            }
+            check_tree(rt.alloc(), &mut source(rt, tree), writer)
+        }
+        Asked::Over { tree, input, job } => {
+            if is_standard(tree) {
+                return do_job(rt, wait, job, reader, &mut source(rt, input), writer);
+            }
+            if is_standard(input) {
+                return do_job(rt, wait, job, &mut source(rt, tree), reader, writer);
+            }
+            do_job(
+                rt,
+                wait,
+                job,
+                &mut source(rt, tree),
+                &mut source(rt, input),
+                writer,
+            )
+        }
+    }
+}
+
+/// Does what is asked for over a tree and a second input.
+fn do_job<H: Files + AllocGlobal + Threads + Wait, P: Wait + Sync, T: Source, S: Source, W: Sink>(
+    rt: &H,
+    wait: &P,
+    job: Job<'_>,
+    tree: &mut T,
+    input: &mut S,
+    writer: &mut W,
+) -> Result<(), Fault>
+    ensures done { OnOk result (DoesWork (work job.entry) (T.Source.remaining tree.old) (S.Source.remaining input.old) (λ text. Appends (W.Sink.taken writer.old) (W.Sink.taken writer.new) text)) }
+    ensures fault { IfErr result (ExplainsWork (work job.entry) (T.Source.remaining tree.old) (S.Source.remaining input.old)) }
+    ensures nothing { IfErr result (λ fault. fault ≢ Write → Keeps (W.Sink.taken writer.old) (W.Sink.taken writer.new)) }
+    ensures write_failures { (W.Sink.failures writer.new ≡ W.Sink.failures writer.old)
+        ⊎ (W.Sink.failures writer.new ≡ write_failures result (W.Sink.failures writer.old)) }
+    ensures tree_limit { Takes (most_tree_bytes + 1) (T.Source.remaining tree.old) (T.Source.remaining tree.new) }
+    ensures input_limit { Takes (most_of_work (work job.entry) + 1) (S.Source.remaining input.old) (S.Source.remaining input.new) }
+{
+    match job {
+        Job::Script { visits } => script_job(rt, tree, input, visits, writer),
+        Job::Run { pace, visits } => run_job(rt, wait, tree, input, pace, visits, writer),
+        Job::Live {
             pace,
             record,
             visits,
-        } => live_files(rt, wait, tree, trace, pace, record, visits, writer),
+        } => live_job(rt, wait, tree, input, pace, record, visits, writer),
     }
 }
 
@@ -161,82 +229,74 @@ fn script_builtin<R: Source, W: Sink>(
     run_script(alloc, reader, writer, &plan)
 }
 
-/// Runs a script over a tree, both in files, and writes its visits to a third file, if one is named.
-fn script_files<H: Files + AllocGlobal, W: Sink>(
+/// Runs a script over a tree, and writes its visits to a file, if one is named.
+fn script_job<H: Files + AllocGlobal, T: Source, S: Source, W: Sink>(
     rt: &H,
-    tree: &str,
-    script: &str,
+    tree: &mut T,
+    script: &mut S,
     visits: Option<&str>,
     writer: &mut W,
 ) -> Result<(), Fault>
-    ensures written { OnOk result ((text : _) × WritesOver None None text × Appends (W.Sink.taken writer.old) (W.Sink.taken writer.new) text) }
-    ensures fault { IfErr result (ExplainsScriptOver None None) }
+    ensures written { OnOk result ((text : _) × WritesOver (T.Source.remaining tree.old) (S.Source.remaining script.old) text × Appends (W.Sink.taken writer.old) (W.Sink.taken writer.new) text) }
+    ensures fault { IfErr result (ExplainsScriptOver (T.Source.remaining tree.old) (S.Source.remaining script.old)) }
     ensures nothing { IfErr result (λ fault. fault ≢ Write → Keeps (W.Sink.taken writer.old) (W.Sink.taken writer.new)) }
     ensures write_failures { (W.Sink.failures writer.new ≡ W.Sink.failures writer.old)
         ⊎ (W.Sink.failures writer.new ≡ write_failures result (W.Sink.failures writer.old)) }
+    ensures tree_limit { Takes (most_tree_bytes + 1) (T.Source.remaining tree.old) (T.Source.remaining tree.new) }
+    ensures script_limit { Takes (most_script_bytes + 1) (S.Source.remaining script.old) (S.Source.remaining script.new) }
 {
-    let (mut tree, mut script) = (source(rt, tree), source(rt, script));
     match visits {
-        None => script_over(rt.alloc(), &mut tree, &mut script, writer),
-        Some(path) => {
-            let mut visits = sink(rt, path);
-            script_with_visits(rt.alloc(), &mut tree, &mut script, writer, &mut visits)
-        }
+        None => script_over(rt.alloc(), tree, script, writer),
+        Some(path) => script_with_visits(rt.alloc(), tree, script, writer, &mut sink(rt, path)),
     }
 }
 
-/// Runs a trace over a tree, both in files, and writes its visits to a third file, if one is named.
-fn run_files<H: Files + AllocGlobal + Threads + Wait, P: Wait + Sync, W: Sink>(
+/// Runs a trace over a tree, and writes its visits to a file, if one is named.
+fn run_job<H: Files + AllocGlobal + Threads + Wait, P: Wait + Sync, T: Source, S: Source, W: Sink>(
     rt: &H,
     wait: &P,
-    tree: &str,
-    trace: &str,
+    tree: &mut T,
+    trace: &mut S,
     pace: Pace,
     visits: Option<&str>,
     writer: &mut W,
 ) -> Result<(), Fault>
-    ensures written { OnOk result ((text : _) × ReportsOver None None pace text × Appends (W.Sink.taken writer.old) (W.Sink.taken writer.new) text) }
-    ensures fault { IfErr result (ExplainsRunOver None None) }
+    ensures written { OnOk result ((text : _) × ReportsOver (T.Source.remaining tree.old) (S.Source.remaining trace.old) pace text × Appends (W.Sink.taken writer.old) (W.Sink.taken writer.new) text) }
+    ensures fault { IfErr result (ExplainsRunOver (T.Source.remaining tree.old) (S.Source.remaining trace.old)) }
     ensures nothing { IfErr result (λ fault. fault ≢ Write → Keeps (W.Sink.taken writer.old) (W.Sink.taken writer.new)) }
     ensures write_failures { (W.Sink.failures writer.new ≡ W.Sink.failures writer.old)
         ⊎ (W.Sink.failures writer.new ≡ write_failures result (W.Sink.failures writer.old)) }
+    ensures tree_limit { Takes (most_tree_bytes + 1) (T.Source.remaining tree.old) (T.Source.remaining tree.new) }
+    ensures trace_limit { Takes (most_trace_bytes + 1) (S.Source.remaining trace.old) (S.Source.remaining trace.new) }
 {
-    let (mut tree, mut trace) = (source(rt, tree), source(rt, trace));
     let alloc = rt.alloc();
     match visits {
-        None => run_over(rt, alloc, wait, &mut tree, &mut trace, writer, pace),
+        None => run_over(rt, alloc, wait, tree, trace, writer, pace),
         Some(path) => {
             let mut visits = sink(rt, path);
-            run_with_visits(
-                rt,
-                alloc,
-                wait,
-                &mut tree,
-                &mut trace,
-                writer,
-                pace,
-                &mut visits,
-            )
+            run_with_visits(rt, alloc, wait, tree, trace, writer, pace, &mut visits)
         }
     }
 }
 
-/// Runs a trace through inlets over a tree, both in files, and writes its record and its visits to two more files, if these are named.
-fn live_files<H: Files + AllocGlobal + Threads + Wait, P: Wait + Sync, W: Sink>(
+/// Runs a trace through inlets over a tree, and writes its record and its visits to files, if these are named.
+fn live_job<H: Files + AllocGlobal + Threads + Wait, P: Wait + Sync, T: Source, S: Source, W: Sink>(
     rt: &H,
     wait: &P,
-    tree: &str,
-    trace: &str,
+    tree: &mut T,
+    trace: &mut S,
     pace: Pace,
     script: Option<&str>,
     visits: Option<&str>,
     writer: &mut W,
 ) -> Result<(), Fault>
-    ensures written { OnOk result ((text : _) × (lines : _) × LivesOver None None pace (is_recorded (option_map text_of script.entry) (option_map text_of visits.entry)) text lines × Appends (W.Sink.taken writer.old) (W.Sink.taken writer.new) text) }
-    ensures fault { IfErr result (ExplainsLiveOver None None pace.limit (is_recorded (option_map text_of script.entry) (option_map text_of visits.entry))) }
+    ensures written { OnOk result ((text : _) × (lines : _) × LivesOver (T.Source.remaining tree.old) (S.Source.remaining trace.old) pace (is_recorded (option_map text_of script.entry) (option_map text_of visits.entry)) text lines × Appends (W.Sink.taken writer.old) (W.Sink.taken writer.new) text) }
+    ensures fault { IfErr result (ExplainsLiveOver (T.Source.remaining tree.old) (S.Source.remaining trace.old) pace.limit (is_recorded (option_map text_of script.entry) (option_map text_of visits.entry))) }
     ensures nothing { IfErr result (λ fault. fault ≢ Write → Keeps (W.Sink.taken writer.old) (W.Sink.taken writer.new)) }
     ensures write_failures { (W.Sink.failures writer.new ≡ W.Sink.failures writer.old)
         ⊎ (W.Sink.failures writer.new ≡ write_failures result (W.Sink.failures writer.old)) }
+    ensures tree_limit { Takes (most_tree_bytes + 1) (T.Source.remaining tree.old) (T.Source.remaining tree.new) }
+    ensures trace_limit { Takes (most_trace_bytes + 1) (S.Source.remaining trace.old) (S.Source.remaining trace.new) }
 {
     match (script, visits) {
         (None, None) => live_to(rt, wait, tree, trace, pace, false, nowhere(), writer),
@@ -248,57 +308,73 @@ fn live_files<H: Files + AllocGlobal + Threads + Wait, P: Wait + Sync, W: Sink>(
     }
 }
 
-/// Runs a trace through inlets over a tree, both in files, and writes the record to a sink, if it is to be recorded.
-fn live_to<H: Files + AllocGlobal + Threads + Wait, P: Wait + Sync, R: Sink + Drop, W: Sink>(
+/// Runs a trace through inlets over a tree, and writes the record to a sink, if it is to be recorded.
+fn live_to<
+    H: AllocGlobal + Threads + Wait,
+    P: Wait + Sync,
+    T: Source,
+    S: Source,
+    R: Sink + Drop,
+    W: Sink,
+>(
     rt: &H,
     wait: &P,
-    tree: &str,
-    trace: &str,
+    tree: &mut T,
+    trace: &mut S,
     pace: Pace,
     recording: bool,
     script: R,
     writer: &mut W,
 ) -> Result<(), Fault>
-    ensures written { OnOk result ((text : _) × (lines : _) × LivesOver None None pace recording text lines × Appends (W.Sink.taken writer.old) (W.Sink.taken writer.new) text) }
-    ensures fault { IfErr result (ExplainsLiveOver None None pace.limit recording) }
+    ensures written { OnOk result ((text : _) × (lines : _) × LivesOver (T.Source.remaining tree.old) (S.Source.remaining trace.old) pace recording text lines × Appends (W.Sink.taken writer.old) (W.Sink.taken writer.new) text) }
+    ensures fault { IfErr result (ExplainsLiveOver (T.Source.remaining tree.old) (S.Source.remaining trace.old) pace.limit recording) }
     ensures nothing { IfErr result (λ fault. fault ≢ Write → Keeps (W.Sink.taken writer.old) (W.Sink.taken writer.new)) }
     ensures write_failures { (W.Sink.failures writer.new ≡ W.Sink.failures writer.old)
         ⊎ (W.Sink.failures writer.new ≡ write_failures result (W.Sink.failures writer.old)) }
+    ensures tree_limit { Takes (most_tree_bytes + 1) (T.Source.remaining tree.old) (T.Source.remaining tree.new) }
+    ensures trace_limit { Takes (most_trace_bytes + 1) (S.Source.remaining trace.old) (S.Source.remaining trace.new) }
 {
-    let (mut tree, mut trace) = (source(rt, tree), source(rt, trace));
     let alloc = rt.alloc();
     let _ = live_over(
-        rt, alloc, wait, &mut tree, &mut trace, writer, pace, recording, script,
+        rt, alloc, wait, tree, trace, writer, pace, recording, script,
     )?;
     Ok(())
 }
 
-/// Runs a trace through inlets over a tree, both in files. Writes the record to a sink, and the visits of the record to a third file.
-fn live_visits_to<H: Files + AllocGlobal + Threads + Wait, P: Wait + Sync, R: Sink + Drop, W: Sink>(
+/// Runs a trace through inlets over a tree. Writes the record to a sink, and the visits of the record to a file.
+fn live_visits_to<
+    H: Files + AllocGlobal + Threads + Wait,
+    P: Wait + Sync,
+    T: Source,
+    S: Source,
+    R: Sink + Drop,
+    W: Sink,
+>(
     rt: &H,
     wait: &P,
-    tree: &str,
-    trace: &str,
+    tree: &mut T,
+    trace: &mut S,
     pace: Pace,
     script: R,
     visits: &str,
     writer: &mut W,
 ) -> Result<(), Fault>
-    ensures written { OnOk result ((text : _) × (lines : _) × LivesOver None None pace true text lines × Appends (W.Sink.taken writer.old) (W.Sink.taken writer.new) text) }
-    ensures fault { IfErr result (ExplainsLiveOver None None pace.limit true) }
+    ensures written { OnOk result ((text : _) × (lines : _) × LivesOver (T.Source.remaining tree.old) (S.Source.remaining trace.old) pace true text lines × Appends (W.Sink.taken writer.old) (W.Sink.taken writer.new) text) }
+    ensures fault { IfErr result (ExplainsLiveOver (T.Source.remaining tree.old) (S.Source.remaining trace.old) pace.limit true) }
     ensures nothing { IfErr result (λ fault. fault ≢ Write → Keeps (W.Sink.taken writer.old) (W.Sink.taken writer.new)) }
     ensures write_failures { (W.Sink.failures writer.new ≡ W.Sink.failures writer.old)
         ⊎ (W.Sink.failures writer.new ≡ write_failures result (W.Sink.failures writer.old)) }
+    ensures tree_limit { Takes (most_tree_bytes + 1) (T.Source.remaining tree.old) (T.Source.remaining tree.new) }
+    ensures trace_limit { Takes (most_trace_bytes + 1) (S.Source.remaining trace.old) (S.Source.remaining trace.new) }
 {
-    let (mut tree, mut trace) = (source(rt, tree), source(rt, trace));
     let (mut script, mut visits) = (script, sink(rt, visits));
     let alloc = rt.alloc();
     live_with_visits(
         rt,
         alloc,
         wait,
-        &mut tree,
-        &mut trace,
+        tree,
+        trace,
         writer,
         pace,
         &mut script,

@@ -10,18 +10,25 @@ ghost use Rattle.clk_script.specs.Examples.{failed};
 ghost use Rattle.clk_command.specs.Examples.{IsOneByteEach};
 ghost use Rattle.clk_tree.specs.Plan.{Planned};
 ghost use Rattle.clk_command.specs.Tasks.{IsPlanIn, WasTreeRead, WroteBoth, builtin_text};
-ghost use Rattle.clk_command.specs.Words.{program_words, task_in, builtin, check, script, run, live};
+ghost use Rattle.clk_command.specs.Words.{program_words, task_in, builtin, check, over, script, run, live, AreApart};
 
-/// What some words ask for, and which kinds of error some wrong words cause.
+/// What some words ask for, which kinds of error some wrong words cause, and which tasks would overwrite a file of theirs.
 pub fn word_examples()
     ensures none { (fault_of program_words [] ≡ []) × (task_in [] ≡ builtin) }
     ensures checks { (fault_of program_words (codes "check" ∷ codes "T" ∷ []) ≡ []) × (task_in (codes "check" ∷ codes "T" ∷ []) ≡ check (codes "T")) }
-    ensures scripts { task_in (codes "script" ∷ codes "T" ∷ codes "S" ∷ []) ≡ script (codes "T") (codes "S") None }
-    ensures visits { task_in (codes "script" ∷ codes "--visits" ∷ codes "V" ∷ codes "T" ∷ codes "S" ∷ []) ≡ script (codes "T") (codes "S") (Some (codes "V")) }
-    ensures runs { task_in (codes "run" ∷ codes "T" ∷ codes "R" ∷ []) ≡ run (codes "T") (codes "R") 1 1000 None }
-    ensures paces { task_in (codes "run" ∷ codes "T" ∷ codes "--step=10" ∷ codes "R" ∷ codes "--limit" ∷ codes "7" ∷ []) ≡ run (codes "T") (codes "R") 10 7 None }
-    ensures lives { task_in (codes "live" ∷ codes "T" ∷ codes "R" ∷ []) ≡ live (codes "T") (codes "R") 1 1000 None None }
-    ensures records { task_in (codes "live" ∷ codes "--record" ∷ codes "S" ∷ codes "T" ∷ codes "R" ∷ codes "--step" ∷ codes "3" ∷ codes "--limit=9" ∷ codes "--visits=V" ∷ []) ≡ live (codes "T") (codes "R") 3 9 (Some (codes "S")) (Some (codes "V")) }
+    ensures scripts { task_in (codes "script" ∷ codes "T" ∷ codes "S" ∷ []) ≡ over (codes "T") (codes "S") (script None) }
+    ensures visits { task_in (codes "script" ∷ codes "--visits" ∷ codes "V" ∷ codes "T" ∷ codes "S" ∷ []) ≡ over (codes "T") (codes "S") (script (Some (codes "V"))) }
+    ensures runs { task_in (codes "run" ∷ codes "T" ∷ codes "R" ∷ []) ≡ over (codes "T") (codes "R") (run 1 1000 None) }
+    ensures paces { task_in (codes "run" ∷ codes "T" ∷ codes "--step=10" ∷ codes "R" ∷ codes "--limit" ∷ codes "7" ∷ []) ≡ over (codes "T") (codes "R") (run 10 7 None) }
+    ensures lives { task_in (codes "live" ∷ codes "T" ∷ codes "R" ∷ []) ≡ over (codes "T") (codes "R") (live 1 1000 None None) }
+    ensures records { task_in (codes "live" ∷ codes "--record" ∷ codes "S" ∷ codes "T" ∷ codes "R" ∷ codes "--step" ∷ codes "3" ∷ codes "--limit=9" ∷ codes "--visits=V" ∷ []) ≡ over (codes "T") (codes "R") (live 3 9 (Some (codes "S")) (Some (codes "V"))) }
+    ensures apart { AreApart (over (codes "T") (codes "-") (live 1 1 (Some (codes "S")) (Some (codes "V")))) }
+    ensures not_over_the_script { ¬ (AreApart (over (codes "T") (codes "S") (script (Some (codes "S"))))) }
+    ensures not_over_the_tree { ¬ (AreApart (over (codes "T") (codes "R") (run 1 1 (Some (codes "T"))))) }
+    ensures not_over_the_trace { ¬ (AreApart (over (codes "T") (codes "R") (live 1 1 (Some (codes "R")) None))) }
+    ensures not_over_the_record { ¬ (AreApart (over (codes "T") (codes "R") (live 1 1 (Some (codes "V")) (Some (codes "V"))))) }
+    ensures not_over_standard_input { ¬ (AreApart (over (codes "T") (codes "S") (script (Some (codes "-"))))) }
+    ensures not_two_inputs { ¬ (AreApart (over (codes "-") (codes "-") (script None))) }
     ensures no_trace { fault_of program_words (codes "run" ∷ codes "T" ∷ []) ≡ MissingRequiredArgument ∷ [] }
     ensures no_step { fault_of program_words (codes "run" ∷ codes "T" ∷ codes "R" ∷ codes "--step" ∷ codes "0" ∷ []) ≡ ValueValidation ∷ [] }
     ensures no_record_of_a_run { fault_of program_words (codes "run" ∷ codes "T" ∷ codes "R" ∷ codes "--record" ∷ codes "S" ∷ []) ≡ UnknownArgument ∷ [] }

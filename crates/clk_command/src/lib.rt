@@ -2,6 +2,7 @@
 //! faults.
 #![tactic(auto)]
 
+mod apart;
 mod builtin;
 mod commands;
 mod examples;

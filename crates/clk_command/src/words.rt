@@ -15,7 +15,7 @@ use clap::{Arg, ArgMatches, Command, Error, value_parser};
 use clk_drain::{MAX_LIMIT, MAX_STEP};
 use std::alloc::{AllocError, Global};
 
-/// What the words ask for. A file is named by its path.
+/// What the words ask for. A file is named by its path, and `-` stands for standard input.
 #[derive(Clone, Copy)]
 pub enum Asked<'a> {
     /// The script on standard input, over the built-in tree.
@@ -25,32 +25,34 @@ pub enum Asked<'a> {
         /// The file of the tree.
         tree: &'a str,
     },
-    /// A script over a tree.
-    Script {
+    /// What is done over a tree and a second input.
+    Over {
         /// The file of the tree.
         tree: &'a str,
-        /// The file of the script.
-        script: &'a str,
+        /// The file of the script or the trace.
+        input: &'a str,
+        /// What is done.
+        job: Job<'a>,
+    },
+}
+
+/// What is done over a tree and a second input.
+#[derive(Clone, Copy)]
+pub enum Job<'a> {
+    /// The script is run.
+    Script {
         /// The file that its visits are written to, if one is named.
         visits: Option<&'a str>,
     },
-    /// A trace over a tree.
+    /// The trace is run.
     Run {
-        /// The file of the tree.
-        tree: &'a str,
-        /// The file of the trace.
-        trace: &'a str,
         /// How devices are pulled while the producers run.
         pace: Pace,
         /// The file that its visits are written to, if one is named.
         visits: Option<&'a str>,
     },
-    /// A trace over a tree, through inlets.
+    /// The trace is run through inlets.
     Live {
-        /// The file of the tree.
-        tree: &'a str,
-        /// The file of the trace.
-        trace: &'a str,
         /// How devices are pulled while the senders send.
         pace: Pace,
         /// The file that the record of the run is written to, if one is named.
@@ -80,23 +82,29 @@ fn asked_of<'a>(matches: &ArgMatches<'a>) -> Asked<'a>
         Some(("check", found)) => Asked::Check {
             tree: path_of(found, TREE),
         },
-        Some(("script", found)) => Asked::Script {
+        Some(("script", found)) => Asked::Over {
             tree: path_of(found, TREE),
-            script: path_of(found, SCRIPT),
-            visits: option_of(found, VISITS),
+            input: path_of(found, SCRIPT),
+            job: Job::Script {
+                visits: option_of(found, VISITS),
+            },
         },
-        Some(("run", found)) => Asked::Run {
+        Some(("run", found)) => Asked::Over {
             tree: path_of(found, TREE),
-            trace: path_of(found, TRACE),
-            pace: pace_of(found),
-            visits: option_of(found, VISITS),
+            input: path_of(found, TRACE),
+            job: Job::Run {
+                pace: pace_of(found),
+                visits: option_of(found, VISITS),
+            },
         },
-        Some(("live", found)) => Asked::Live {
+        Some(("live", found)) => Asked::Over {
             tree: path_of(found, TREE),
-            trace: path_of(found, TRACE),
-            pace: pace_of(found),
-            record: option_of(found, RECORD),
-            visits: option_of(found, VISITS),
+            input: path_of(found, TRACE),
+            job: Job::Live {
+                pace: pace_of(found),
+                record: option_of(found, RECORD),
+                visits: option_of(found, VISITS),
+            },
         },
         _ => Asked::Builtin,
     }
@@ -177,6 +185,9 @@ const MORE: &str = "\
 Without a command, the script on standard input runs over a built-in tree: senders 0 and 1, each with a
 queue of two packets, and a PrioSched that asks the queue of sender 0 first.
 
+One of the files to read may be '-', which is standard input; a file of that name is './-'. A file whose name
+isn't UTF-8 can't be named: standard input can be that file.
+
 Examples:
   printf 'send 0 100\\npull 0\\n' | clickpull
   clickpull check uplink.click
@@ -187,7 +198,10 @@ Examples:
 Exit status:
   0  done
   1  a fault: one line on standard error tells it, as 'fault 16: BadScript 2' of a script's second line
-  2  the words after the program's name are wrong: standard error says how";
+  2  the words after the program's name are wrong, or have a file overwritten that they name for something else
+     too: standard error says how, and no file is changed
+
+Where what takes the output is closed, as by 'head', the program ends with fault 20.";
 
 /// The words of the whole program.
 fn program<'a>(alloc: Global) -> Result<Command<'a>, AllocError>
@@ -248,12 +262,14 @@ Commands of a script:
   drain M   the link pulls one tick apart until every packet is out, first one tick after M, or after the moment so
             far where that is later; then each sender is accounted for
 
+Blank lines are skipped, and there are no comments.
+
 Of a tree with several devices the line of a pull names the device, as 'pull 3 1: none', and a drain empties them
 one after the other, each first one tick after M, or after its own moment so far where that is later.
 
 The tree is read and checked before the script is opened, and the whole script before anything is printed.
 With --visits FILE the log of its pulls is written to FILE after the answer, as CSV with a row for each visit
-that a scheduler or the link made. A file that is there is overwritten.
+that a scheduler or the link made. A file that is there is overwritten; FILE can't be the tree or the script.
 
 Examples:
   clickpull script uplink.click morning.script
@@ -290,7 +306,7 @@ the queues have room for all that is sent, the report is the same in each.
 A record of the trace has sender S (0 to 65535) send a packet of L bytes (1 to 65535). The tree is read and
 checked before the trace is opened, and the whole trace before anything is sent. With --visits FILE the log of
 the pulls is written to FILE after the report, as CSV with a row for each visit that a scheduler or a device
-made. A file that is there is overwritten.
+made. A file that is there is overwritten; FILE can't be the tree or the trace.
 
 Examples:
   clickpull run uplink.click morning.trace
@@ -321,7 +337,7 @@ is accounted for. 'run' and 'live' may differ in which packets a full queue refu
 With --record FILE all that happens while senders send is written to FILE, as a script that ends with 'drain 0'.
 'clickpull script TREE FILE' then prints what became of each packet, and ends in the same report. With --visits
 FILE the record is replayed, and the log of its visits is written to FILE after the report, as by 'clickpull
-script --visits'. A file that is there is overwritten.
+script --visits'. A file that is there is overwritten; neither FILE can be the tree, the trace or the other FILE.
 
 A record has at most as many lines as a script, 1000000. With --record or --visits a run ends with fault 18
 before a thread starts if the packets of the trace and --limit pulls of each device are 1000000 or more together.

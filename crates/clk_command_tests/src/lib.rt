@@ -4,6 +4,8 @@
 #[cfg(test)]
 mod answer;
 #[cfg(test)]
+mod apart;
+#[cfg(test)]
 mod calling;
 #[cfg(test)]
 mod command;

@@ -1,0 +1,108 @@
+//! Which files a task may have: at most one input is standard input, and files that are written are others than those that are read.
+
+ghost use Rattle.std.specs.Prelude.{◌≡◌, ◌≢◌, ◌∷◌, [], ℕ, List, None, Some, true, false, map, option_map, IfSome, IsSome};
+ghost use Rattle.std.specs.List.{AllByRecursion};
+ghost use Rattle.std.specs.Str.{bytes_eq};
+ghost use Rattle.clk_command.specs.Words.{dash, task, work, text_of, writes_file, AreApart, IsApartFrom, MayClash, WritesApart};
+
+use crate::words::{Asked, Job};
+use std::fs;
+use std::os::unix::fs::MetadataExt;
+use std::rt::Files;
+
+/// The path that stands for standard input.
+const DASH: &str = "-";
+
+/// Why no task can have the files that the words name.
+#[derive(Clone, Copy)]
+pub enum Clash<'a> {
+    /// Both inputs are standard input.
+    TwoInputs,
+    /// The file at this path would be overwritten, though another of the words names it too, or it stands for standard input.
+    Overwritten(&'a str),
+}
+
+/// Whether a path stands for standard input.
+pub fn is_standard(path: &str) -> bool
+    ensures { result ≡ bytes_eq path.now dash }
+{
+    path == DASH
+}
+
+/// Why a task can't have the files that the words name, if it can't.
+pub fn clash_of<'a, H: Files>(rt: &H, asked: Asked<'a>) -> Option<Clash<'a>>
+    ensures apart { result ≡ None → AreApart (task asked.entry) }
+    ensures clashes { IsSome result → MayClash (task asked.entry) }
+{
+    let Asked::Over { tree, input, job } = asked else {
+        return None;
+    };
+    if is_standard(tree) && is_standard(input) {
+        return Some(Clash::TwoInputs);
+    }
+    match overwritten(rt, tree, input, job) {
+        Some(path) => Some(Clash::Overwritten(path)),
+        None => None,
+    }
+}
+
+/// The path of a file that would be overwritten, if there is one.
+fn overwritten<'a, H: Files>(rt: &H, tree: &str, input: &str, job: Job<'a>) -> Option<&'a str>
+    ensures apart { result ≡ None → WritesApart (work job.entry) (tree.now ∷ input.now ∷ []) }
+    ensures writes { IsSome result → writes_file (work job.entry) ≡ true }
+{
+    match job {
+        Job::Script { visits } => found_among(rt, visits, &[DASH, tree, input]),
+        Job::Run { visits, .. } => found_among(rt, visits, &[DASH, tree, input]),
+        Job::Live {
+            record: None,
+            visits,
+            ..
+        } => found_among(rt, visits, &[DASH, tree, input]),
+        Job::Live {
+            record: Some(record),
+            visits,
+            ..
+        } => match found_among(rt, Some(record), &[DASH, tree, input]) {
+            Some(path) => Some(path),
+            None => found_among(rt, visits, &[DASH, record, tree, input]),
+        },
+    }
+}
+
+/// The path of a file, if it is one of the files at other paths.
+fn found_among<'a, H: Files>(rt: &H, path: Option<&'a str>, others: &[&str]) -> Option<&'a str>
+    ensures apart { result ≡ None → IfSome (option_map text_of path.entry) (λ p. AllByRecursion (λ (other : List ℕ). p ≢ other) (map text_of others.now)) }
+    ensures some { IsSome result → IsSome path.entry }
+{
+    let path = path?;
+    if is_among(rt, path, others) {
+        return Some(path);
+    }
+    None
+}
+
+/// Whether a file is one of the files at other paths.
+fn is_among<H: Files>(rt: &H, path: &str, others: &[&str]) -> bool
+    ensures apart { result ≡ false → AllByRecursion (λ (other : List ℕ). path.now ≢ other) (map text_of others.now) }
+{
+    let [first, rest @ ..] = others else {
+        return false;
+    };
+    is_one_file(rt, path, first) || is_among(rt, path, rest)
+}
+
+/// Whether two paths name one file: they are equal, or there is a regular file to which both lead.
+fn is_one_file<H: Files>(rt: &H, path: &str, other: &str) -> bool
+    ensures apart { result ≡ false → path.now ≢ other.now }
+{
+    path == other || lead_to_one_file(rt, path, other)
+}
+
+/// Whether there is a regular file to which both paths lead.
+fn lead_to_one_file<H: Files>(rt: &H, path: &str, other: &str) -> bool {
+    match (fs::metadata(rt, path), fs::metadata(rt, other)) {
+        (Ok(one), Ok(two)) => one.is_file() && (one.dev(), one.ino()) == (two.dev(), two.ino()),
+        _ => false,
+    }
+}

@@ -1,0 +1,185 @@
+//! Which files a task may have: standard input stands for one input, and no file is overwritten that is read, or written for something else.
+
+use crate::answer::{AMPLE, answer, input};
+use crate::command::assert_said;
+use crate::files::{assert_left, write, write_all};
+use clk_packet::Fault;
+use std::fs;
+use std::os::unix::fs::symlink;
+
+const TREE: &str = "s :: Sender(0); q :: Queue(2); d :: ToDevice(link); s -> q -> d;";
+
+const SCRIPT: &str = "send 0 10\npull 0\n";
+
+const TRACE: &str = "0,10\n";
+
+/// What the files have before, and after.
+const FILES: [(&str, &str); 3] = [
+    ("out/kept.click", TREE),
+    ("out/kept.script", SCRIPT),
+    ("out/kept.trace", TRACE),
+];
+
+const LEFT: [(&str, Option<&str>); 5] = [
+    ("out/kept.click", Some(TREE)),
+    ("out/kept.script", Some(SCRIPT)),
+    ("out/kept.trace", Some(TRACE)),
+    ("out/unmade.script", None),
+    ("out/unmade.csv", None),
+];
+
+/// Words that name one file twice, and how they name it where it would be written. The links lead to the tree.
+const TWICE: [(&str, &str); 11] = [
+    (
+        "script out/kept.click out/kept.script --visits out/kept.click",
+        "out/kept.click",
+    ),
+    (
+        "script out/kept.click out/kept.script --visits out/kept.script",
+        "out/kept.script",
+    ),
+    (
+        "script out/kept.click out/kept.script --visits out/../out/kept.script",
+        "out/../out/kept.script",
+    ),
+    (
+        "script out/kept.click out/kept.script --visits out/soft.click",
+        "out/soft.click",
+    ),
+    (
+        "run out/kept.click out/kept.trace --visits out/hard.click",
+        "out/hard.click",
+    ),
+    (
+        "run out/kept.click out/kept.trace --visits out/kept.trace",
+        "out/kept.trace",
+    ),
+    (
+        "live out/kept.click out/kept.trace --record out/kept.trace",
+        "out/kept.trace",
+    ),
+    (
+        "live out/kept.click out/kept.trace --record out/unmade.script --visits out/kept.click",
+        "out/kept.click",
+    ),
+    (
+        "live out/kept.click out/kept.trace --record out/unmade.csv --visits out/unmade.csv",
+        "out/unmade.csv",
+    ),
+    (
+        "script none.click none.script --visits none.script",
+        "none.script",
+    ),
+    ("script out/kept.click out/kept.script --visits -", ": -\n"),
+];
+
+#[test]
+fn no_file_that_is_named_twice_is_overwritten(rt: HostRuntime) {
+    write_all(&rt, &FILES).expect(&rt, "files");
+    let _ = fs::remove_file(&rt, "out/hard.click");
+    let _ = fs::remove_file(&rt, "out/soft.click");
+    fs::hard_link(&rt, "out/kept.click", "out/hard.click").expect(&rt, "a link");
+    symlink(&rt, "kept.click", "out/soft.click").expect(&rt, "a link");
+    for (words, path) in TWICE {
+        assert_said(&rt, words, 2, "error: what is read, or written", path);
+        assert_left(&rt, &LEFT);
+    }
+}
+
+// Another file is overwritten, and a device loses nothing.
+#[test]
+fn other_files_are_overwritten(rt: HostRuntime) {
+    write_all(&rt, &FILES).expect(&rt, "files");
+    for words in [
+        "script out/kept.click out/kept.script --visits out/other.csv",
+        "live out/kept.click out/kept.trace --record out/other.csv --visits /dev/null",
+        "live out/kept.click out/kept.trace --record /dev/null --visits out/other.csv",
+    ] {
+        write(&rt, "out/other.csv", "old").expect(&rt, "a file");
+        let answered = answer(&rt, words, input(), AMPLE, AMPLE).expect(&rt, "ample memory");
+        assert_eq!(rt; answered.outcome, Ok(0), "at {words}");
+        let new = fs::read(&rt, "out/other.csv").expect(&rt, "a file");
+        assert!(rt; new.as_slice() != b"old".as_slice(), "at {words}");
+    }
+}
+
+// What the message goes to may fail in each part of it.
+#[test]
+fn what_takes_the_message_may_fail(rt: HostRuntime) {
+    let words = "script abc d --visits abc";
+    for room in [0, 7, 73, 76] {
+        let answered = answer(&rt, words, input(), AMPLE, room).expect(&rt, "ample memory");
+        assert_eq!(rt; answered.outcome, Err(Fault::Write), "at {room}");
+        assert_eq!(rt; answered.told.len(), room);
+    }
+}
+
+const ANSWER: &str = "0#0 10 accepted\npull 0: 0#0 10\n";
+
+const REPORT: &str = "sender 0: sent 1 10, accepted 1 10, refused 0 0, evicted 0 0, emitted 1 10\n";
+
+const CANONICAL: &str = "\
+s :: Sender(0);
+q :: Queue(2);
+d :: ToDevice(link);
+s [0] -> [0] q;
+q [0] -> [0] d;
+";
+
+// Words, what stands on standard input, and what they return and write. A path that leads to a file named `-` is no standard input.
+#[test]
+fn standard_input_stands_for_one_input(rt: HostRuntime) {
+    write_all(&rt, &FILES).expect(&rt, "files");
+    for (words, input, outcome, written) in [
+        ("check -", TREE, Ok(0), CANONICAL),
+        ("script - out/kept.script", TREE, Ok(0), ANSWER),
+        ("script out/kept.click -", SCRIPT, Ok(0), ANSWER),
+        ("run - out/kept.trace", TREE, Ok(0), REPORT),
+        ("run out/kept.click -", TRACE, Ok(0), REPORT),
+        ("live - out/kept.trace", TREE, Ok(0), REPORT),
+        ("live out/kept.click -", TRACE, Ok(0), REPORT),
+        ("check ./-", TREE, Err(Fault::Read), ""),
+        ("check -", "", Err(Fault::NoDevice), ""),
+        (
+            "script out/kept.click -",
+            "send 0 10\nsend 0\n",
+            Err(Fault::BadScript { line: 2 }),
+            "",
+        ),
+        (
+            "run out/kept.click -",
+            "1,10\n",
+            Err(Fault::UnknownSender { sender: 1 }),
+            "",
+        ),
+    ] {
+        let answered = answer(&rt, words, input.as_bytes(), AMPLE, AMPLE).expect(
+            &rt,
+            "ample memory",
+        );
+        assert_eq!(rt; answered.outcome, outcome, "at {words}");
+        assert_eq!(rt;
+            answered.written.as_slice(),
+            written.as_bytes(),
+            "at {words}"
+        );
+        assert!(rt; answered.told.is_empty(), "at {words}");
+    }
+}
+
+#[test]
+fn standard_input_is_not_two_inputs(rt: HostRuntime) {
+    for words in [
+        "script - -",
+        "run - -",
+        "live --record out/unmade.script - -",
+    ] {
+        assert_said(
+            &rt,
+            words,
+            2,
+            "error: '-' stands for standard input",
+            "two inputs\n",
+        );
+    }
+}
