@@ -423,7 +423,7 @@ def frames_are_forwarded(setting: Setting, program: str | None) -> str:
     for compiler in compilers:
         forwarder = made(setting, compiler, program)
         built(forwarder.folder / "peer", compiler, Sources.of_peer(setting.root), [])
-        # What is told of words doesn't depend on the compiler.
+        # Messages about wrong words don't depend on the compiler.
         for it in [*RUNS, *([cleanly, page_is_right, what_is_wrong_is_told] if compiler == compilers[0] else [])]:
             try:
                 it(forwarder)
