@@ -7,3 +7,4 @@ pub mod ShaperRow
 pub mod IdleTurns
 pub mod LooksDrr
 pub mod TurnDrr
+pub mod PastIdle

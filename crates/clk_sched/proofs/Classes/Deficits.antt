@@ -14,7 +14,7 @@ use Rattle.clk_sched.specs.declared.session.drr.Deficits.{Deficits}
 use Rattle.clk_sched.specs.declared.visit.Visit.{Visit}
 use Rattle.clk_sched.specs.Heads.{head_at, is_covered}
 use Rattle.clk_sched.specs.Laws.Deficit.{next_input, arrives, arrivals, bytes_of, passed_bytes, quantum_at, deficit_covers}
-use Rattle.clk_sched.specs.inside.Holds.Served.{AreQuantaWithin, AreDeficitsWithin, waiting, with_quantum, covers, settled}
+use Rattle.clk_sched.specs.inside.Holds.Served.{AreQuantaWithin, AreDeficitsWithin, AreIdleWithoutDeficits, IsWithoutDeficit, IsArrivedAt, waiting, with_quantum, covers, settled}
 use Rattle.clk_sched.specs.inside.Holds.Deficit.{HoldsInput, ahead_at, HoldsDeficits}
 use Rattle.clk_sched.specs.inside.Looking.{IsHead}
 use Rattle.clk_sched.proofs.Lists.Numbers.{equal, differs}
@@ -23,12 +23,12 @@ use Rattle.clk_sched.proofs.Lists.Numbers.{equal, differs}
 pub row-read : (row lent : List Served) (i place : ℕ) (s : Served) → lent ≡ row → place ≡ i → i < length row → s ≡ get_or lent place s → slice_get row i ≡ Some s
 row-read row lent i place s same at within is = slice_get_read row (length row) i s refl within (is ∙ ap₂ (λ xs j. get_or xs j s) same at)
 
-read-same : (row : List Served) (i : ℕ) (y s : Served) → slice_get (slice_set row i y) i ≡ Some s → y ≡ s
+pub read-same : (row : List Served) (i : ℕ) (y s : Served) → slice_get (slice_set row i y) i ≡ Some s → y ≡ s
 read-same [] i y s e = absurd (false≢true (ap is_some e))
 read-same (x ∷ row) zero y s e = ap (λ o. unwrap_or o y) e
 read-same (x ∷ row) (suc i) y s e = read-same row i y s e
 
-read-other : (row : List Served) (i j : ℕ) (y : Served) → j ≢ i → slice_get (slice_set row i y) j ≡ slice_get row j
+pub read-other : (row : List Served) (i j : ℕ) (y : Served) → j ≢ i → slice_get (slice_set row i y) j ≡ slice_get row j
 read-other [] i j y d = refl
 read-other (x ∷ row) zero zero y d = absurd (d refl)
 read-other (x ∷ row) zero (suc j) y d = refl
@@ -36,7 +36,7 @@ read-other (x ∷ row) (suc i) zero y d = refl
 read-other (x ∷ row) (suc i) (suc j) y d = read-other row i j y (λ e. d (ap suc e))
 
 -- what holds of what is written, and of the others, holds of the row
-each-written : (P : ℕ → Served → Type 0) (row : List Served) (i : ℕ) (y : Served) → P i y → ((j : ℕ) (s : Served) → j ≢ i → slice_get row j ≡ Some s → P j s)
+pub each-written : (P : ℕ → Served → Type 0) (row : List Served) (i : ℕ) (y : Served) → P i y → ((j : ℕ) (s : Served) → j ≢ i → slice_get row j ≡ Some s → P j s)
     → (j : ℕ) (s : Served) → slice_get (slice_set row i y) j ≡ Some s → P j s
 each-written P row i y here others j s e = by_place (j == i) refl
   where
@@ -52,14 +52,10 @@ read-some [] i l = absurd (omega arith)
 read-some (x ∷ row) zero l = (x, refl)
 read-some (x ∷ row) (suc i) l = read-some row i (omega arith)
 
--- what a row is where a quantum was added
-abbrev pub Adds : List Served → ℕ → List Served → Type 0
-Adds row i after = (s : Served) → slice_get row i ≡ Some s → after ≡ slice_set row i (with_quantum s)
-
 -- What is added through the slice is added to the row.
-pub adds-within : (row : SmallVec Served) (lent new : List Served) (place i : ℕ) → lent ≡ row.items → length new ≡ small_vec_len row → place ≡ i → Adds lent place new → Adds row.items i (with_items row new).items
+pub adds-within : (row : SmallVec Served) (lent new : List Served) (place i : ℕ) → lent ≡ row.items → length new ≡ small_vec_len row → place ≡ i → IsArrivedAt place lent new → IsArrivedAt i row.items (with_items row new).items
 adds-within row lent new place i same long at adds =
-    subst (λ (x : List Served × ℕ). Adds x.0 x.1 (with_items row new).items) (λ j. (same j, at j)) (λ s e. items-with_items row new long ∙ adds s e)
+    subst (λ (x : List Served × ℕ). IsArrivedAt x.1 x.0 (with_items row new).items) (λ j. (same j, at j)) (λ s e. items-with_items row new long ∙ adds s e)
 
 -- And so is what is settled at a place.
 pub settled-within : (row : SmallVec Served) (lent : List Served) (place i : ℕ) (new after : Served) → lent ≡ row.items → place ≡ i → new ≡ after → (with_items row (slice_set lent place new)).items ≡ slice_set row.items i after
@@ -71,9 +67,10 @@ pub record KeepsLimits (cursor : ℕ) (row : List Served) : Type 0 where
   pub cursor_within : cursor < length row
   pub quanta_within : AreQuantaWithin row
   pub deficits_within : AreDeficitsWithin cursor row
+  pub idle_without : AreIdleWithoutDeficits cursor row
 
 pub limits-of : (d : Deficits) → KeepsLimits d.cursor d.row.items
-limits-of d = record { few = d.few; cursor_within = d.cursor_within; quanta_within = d.quanta_within; deficits_within = d.deficits_within }
+limits-of d = record { few = d.few; cursor_within = d.cursor_within; quanta_within = d.quanta_within; deficits_within = d.deficits_within; idle_without = d.idle_without }
 
 -- the sum of deficit and quantum fits
 pub sum-fits : (cursor : ℕ) (row : List Served) (i : ℕ) (s : Served) → KeepsLimits cursor row → slice_get row i ≡ Some s → s.deficit + s.quantum < 4294967296
@@ -84,7 +81,7 @@ sum-fits cursor row i s h e = by_place (i == cursor) (h.quanta_within i s e) (h.
     by_place false q d = omega arith
 
 -- the limits after a move
-pub limits-moved : (cursor : ℕ) (row after : List Served) (i : ℕ) → KeepsLimits cursor row → ((t : Served) → slice_get row cursor ≡ Some t → t.deficit < most_length) → i < length row → Adds row i after
+pub limits-moved : (cursor : ℕ) (row after : List Served) (i : ℕ) → KeepsLimits cursor row → ((t : Served) → slice_get row cursor ≡ Some t → IsWithoutDeficit t × (t.deficit < most_length)) → i < length row → IsArrivedAt i row after
     → KeepsLimits i after
 limits-moved cursor row after i h left within adds =
     subst (KeepsLimits i) (sym (adds s e))
@@ -96,6 +93,7 @@ limits-moved cursor row after i h left within adds =
           each-written (λ j t. t.deficit < most_length + (if j == i then t.quantum else 0)) row i (with_quantum s)
           (subst (λ b. s.deficit + s.quantum < most_length + (if b then s.quantum else 0)) (sym (equal i i refl)) (let l = below i s e in omega (arith, l)))
           (λ j t other f. subst (λ b. t.deficit < most_length + (if b then t.quantum else 0)) (sym (differs j i other)) (let l = below j t f in omega (arith, l)));
+      idle_without = each-written (λ j t. j ≢ i → IsWithoutDeficit t) row i (with_quantum s) (λ other. absurd (other refl)) (λ j t other f k. without j t f);
     })
   where
     s : Served
@@ -108,8 +106,15 @@ limits-moved cursor row after i h left within adds =
     below j t f = by_place (j == cursor) refl (h.deficits_within j t f)
       where
         by_place : (b : Bool) → (j == cursor) ≡ b → t.deficit < most_length + (if b then t.quantum else 0) → t.deficit < most_length
-        by_place true g l = let same : j ≡ cursor = grind (arith, nat_tests) in left t (subst (λ k. slice_get row k ≡ Some t) same f)
+        by_place true g l = let same : j ≡ cursor = grind (arith, nat_tests) in (left t (subst (λ k. slice_get row k ≡ Some t) same f)).1
         by_place false g l = omega (arith, l)
+
+    without : (j : ℕ) (t : Served) → slice_get row j ≡ Some t → IsWithoutDeficit t
+    without j t f = by_place (j == cursor) refl
+      where
+        by_place : (b : Bool) → (j == cursor) ≡ b → IsWithoutDeficit t
+        by_place true g = let same : j ≡ cursor = grind (arith, nat_tests) in (left t (subst (λ k. slice_get row k ≡ Some t) same f)).0
+        by_place false g = let other : j ≢ cursor = grind (arith, nat_tests) in h.idle_without j t f other
 
 -- an input of a row before the first arrival
 at-waiting : (quanta : List ℕ) (i : ℕ) (s : Served) → slice_get (map waiting quanta) i ≡ Some s → (q : ℕ) × (slice_get quanta i ≡ Some q) × (waiting q ≡ s)
@@ -119,8 +124,11 @@ at-waiting quanta i s e = by_quantum (slice_get quanta i) refl (sym (slice_get-m
     by_quantum None f g = absurd (false≢true (ap is_some g))
     by_quantum (Some q) f g = (q, f, ap (λ o. unwrap_or o s) g)
 
-pub none-left : (quanta : List ℕ) (row : List Served) (i : ℕ) (s : Served) → row ≡ map waiting quanta → slice_get row i ≡ Some s → s.deficit < most_length
-none-left quanta row i s all e = let is = at-waiting quanta i s (subst (λ xs. slice_get xs i ≡ Some s) all e) in let none : s.deficit ≡ 0 = sym (ap (λ (t : Served). t.deficit) is.2) in omega (arith, none)
+pub none-left : (quanta : List ℕ) (row : List Served) (i : ℕ) (s : Served) → row ≡ map waiting quanta → slice_get row i ≡ Some s → IsWithoutDeficit s × (s.deficit < most_length)
+none-left quanta row i s all e =
+    let is = at-waiting quanta i s (subst (λ xs. slice_get xs i ≡ Some s) all e) in
+    let none : s.deficit ≡ 0 = sym (ap (λ (t : Served). t.deficit) is.2) in
+    (λ head. none, omega (arith, none))
 
 quantum-within : (quanta : List ℕ) (i q : ℕ) → AllByRecursion (λ n. (1 ≤ n) × (n ≤ most_quantum)) quanta → slice_get quanta i ≡ Some q → q ≤ most_quantum
 quantum-within [] i q h e = absurd (false≢true (ap is_some e))
@@ -135,7 +143,8 @@ limits-first quanta row all some few within = record {
   quanta_within = λ i s e.
       let is = at-waiting quanta i s (subst (λ xs. slice_get xs i ≡ Some s) all e) in
       subst (λ n. n ≤ most_quantum) (ap (λ (t : Served). t.quantum) is.2) (quantum-within quanta i is.0 within is.1);
-  deficits_within = λ i s e. let left = none-left quanta row i s all e in omega (arith, left);
+  deficits_within = λ i s e. let left = none-left quanta row i s all e in omega (arith, left.1);
+  idle_without = λ i s e other. (none-left quanta row i s all e).0;
 }
   where
     long : length row ≡ length quanta
@@ -266,7 +275,7 @@ row-arrived quanta inputs before row s h e one =
     turn = next_input inputs before
 
 -- the state before the first visit
-pub deficits-first : (quanta : List ℕ) (d : Deficits) (row : List Served) → row ≡ map waiting quanta → 0 < length row → d.cursor ≡ 0 → Adds row 0 d.row.items → HoldsDeficits quanta (length quanta) [] d
+pub deficits-first : (quanta : List ℕ) (d : Deficits) (row : List Served) → row ≡ map waiting quanta → 0 < length row → d.cursor ≡ 0 → IsArrivedAt 0 row d.row.items → HoldsDeficits quanta (length quanta) [] d
 deficits-first quanta d row all some at adds = record {
   length_is = ap length is ∙ length-set row 0 (with_quantum s) ∙ ap length all ∙ length-map quanta waiting;
   cursor_is = at;
@@ -303,7 +312,7 @@ deficits-passed quanta inputs before v d e s h read at passes passed stays is = 
 -- after any other the turn moves on
 pub deficits-moved-on : (quanta : List ℕ) (inputs : ℕ) (before : List Visit) (v : Visit) (d e : Deficits) (row : List Served) (s : Served) → HoldsDeficits quanta inputs before d → slice_get d.row.items d.cursor ≡ Some s
     → v.input ≡ next_input inputs before → v.passed ≡ covers s v.got → v.passed ≡ false → row ≡ slice_set d.row.items d.cursor (settled s v.got)
-    → e.cursor ≡ (d.cursor + 1) % length row → length e.row.items ≡ length row → Adds row e.cursor e.row.items
+    → e.cursor ≡ (d.cursor + 1) % length row → length e.row.items ≡ length row → IsArrivedAt e.cursor row e.row.items
     → HoldsDeficits quanta inputs (v ∷ before) e
 deficits-moved-on quanta inputs before v d e row s h read at passes passed is moves same_length adds = record {
   length_is = same_length ∙ long;

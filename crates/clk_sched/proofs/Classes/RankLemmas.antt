@@ -1,14 +1,14 @@
 -- The ranks of a StrideSched: how they are put in their places, and what stays true of them.
-use Rattle.std.proofs.Common.{◌≡◌, ℕ, zero, suc, ◌+◌, ◌-◌, ◌<◌, ◌≤◌, if◌then◌else◌, nat_lt, Bool, true, false, List, [], ◌∷◌, ◌++◌, length, map, take, drop, set, get_or, slice_get, Some, refl, sym, ap, ap₂, ◌∙◌, subst, append_assoc, arith, drop-cons}
+use Rattle.std.proofs.Common.{◌≡◌, ℕ, zero, suc, ◌+◌, ◌-◌, ◌<◌, ◌≤◌, if◌then◌else◌, Bool, true, false, List, [], ◌∷◌, ◌++◌, length, map, take, drop, set, get_or, slice_get, Some, refl, sym, ap, ap₂, ◌∙◌, subst, append_assoc, arith, drop-cons}
 use Rattle.std.specs.List.{AllByRecursion, range_with_len}
 use Rattle.std.proofs.lemmas.Bool.Decides.{nat_tests}
 use Rattle.std.proofs.Math.Seq.{paste, set_at, length_paste_head, take-suc}
 use Rattle.std.proofs.Math.ListN.{drop_of_length-le}
-use Rattle.std.proofs.lemmas.List.{drop-drop, drop-map, length-append, length-drop, length-take-le, set_split, take_all}
+use Rattle.std.proofs.lemmas.List.{drop-drop, drop-map, get_or-drop, length-append, length-drop, length-take-le, set_split, take_all}
+use Rattle.std.proofs.lemmas.List.Edits.{drop-paste}
 use Rattle.std.proofs.lemmas.Option.{slice_get_within, get_or_from_slice_get}
 use Rattle.clk_sched.specs.declared.session.stride.Rank.{Rank}
-use Rattle.clk_sched.specs.declared.session.stride.TheConstants.{FAR}
-use Rattle.clk_sched.specs.inside.Ranks.{greatest_stride, IsRankOf, FollowOneAnother, HasOnePass, HasRisingPasses, IsBefore, AreInOrder, is_up_to, put_rank, put_all, at_pass, after_win, first_pass, taken_from, less, inputs_in}
+use Rattle.clk_sched.specs.inside.Ranks.{greatest_stride, IsRankOf, FollowOneAnother, HasOnePass, HasRisingPasses, IsBefore, AreInOrder, is_up_to, put_rank, put_all, at_pass, after_win, first_pass, from_least, less, inputs_in}
 use Rattle.clk_sched.proofs.Lists.Members.{all-weaker}
 use Rattle.clk_sched.proofs.Lists.Apart.{all-map}
 
@@ -54,6 +54,15 @@ put-moved r row from before l m put =
 
     front : List Rank
     front = take from row ++ take before rest
+
+-- Of a row whose ranks after a place moved down, so many so far: the next that may move.
+pub next-moved : (row : List Rank) (from k : ℕ) (d : Rank) → from + k + 1 < length row → get_or (paste row from (drop (from + 1) row) k) (from + k + 1) d ≡ get_or (drop (from + 1) row) k d
+next-moved row from k d l =
+    let long = length-drop (from + 1) row in
+    let same : from + k + 1 ≡ from + 1 + k = omega arith in
+    sym (get_or-drop (from + k) (paste row from (drop (from + 1) row) k) 1 d)
+    ∙ ap (λ xs. get_or xs 1 d) (drop-paste row from (drop (from + 1) row) k (omega (arith, l)) (omega (arith, l, long)))
+    ∙ get_or-drop (from + k) row 1 d ∙ ap (λ i. get_or row i d) same ∙ sym (get_or-drop (from + 1) row k d)
 
 -- A rank stays in its place.
 pub put-first : (r : Rank) (row : List Rank) (from : ℕ) → from < length row → put_rank r (drop (from + 1) row) ≡ r ∷ drop (from + 1) row → set row from r ≡ take from row ++ put_rank r (drop (from + 1) row)
@@ -175,13 +184,12 @@ all-two : (P Q : Rank → Type 0) (ranks : List Rank) → AllByRecursion P ranks
 all-two P Q [] h k = tt
 all-two P Q (r ∷ ranks) h k = ((h.0, k.0), all-two P Q ranks h.1 k.1)
 
-pub won-ranks : (inputs least pass stride place : ℕ) (row : List Rank) → stride ≤ greatest_stride → least ≤ pass → AllByRecursion (IsRankOf inputs least) row → AllByRecursion (λ (r : Rank). pass ≤ r.pass) (drop (suc place) row)
+pub won-ranks : (inputs pass stride place : ℕ) (row : List Rank) → stride ≤ greatest_stride → AllByRecursion (IsRankOf inputs) row → AllByRecursion (λ (r : Rank). pass ≤ r.pass) (drop (suc place) row)
     → AllByRecursion (IsWonRank inputs pass) (after_win pass stride place row)
-won-ranks inputs least pass stride place row l m h k =
-    win-all (IsWonRank inputs pass) (IsRankOf inputs least) pass stride place row (λ r one. let a = one.0 in ((a, omega arith, omega arith), (a, omega arith, omega arith))) h
-    (all-weaker (λ (r : Rank). IsRankOf inputs least r × (pass ≤ r.pass)) (IsWonRank inputs pass) (drop (suc place) row)
-    (λ r one. (one.0.0, one.1, let a = one.0.1 in let b = one.1 in omega (arith, a, b, m)))
-    (all-two (IsRankOf inputs least) (λ (r : Rank). pass ≤ r.pass) (drop (suc place) row) (all-drop (IsRankOf inputs least) (suc place) row h) k))
+won-ranks inputs pass stride place row l h k =
+    win-all (IsWonRank inputs pass) (IsRankOf inputs) pass stride place row (λ r one. let a = one.0 in ((a, omega arith, omega arith), (a, omega arith, omega arith))) h
+    (all-weaker (λ (r : Rank). IsRankOf inputs r × (pass ≤ r.pass)) (IsWonRank inputs pass) (drop (suc place) row) (λ r one. (one.0.0, one.1, let a = one.0.1 in omega (arith, a)))
+    (all-two (IsRankOf inputs) (λ (r : Rank). pass ≤ r.pass) (drop (suc place) row) (all-drop (IsRankOf inputs) (suc place) row h) k))
 
 -- the first pass is the least
 pub first-least : (ranks : List Rank) → HasRisingPasses ranks → AllByRecursion (λ (r : Rank). first_pass ranks ≤ r.pass) ranks
@@ -202,58 +210,29 @@ less-rises least [] h = tt
 less-rises least (r ∷ ranks) h =
     (all-map (λ (o : Rank). r.pass - least ≤ o.pass) (less least) ranks (all-weaker (λ (o : Rank). r.pass ≤ o.pass) (λ (o : Rank). r.pass - least ≤ o.pass - least) ranks (λ o k. omega arith) h.0), less-rises least ranks h.1)
 
-pub less-ranks : (inputs pass n : ℕ) (ranks : List Rank) → n ≤ first_pass ranks → AllByRecursion (IsWonRank inputs pass) ranks → AllByRecursion (IsRankOf inputs (first_pass (map (less n) ranks))) (map (less n) ranks)
-less-ranks inputs pass n [] l h = tt
-less-ranks inputs pass n (r ∷ ranks) l h =
-    all-map (IsRankOf inputs (r.pass - n)) (less n) (r ∷ ranks)
-    (all-weaker (IsWonRank inputs pass) (λ (o : Rank). IsRankOf inputs (r.pass - n) (less n o)) (r ∷ ranks) (λ o k. (k.0, let a = h.0.1 in let b = k.2 in omega (arith, a, b, l))) h)
+less-ranks : (inputs pass : ℕ) (ranks : List Rank) → AllByRecursion (IsWonRank inputs pass) ranks → AllByRecursion (IsRankOf inputs) (from_least ranks)
+less-ranks inputs pass [] h = tt
+less-ranks inputs pass (r ∷ ranks) h =
+    all-map (IsRankOf inputs) (less r.pass) (r ∷ ranks)
+    (all-weaker (IsWonRank inputs pass) (λ (o : Rank). IsRankOf inputs (less r.pass o)) (r ∷ ranks) (λ o k. (k.0, let a = h.0.1 in let b = k.2 in omega (arith, a, b))) h)
 
--- what is taken is no more than the least, and leaves one that isn't far
-pub taken-least : (ranks : List Rank) → taken_from ranks ≤ first_pass ranks
-taken-least ranks = by_test (nat_lt (first_pass ranks) FAR)
-  where
-    by_test : (b : Bool) → (if b then 0 else first_pass ranks) ≤ first_pass ranks
-    by_test true = omega arith
-    by_test false = omega arith
-
-less-first : (n : ℕ) (ranks : List Rank) → first_pass (map (less n) ranks) ≡ first_pass ranks - n
-less-first n [] = omega arith
-less-first n (r ∷ ranks) = refl
-
-pub taken-near : (ranks : List Rank) → first_pass (map (less (taken_from ranks)) ranks) < FAR
-taken-near ranks = subst (λ n. n < FAR) (sym (less-first (taken_from ranks) ranks)) (by_test (nat_lt (first_pass ranks) FAR) refl)
-  where
-    by_test : (b : Bool) → nat_lt (first_pass ranks) FAR ≡ b → first_pass ranks - (if b then 0 else first_pass ranks) < FAR
-    by_test true e = grind (arith, nat_tests)
-    by_test false e = omega arith
-
-pub taken-none : (ranks : List Rank) → first_pass ranks < FAR → taken_from ranks ≡ 0
-taken-none ranks l = by_test (nat_lt (first_pass ranks) FAR) refl
-  where
-    by_test : (b : Bool) → nat_lt (first_pass ranks) FAR ≡ b → (if b then 0 else first_pass ranks) ≡ 0
-    by_test true e = refl
-    by_test false e = absurd (let k : FAR ≤ first_pass ranks = grind (arith, nat_tests) in omega (arith, k, l))
-
-pub taken-first : (ranks : List Rank) → FAR ≤ first_pass ranks → taken_from ranks ≡ first_pass ranks
-taken-first ranks l = by_test (nat_lt (first_pass ranks) FAR) refl
-  where
-    by_test : (b : Bool) → nat_lt (first_pass ranks) FAR ≡ b → (if b then 0 else first_pass ranks) ≡ first_pass ranks
-    by_test true e = absurd (let k : first_pass ranks < FAR = grind (arith, nat_tests) in omega (arith, k, l))
-    by_test false e = refl
+-- then the least pass is 0
+pub least-none : (ranks : List Rank) → first_pass (from_least ranks) ≡ 0
+least-none [] = refl
+least-none (r ∷ ranks) = omega arith
 
 pub less-none : (ranks : List Rank) → map (less 0) ranks ≡ ranks
 less-none [] = refl
 less-none (r ∷ ranks) = ap₂ (λ x xs. x ∷ xs) (ap (λ pass. at_pass pass r) (let same : r.pass - 0 ≡ r.pass = omega arith in same)) (less-none ranks)
 
 -- winning rows keep what the type says
-pub win-kept : (inputs least pass stride place : ℕ) (row : List Rank) (d : Rank) → stride ≤ greatest_stride → place < length row → (get_or row place d).pass ≡ pass → least ≤ pass → AllByRecursion (IsRankOf inputs least) row → HasRisingPasses row
-    → AllByRecursion (IsRankOf inputs (first_pass (map (less (taken_from (after_win pass stride place row))) (after_win pass stride place row)))) (map (less (taken_from (after_win pass stride place row))) (after_win pass stride place row))
-win-kept inputs least pass stride place row d l m e k h rises =
-    less-ranks inputs pass (taken_from (after_win pass stride place row)) (after_win pass stride place row) (taken-least (after_win pass stride place row))
-    (won-ranks inputs least pass stride place row l k h (subst (λ p. AllByRecursion (λ (r : Rank). p ≤ r.pass) (drop (suc place) row)) e (beyond-place row place d m rises)))
+pub win-kept : (inputs pass stride place : ℕ) (row : List Rank) (d : Rank) → stride ≤ greatest_stride → place < length row → (get_or row place d).pass ≡ pass → AllByRecursion (IsRankOf inputs) row → HasRisingPasses row
+    → AllByRecursion (IsRankOf inputs) (from_least (after_win pass stride place row))
+win-kept inputs pass stride place row d l m e h rises =
+    less-ranks inputs pass (after_win pass stride place row) (won-ranks inputs pass stride place row l h (subst (λ p. AllByRecursion (λ (r : Rank). p ≤ r.pass) (drop (suc place) row)) e (beyond-place row place d m rises)))
 
-pub win-kept_rising : (pass stride place : ℕ) (row : List Rank) → HasRisingPasses row → HasRisingPasses (map (less (taken_from (after_win pass stride place row))) (after_win pass stride place row))
-win-kept_rising pass stride place row rises = less-rises (taken_from (after_win pass stride place row)) (after_win pass stride place row) (win-rises pass stride place row rises)
+pub win-kept_rising : (pass stride place : ℕ) (row : List Rank) → HasRisingPasses row → HasRisingPasses (from_least (after_win pass stride place row))
+win-kept_rising pass stride place row rises = less-rises (first_pass (after_win pass stride place row)) (after_win pass stride place row) (win-rises pass stride place row rises)
 
 pub win-least : (pass stride place : ℕ) (row : List Rank) → HasRisingPasses row → AllByRecursion (λ (r : Rank). first_pass (after_win pass stride place row) ≤ r.pass) (after_win pass stride place row)
 win-least pass stride place row rises = first-least (after_win pass stride place row) (win-rises pass stride place row rises)

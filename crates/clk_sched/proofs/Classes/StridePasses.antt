@@ -10,7 +10,7 @@ use Rattle.clk_sched.specs.declared.session.stride.Rank.{Rank}
 use Rattle.clk_sched.specs.declared.session.stride.Passes.{Passes}
 use Rattle.clk_sched.specs.Turns.{Turn, giver}
 use Rattle.clk_sched.specs.Laws.Stride.{stride_of, stride_at, pass_in, visits_input, passes_after, passes_of, put_in_order, in_rising_order, stride_order}
-use Rattle.clk_sched.specs.inside.Ranks.{with_pass, greatest_stride, IsRankOf, HasRisingPasses, IsBefore, AreInOrder, is_up_to, put_rank, at_pass, after_win, first_pass, taken_from, first_rank, less}
+use Rattle.clk_sched.specs.inside.Ranks.{with_pass, greatest_stride, IsRankOf, HasRisingPasses, IsBefore, AreInOrder, is_up_to, put_rank, at_pass, after_win, first_pass, from_least, first_rank, less}
 use Rattle.clk_sched.specs.inside.Holds.Stride.{HoldsPasses}
 use Rattle.clk_packet.specs.Lists.{In}
 use Rattle.clk_sched.proofs.Lists.Members.{of-all, to-all, any-in, all-weaker, in-slice}
@@ -19,7 +19,7 @@ use Rattle.clk_sched.proofs.Lists.Apart.{all-map}
 use Rattle.clk_sched.proofs.Classes.Orders.{paired_input, rising-apart, enumerated, passes-length}
 use Rattle.clk_sched.proofs.Classes.Enumerated.{enumerated-at}
 use Rattle.clk_sched.proofs.Lists.Rising.{up_to, put-first, put-later, IsInOrder, rising-is, rising-same, rising-length, mapped-rising, ordered-in}
-use Rattle.clk_sched.proofs.Classes.RankLemmas.{taken-least, win-least}
+use Rattle.clk_sched.proofs.Classes.RankLemmas.{win-least}
 
 -- a rank that is put among others, as a pair among pairs
 same-order : (taken : ℕ) (r other : Rank) → is_up_to r other ≡ up_to (with_pass taken r) (with_pass taken other)
@@ -282,13 +282,13 @@ pub passes-won : (tickets : List ℕ) (turns : List Turn) (t : Turn) (p q : Pass
     → map (λ (v : Visit). v.input) t.visits ≡ take (place + 1) (map (λ (r : Rank). r.input) p.row.items)
     → giver t.visits ≡ slice_get (map (λ (r : Rank). r.input) p.row.items) place
     → (pass stride : ℕ) → pass ≡ (get_or p.row.items place d).pass → stride ≡ get_or p.strides.items (get_or p.row.items place d).input 0
-    → q.row.items ≡ map (less (taken_from (after_win pass stride place p.row.items))) (after_win pass stride place p.row.items) → q.strides.items ≡ p.strides.items
+    → q.row.items ≡ from_least (after_win pass stride place p.row.items) → q.strides.items ≡ p.strides.items
     → HoldsPasses tickets (t ∷ turns) q
 passes-won tickets turns t p q place d holds l rises visits gives pass stride pass_is stride_is row same =
     record {
-      taken = holds.taken + taken_from won;
+      taken = holds.taken + first_pass won;
       strides_are = same ∙ holds.strides_are;
-      row_is = ap (map (with_pass (holds.taken + taken_from won))) row ∙ taken-more holds.taken (taken_from won) won least ∙ won_is;
+      row_is = ap (map (with_pass (holds.taken + first_pass won))) row ∙ taken-more holds.taken (first_pass won) won (win-least pass stride place p.row.items rises) ∙ won_is;
     }
   where
     r : Rank
@@ -296,9 +296,6 @@ passes-won tickets turns t p q place d holds l rises visits gives pass stride pa
 
     won : List Rank
     won = after_win pass stride place p.row.items
-
-    least : AllByRecursion (λ (o : Rank). taken_from won ≤ o.pass) won
-    least = all-weaker (λ (o : Rank). first_pass won ≤ o.pass) (λ (o : Rank). taken_from won ≤ o.pass) won (λ o k. let m = taken-least won in omega (arith, k, m)) (win-least pass stride place p.row.items rises)
 
     win : IsWin tickets turns t holds.taken place p.row.items d
     win =
@@ -365,13 +362,13 @@ passes-first tickets p strides row =
       row_is = ap (map (with_pass 0)) row ∙ first-pairs 0 tickets ∙ sym (rising-same (enumerate_from 0 (map (λ _. 0) tickets)) (first-order 0 tickets));
     }
 
-pub first-ranks : (n count inputs least : ℕ) → n + count ≤ inputs → AllByRecursion (IsRankOf inputs least) (map first_rank (range_with_len n count))
-first-ranks n zero inputs least l = tt
-first-ranks n (suc count) inputs least l = ((omega arith, omega arith), first-ranks (n + 1) count inputs least (omega arith))
+pub first-ranks : (n count inputs : ℕ) → n + count ≤ inputs → AllByRecursion (IsRankOf inputs) (map first_rank (range_with_len n count))
+first-ranks n zero inputs l = tt
+first-ranks n (suc count) inputs l = ((omega arith, omega arith), first-ranks (n + 1) count inputs (omega arith))
 
-pub first-near : (n count : ℕ) → first_pass (map first_rank (range_with_len n count)) ≡ 0
-first-near n zero = refl
-first-near n (suc count) = refl
+pub first-least : (n count : ℕ) → first_pass (map first_rank (range_with_len n count)) ≡ 0
+first-least n zero = refl
+first-least n (suc count) = refl
 
 pub first-rises : (n count : ℕ) → HasRisingPasses (map first_rank (range_with_len n count))
 first-rises n zero = tt

@@ -132,12 +132,12 @@ idle-room a x first count can within =
     omega (arith, room, size)
 
 -- the visits of no inputs, and of one more
-idle-none : (a : Nodes) (x first : ℕ) → with_idle_at a x first 0 ≡ a
+pub idle-none : (a : Nodes) (x first : ℕ) → with_idle_at a x first 0 ≡ a
 idle-none a x first =
     let all : a.log.spare - 0 ≡ a.log.spare = omega arith in
     ap₂ (λ items spare. record { inputs = a.inputs; states = a.states; log = record { items = items; spare = spare; kind = a.log.kind }; pull = a.pull; moment = a.moment }) (append-nil a.log.items) all
 
-idle-next : (a : Nodes) (x first k : ℕ) → Logs (with_idle_at a x first k) (with_idle_at a x first (k + 1)) (asking a.pull a.moment x (first + k) None)
+pub idle-next : (a : Nodes) (x first k : ℕ) → Logs (with_idle_at a x first k) (with_idle_at a x first (k + 1)) (asking a.pull a.moment x (first + k) None)
 idle-next a x first k =
     let less : a.log.spare - (k + 1) ≡ a.log.spare - k - 1 = omega arith in
     record {

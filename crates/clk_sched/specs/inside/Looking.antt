@@ -30,6 +30,10 @@ pub record Logs (old new : Nodes) (v : Visit) : Type 0 where
 abbrev pub IsHead : Deficits → Option Packet → Type 0
 IsHead d head = (s : Served) → slice_get d.row.items d.cursor ≡ Some s → s.head ≡ head
 
+-- The next so many inputs, from the one whose turn it is on, hold no head.
+abbrev pub HoldsNoneAhead : Deficits → ℕ → Type 0
+HoldsNoneAhead d count = (i : ℕ) (s : Served) → i < count → slice_get d.row.items (d.cursor + i) ≡ Some s → s.head ≡ None
+
 -- A DRRSched took what it got at the input whose turn it is, and passed it or not.
 pub record Settles (old new : Deficits) (got : Option Packet) (passed : Bool) : Type 0 where
   pub length_is : length new.row.items ≡ length old.row.items

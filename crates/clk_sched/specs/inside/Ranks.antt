@@ -3,19 +3,22 @@ use Rattle.std.specs.Prelude.{◌≡◌, ℕ, zero, suc, ◌+◌, ◌-◌, ◌<�
 use Rattle.std.specs.List.{AllByRecursion, AllByRecursion-prop, range_with_len}
 use Rattle.std.specs.Coded.{×_prop, Unit-prop, le_prop}
 use Rattle.clk_sched.specs.declared.session.stride.Rank.{Rank}
-use Rattle.clk_sched.specs.declared.session.stride.TheConstants.{FAR}
 
 -- an input with its pass, to which what was taken is added again
 abbrev pub with_pass : ℕ → Rank → ℕ × ℕ
 with_pass taken r = (r.input, r.pass + taken)
 
--- the greatest stride, that of one ticket, by which two passes differ at most
+-- the greatest stride, that of one ticket. No pass is greater between pulls.
 abbrev pub greatest_stride : ℕ
 greatest_stride = 65536
 
--- a rank of one of so many inputs, with a pass of at most `greatest_stride` above the least
-abbrev pub IsRankOf : ℕ → ℕ → Rank → Type 0
-IsRankOf inputs least r = (r.input < inputs) × (r.pass ≤ least + greatest_stride)
+-- the greatest pass in a pull: the winner's grows by its stride before the least is subtracted
+abbrev pub greatest_pass : ℕ
+greatest_pass = 131072
+
+-- a rank of one of so many inputs between pulls
+abbrev pub IsRankOf : ℕ → Rank → Type 0
+IsRankOf inputs r = (r.input < inputs) × (r.pass ≤ greatest_stride)
 
 -- the inputs of ranks
 abbrev pub inputs_in : List Rank → List ℕ
@@ -87,9 +90,9 @@ first_pass (r ∷ others) = r.pass
 abbrev pub less : ℕ → Rank → Rank
 less least r = at_pass (r.pass - least) r
 
--- what is subtracted from all passes after a pull: the least pass once it is `FAR`, else 0
-abbrev pub taken_from : List Rank → ℕ
-taken_from ranks = if nat_lt (first_pass ranks) FAR then 0 else first_pass ranks
+-- ranks after a pull: the least pass, which is the first, is subtracted from all
+abbrev pub from_least : List Rank → List Rank
+from_least ranks = map (less (first_pass ranks)) ranks
 
 -- the rank of an input before the first pull
 abbrev pub first_rank : ℕ → Rank

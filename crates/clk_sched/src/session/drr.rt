@@ -2,7 +2,7 @@
 
 ghost use Rattle.std.specs.Prelude.{◌≡◌, ◌+◌, ◌^◌, ◌<◌, ◌≤◌, false, length, map, slice_get, slice_set, Some, None, IfOk};
 ghost use Rattle.clk_packet.specs.Limits.{most_inputs, most_quantum};
-ghost use Rattle.clk_sched.specs.inside.Holds.Served.{AreQuantaWithin, AreDeficitsWithin, waiting, with_quantum};
+ghost use Rattle.clk_sched.specs.inside.Holds.Served.{AreQuantaWithin, AreDeficitsWithin, AreIdleWithoutDeficits, IsArrivedAt, IsWithoutDeficit, waiting, with_quantum};
 ghost use Rattle.clk_sched.specs.declared.session.drr.Served.{Served};
 
 use crate::ask::Ask;
@@ -32,6 +32,7 @@ pub struct Deficits {
     ghost cursor_within: { cursor < length row.items },
     ghost quanta_within: { AreQuantaWithin row.items },
     ghost deficits_within: { AreDeficitsWithin cursor row.items },
+    ghost idle_without: { AreIdleWithoutDeficits cursor row.items },
 }
 
 impl Served {
@@ -87,6 +88,7 @@ impl Deficits {
     ghost use Rattle.clk_sched.specs.Heads.{head_at, is_covered};
     ghost use Rattle.clk_sched.specs.Laws.Deficit.{next_input, deficit_covers};
     ghost use Rattle.clk_sched.specs.inside.Holds.Deficit.{HoldsDeficits};
+    ghost use Rattle.clk_sched.specs.inside.Holds.Served.{settled};
     ghost use Rattle.clk_sched.specs.inside.Held.{heads_in};
     ghost use Rattle.std.specs.Global.{Box};
     ghost use Rattle.clk_sched.specs.declared.session.drr.Deficits.{Deficits};
@@ -94,7 +96,7 @@ impl Deficits {
     ghost use Rattle.clk_sched.specs.inside.Pulling.{CanPull};
     ghost use Rattle.clk_sched.specs.inside.Turning.{WasPulled, HadTurn, IsIdle};
     ghost use Rattle.clk_sched.specs.inside.Holds.OfClass.{IsDrr};
-    ghost use Rattle.clk_sched.specs.inside.Looking.{looking, IsHead, Logs, Settles, LooksAt, AreIdleAhead};
+    ghost use Rattle.clk_sched.specs.inside.Looking.{looking, HoldsNoneAhead, IsHead, Logs, Settles, LooksAt, AreIdleAhead};
     ghost use Rattle.clk_sched.specs.inside.Making.{MayGoOn, GoesOnInVain};
     ghost use Rattle.clk_sched.specs.declared.session.state.State.TheVariants.{Drr};
 
@@ -155,7 +157,7 @@ impl Deficits {
         let row = self.row.as_mut_slice();
         let passed = row[usize::from(self.cursor)].settle(got, fresh);
         if !passed {
-            self.move_on();
+            self.move_on(1);
         }
         passed
     }
@@ -255,12 +257,25 @@ impl Deficits {
         ensures goes_on { GoesOnInVain Q.gives nodes.old nodes.new q.now node self.old self.new result }
     {
         let idle = self.idle_ahead(nodes, q, node, most);
-        let mut passed = 0;
-        while passed < idle && self.head().is_none() {
-            self.pass_over(nodes, q, node);
-            passed += 1;
+        let count = self.count_without_heads(idle);
+        if count > 0 {
+            nodes.record_idle(node, self.cursor, count);
+            self.pass_over(count);
         }
-        passed
+        count
+    }
+
+    /// How many inputs, from the one whose turn it is on and `most` at most, hold no head, without a gap.
+    fn count_without_heads(&self, most: u16) -> u16
+        requires within { self.now.cursor + most ≤ length self.now.row.items }
+        ensures few { result ≤ most }
+        ensures none { HoldsNoneAhead self.now result }
+    {
+        let mut count = 0;
+        while count < most && self.row[usize::from(self.cursor + count)].head.is_none() {
+            count += 1;
+        }
+        count
     }
 
     /// How many inputs, from the one whose turn it is on and `count` at most, are queues known to be empty, without a gap. It is 0 if so
@@ -279,16 +294,17 @@ impl Deficits {
         nodes.idle_from(q, node, self.cursor, left)
     }
 
-    /// Skips the input whose turn it is, which holds no head and whose queue is known to be empty. Records the visit as if the queue had
-    /// been asked.
-    #[inline]
-    fn pass_over<Q: Ask>(&mut self, nodes: &mut Nodes, q: &Q, node: u16)
-        requires can_pull { CanPull nodes.old node (edges_at nodes.old.inputs.items node self.old.cursor) }
-        requires none_held { IsHead self.old None }
-        requires idle { IsIdle Q.gives nodes.old q.now node self.old.cursor }
-        ensures { LooksAt Q.gives nodes.old nodes.new q.now q.now node self.old self.new None false }
+    // Moves on past `count` inputs, each of which holds no head and gave nothing. Only the first of them has a deficit, since it was
+    // arrived at. Each of the others would get its quantum, and lose it.
+    fn pass_over(&mut self, count: u16)
+        requires some { 1 ≤ count }
+        requires within { self.old.cursor + count ≤ length self.old.row.items }
+        ensures cursor { self.new.cursor ≡ (self.old.cursor + count) % length self.old.row.items }
+        ensures row { (s : Served) → slice_get self.old.row.items self.old.cursor ≡ Some s → IsArrivedAt self.new.cursor (slice_set self.old.row.items self.old.cursor (settled s None)) self.new.row.items }
     {
-        self.visit(nodes, node, None, true);
+        let row = self.row.as_mut_slice();
+        row[usize::from(self.cursor)].settle(None, true);
+        self.move_on(count);
     }
 
     // Takes what was got at the input whose turn it is, by asking (fresh) or as its head. Records the visit, and returns whether it is
@@ -314,16 +330,18 @@ impl Deficits {
         passed
     }
 
-    // Moves on to the next input, wrapping round, and adds its quantum to its deficit.
+    // Moves on by so many inputs, wrapping round, and adds the quantum of the one that it comes to, to its deficit.
     #[inline]
-    fn move_on(&mut self)
-        requires { (s : Served) → slice_get self.old.row.items self.old.cursor ≡ Some s → s.deficit < most_length }
+    fn move_on(&mut self, inputs: u16)
+        requires some { 1 ≤ inputs }
+        requires within { self.old.cursor + inputs ≤ length self.old.row.items }
+        requires left { (s : Served) → slice_get self.old.row.items self.old.cursor ≡ Some s → IsWithoutDeficit s × (s.deficit < most_length) }
         ensures length { length self.new.row.items ≡ length self.old.row.items }
-        ensures cursor { self.new.cursor ≡ (self.old.cursor + 1) % length self.old.row.items }
-        ensures row { (s : Served) → slice_get self.old.row.items self.new.cursor ≡ Some s → self.new.row.items ≡ slice_set self.old.row.items self.new.cursor (with_quantum s) }
+        ensures cursor { self.new.cursor ≡ (self.old.cursor + inputs) % length self.old.row.items }
+        ensures row { IsArrivedAt self.new.cursor self.old.row.items self.new.row.items }
     {
         let row = self.row.as_mut_slice();
-        self.cursor = input_after(self.cursor, row.len() as u16);
+        self.cursor = input_after(self.cursor + inputs - 1, row.len() as u16);
         add_quantum(row, usize::from(self.cursor));
     }
 
@@ -351,7 +369,7 @@ fn add_quantum(row: &mut [Served], place: usize)
     requires place { place < length row.old }
     requires fits { (s : Served) → slice_get row.old place ≡ Some s → s.deficit + s.quantum < 2 ^ 32 }
     ensures length { length row.new ≡ length row.old }
-    ensures adds { (s : Served) → slice_get row.old place ≡ Some s → row.new ≡ slice_set row.old place (with_quantum s) }
+    ensures adds { IsArrivedAt place row.old row.new }
 {
     let served = &mut row[place];
     served.deficit += served.quantum;

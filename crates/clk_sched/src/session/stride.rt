@@ -4,8 +4,7 @@ ghost use Rattle.std.specs.Prelude.{◌≡◌, ◌≤◌, ◌<◌, ◌+◌, ◌^
 ghost use Rattle.std.specs.List.{All, AllByRecursion, range_with_len};
 ghost use Rattle.clk_packet.specs.Limits.{most_inputs, most_tickets};
 ghost use Rattle.clk_sched.specs.Laws.Stride.{stride_of};
-ghost use Rattle.clk_sched.specs.declared.session.stride.TheConstants.{FAR};
-ghost use Rattle.clk_sched.specs.inside.Ranks.{greatest_stride, IsRankOf, FollowOneAnother, HasRisingPasses, HasRisingPasses-prop, HasOnePass, AreInOrder, AreUpTo, is_up_to, put_rank, put_all, at_pass, after_win, first_pass, taken_from, first_rank, less};
+ghost use Rattle.clk_sched.specs.inside.Ranks.{greatest_stride, greatest_pass, IsRankOf, FollowOneAnother, HasRisingPasses, HasRisingPasses-prop, HasOnePass, AreInOrder, AreUpTo, is_up_to, put_rank, put_all, at_pass, after_win, first_pass, from_least, first_rank};
 
 use crate::ask::Ask;
 use crate::session::nodes::Nodes;
@@ -16,9 +15,6 @@ use std::alloc::{AllocError, Global};
 
 /// The stride of one ticket.
 const GREATEST_STRIDE: u32 = 65_536;
-
-/// Once the least pass is this large, it is subtracted from all passes.
-const FAR: u32 = 1_073_741_824;
 
 /// An input with its pass, less what was subtracted from all passes.
 #[derive(Clone, Copy, Debug, Default, PartialEq, Eq)]
@@ -47,14 +43,14 @@ impl Rank {
     }
 }
 
-/// The inputs of a StrideSched in rising order of (pass, index), with the stride of each. No pass is more than 65,536 above the least,
-/// which is below `FAR` between pulls.
+/// The inputs of a StrideSched in rising order of (pass, index), with the stride of each. Between pulls the least pass is 0, and none is
+/// above 65,536. In a pull none is above 131,072.
 #[derive(Drop)]
 pub struct Passes {
     row: SmallVec<Rank, 2>,
     strides: SmallVec<u32, 4>,
-    ghost ranks: { All (IsRankOf (length strides.items) (first_pass row.items)) row.items },
-    ghost near: { first_pass row.items < FAR },
+    ghost ranks: { All (IsRankOf (length strides.items)) row.items },
+    ghost least: { first_pass row.items ≡ 0 },
     ghost rising: { HasRisingPasses row.items } by { HasRisingPasses-prop row.items },
     ghost bounded: { All (λ stride. stride ≤ greatest_stride) strides.items },
 }
@@ -107,7 +103,7 @@ impl Passes {
             winner.pass,
             self.strides[usize::from(winner.input)],
         );
-        bring_near(row);
+        subtract_least(row);
     }
 
     ghost use Rattle.clk_sched.specs.inside.Places.{edges_of};
@@ -228,7 +224,7 @@ fn strides_of(alloc: Global, tickets: &[u32]) -> Result<SmallVec<u32, 4>, AllocE
 /// the pass that the winner had, so that an input that was idle has no claim to what it missed.
 fn place_visited(row: &mut [Rank], place: usize, pass: u32, stride: u32)
     requires place { place < length row.old }
-    requires fits { pass + stride < 2 ^ 32 }
+    requires fits { pass + stride ≤ greatest_pass }
     requires order { AreInOrder row.old }
     ensures { row.new ≡ after_win pass stride place row.old }
 {
@@ -348,14 +344,18 @@ fn is_first(rank: Rank, others: &[Rank]) -> bool
 
 /// Takes out the rank at a place, and puts this one among those after it, which are in order. Those that stand before it move a place to
 /// the front.
+// Each is moved as it is compared: rows are short, and a call that copies a part of one takes longer.
 #[inline(never)]
 fn put_behind(row: &mut [Rank], from: usize, rank: Rank)
     requires { from < length row.old }
     ensures { row.new ≡ take from row.old ++ put_rank rank (drop (from + 1) row.old) }
 {
-    let before = count_before(rank, &row[from + 1..]);
-    row.copy_within(from + 1..from + 1 + before, from);
-    row[from + before] = rank;
+    let mut place = from;
+    while place + 1 < row.len() && !rank.is_up_to(&row[place + 1]) {
+        row[place] = row[place + 1];
+        place += 1;
+    }
+    row[place] = rank;
 }
 
 /// How many of these ranks, which are in order, stand before this one.
@@ -371,14 +371,14 @@ fn count_before(rank: Rank, others: &[Rank]) -> usize
     others.len()
 }
 
-/// Subtracts the first pass, which is the least, from all passes once it is `FAR`, so that no pass grows with the number of pulls.
-fn bring_near(row: &mut [Rank])
+/// Subtracts the first pass, which is the least, from all passes, so that no pass grows with the number of pulls.
+fn subtract_least(row: &mut [Rank])
     requires some { 0 < length row.old }
     requires least { All (λ rank. first_pass row.old ≤ rank.pass) row.old }
-    ensures { row.new ≡ map (less (taken_from row.old)) row.old }
+    ensures { row.new ≡ from_least row.old }
 {
     let least = row[0].pass;
-    if least < FAR {
+    if least == 0 {
         return;
     }
     for rank in row.iter_mut() {

@@ -1,20 +1,61 @@
-use Rattle.std.proofs.Common.{◌≡◌, ◌+◌, ◌-◌, ◌≤◌, ◌∷◌, ◌++◌, List, length, ap, ◌∙◌, set, take, drop, subst, arith}
+use Rattle.std.proofs.Common.{◌≡◌, ◌+◌, ◌-◌, ◌∷◌, ◌++◌, ◌∙◌, ℕ, ap, sym, subst, set, take, drop, get_or, arith}
 use Rattle.std.proofs.Math.Seq.{paste}
+use Rattle.std.proofs.lemmas.List.{length-drop}
+use Rattle.std.proofs.lemmas.List.Edits.{paste_more}
 use Rattle.clk_sched.specs.declared.session.stride.Rank.{Rank}
 use Rattle.clk_sched.specs.inside.Ranks.{put_rank}
-use Rattle.clk_sched.proofs.Classes.RankLemmas.{after-place, put-moved}
+use Rattle.clk_sched.proofs.Classes.RankLemmas.{StandBefore, next-moved, before-next, before-found, before-all, put-moved}
 use Rattle.clk_sched.proofs.session.stride.put_behind.Goals as goal
+use Rattle.clk_sched.proofs.session.stride.put_behind.Goals.{then-loop-place-test+else-not-is_up_to, else-loop-place-test}
+
+pub loop-place-preserved : goal.loop-place-preserved
+loop-place-preserved c =
+    let row = c.args.row.now in
+    let from = c.args.from in
+    let place = c.loop-place.place in
+    let so_far = c.loop-place.invariant in
+    let blank : Rank = record { pass = 0; input = 0 } in
+    let k : ℕ = place - from in
+    let within = so_far.within in
+    let below = c.loop-place-test.true in
+    let same_length = c.loop-place.auto.row in
+    let all = length-drop (from + 1) row in
+    let here : from + k ≡ place = omega (arith, within) in
+    let after : from + k + 1 ≡ place + 1 = omega (arith, within) in
+    let next : k + 1 ≡ place + 1 - from = omega (arith, within) in
+    let read = (λ j. get_or (so_far.moved j) (sym after j) blank) ∙ next-moved row from k blank (omega (arith, within, below, same_length)) in
+    record {
+      within = (omega (arith, within), omega (arith, below, same_length));
+      moved =
+          (λ j. set (so_far.moved j) (sym here j) (read j)) ∙ paste_more row from (drop (from + 1) row) k blank (omega (arith, within)) (omega (arith, within, below, same_length, all))
+          ∙ ap (paste row from (drop (from + 1) row)) next;
+      before =
+          subst (StandBefore c.args.rank (drop (from + 1) row)) next
+          (before-next c.args.rank (drop (from + 1) row) k blank _ (omega (arith, within, below, same_length, all)) read (sym c.is_up_to.ensures ∙ c.if-not-is_up_to.true) so_far.before);
+    }
 
 pub returns : goal.returns
 returns c =
     let row = c.args.row.now in
     let from = c.args.from in
-    let rank = c.args.rank in
-    let before = c.count_before-before.result in
-    let count =
-    subst (λ (xs : List Rank). (before ≤ length xs) × (put_rank rank xs ≡ take before xs ++ rank ∷ drop before xs)) (after-place row (from + 1))
-    (c.count_before-before.ensures.within, c.count_before-before.ensures.count)
+    let place = c.loop-place.place in
+    let so_far = c.loop-place.invariant in
+    let blank : Rank = record { pass = 0; input = 0 } in
+    let k : ℕ = place - from in
+    let within = so_far.within in
+    let same_length = c.loop-place.auto.row in
+    let all = length-drop (from + 1) row in
+    let here : from + k ≡ place = omega (arith, within) in
+    let after : from + k + 1 ≡ place + 1 = omega (arith, within) in
+    let put : put_rank c.args.rank (drop (from + 1) row) ≡ take k (drop (from + 1) row) ++ c.args.rank ∷ drop k (drop (from + 1) row) =
+    elim c.loop-place-test.branch [
+      | then-loop-place-test+else-not-is_up_to w ↦
+          let below = w.loop-place-test.true in
+          before-found c.args.rank (drop (from + 1) row) k blank _ (omega (arith, within, below, same_length, all))
+          ((λ j. get_or (so_far.moved j) (sym after j) blank) ∙ next-moved row from k blank (omega (arith, within, below, same_length))) (sym w.is_up_to.ensures ∙ w.if-not-is_up_to.false) so_far.before
+      | else-loop-place-test w ↦
+          let end = w.loop-place-test.false in
+          before-all c.args.rank (drop (from + 1) row) k (omega (arith, within, end, same_length, all)) so_far.before
+    ]
     in
-    ap (λ x. set x (from + before) rank) c.copy_within.ensures.after
-    ∙ ap (λ n. set (paste row from (drop (from + 1) row) n) (from + before) rank) (let same : from + 1 + before - (from + 1) ≡ before = omega arith in same)
-    ∙ put-moved rank row from before c.requires count.0 count.1
+    (λ j. set (so_far.moved j) (sym here j) c.args.rank) ∙ put-moved c.args.rank row from k c.requires (omega (arith, within, all)) put

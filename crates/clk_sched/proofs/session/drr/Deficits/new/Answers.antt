@@ -14,7 +14,7 @@ invariant_of-result c =
     let limits = limits-first c.args.quanta.now row c.in_ok-row.ensures c.requires.inputs.0 c.requires.inputs.1 c.requires.quanta in
     let adds = adds-within c.in_ok-row.row c.as_mut_slice.result.now c.add_quantum.new.row 0 0 c.as_mut_slice.ensures.value (search rules) refl c.add_quantum.ensures.adds in
     let after = limits-moved 0 row _ 0 limits (λ s e. none-left c.args.quanta.now row 0 s c.in_ok-row.ensures e) limits.cursor_within adds in
-    record { few = after.few; cursor_within = after.cursor_within; quanta_within = after.quanta_within; deficits_within = after.deficits_within }
+    record { few = after.few; cursor_within = after.cursor_within; quanta_within = after.quanta_within; deficits_within = after.deficits_within; idle_without = after.idle_without }
 
 pub returns : goal.returns
 returns c =

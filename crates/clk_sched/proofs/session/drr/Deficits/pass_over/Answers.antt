@@ -1,13 +1,15 @@
-use Rattle.std.proofs.Common.{arith, true≢false}
-use Rattle.clk_sched.proofs.Turns.LooksDrr.{idle-edge, looks-at-idle}
+use Rattle.std.proofs.Common.{◌≡◌, List, None, unwrap_or, sym, ap, ◌∙◌, subst}
+use Rattle.clk_sched.specs.declared.session.drr.Served.{Served}
+use Rattle.clk_sched.specs.inside.Holds.Served.{IsArrivedAt, settled}
+use Rattle.clk_sched.proofs.Classes.Deficits.{row-read, settled-within}
 use Rattle.clk_sched.proofs.session.drr.Deficits.pass_over.Goals as goal
 
-pub visit-requires : goal.visit-requires
-visit-requires g c =
-    let there = idle-edge g.Q.Ask.gives c.args.nodes.now c.args.q.now c.args.node c.args.self.now.cursor c.requires.idle in
-    let room = c.requires.can_pull.room in
-    record { room = omega (arith, there, room); held = λ fresh. absurd (true≢false fresh) }
-
-pub returns : goal.returns
-returns g c =
-    looks-at-idle g.Q.Ask.gives c.args.nodes.now c.visit.new.nodes c.args.q.now c.args.node c.args.self.now c.visit.new.self c.visit.result c.requires.can_pull.fit c.requires.none_held c.requires.idle c.visit.ensures.logs c.visit.ensures.settles
+pub returns-clause-row : goal.returns-clause-row
+returns-clause-row c s e =
+    let d = c.args.self.now in
+    let got = c.index-row-from.result in
+    let read = row-read d.row.items c.as_mut_slice-row.result.now d.cursor c.from.result got c.as_mut_slice-row.ensures.value c.from.ensures d.cursor_within c.index-row-from.is in
+    let same : got ≡ s = ap (λ o. unwrap_or o got) (sym read ∙ e) in
+    let after = c.settle.ensures.after ∙ ap (λ (t : Served). settled t None) (sym c.index-row-from.is ∙ same) in
+    let written = settled-within d.row c.as_mut_slice-row.result.now c.from.result d.cursor c.settle.new.self (settled s None) c.as_mut_slice-row.ensures.value c.from.ensures after in
+    subst (λ (xs : List Served). IsArrivedAt c.move_on.new.self.cursor xs c.move_on.new.self.row.items) written c.move_on.ensures.row

@@ -1,16 +1,14 @@
-use Rattle.std.proofs.Common.{◌≡◌, ◌<◌, ◌+◌, ◌++◌, ◌∙◌, ap, sym, suc, map, take, drop, set, get_or, arith}
-use Rattle.std.proofs.lemmas.Bool.Decides.{nat_tests}
+use Rattle.std.proofs.Common.{◌≡◌, ◌+◌, ◌++◌, ◌∙◌, ap, sym, suc, map, take, drop, set, get_or, arith}
 use Rattle.clk_sched.specs.declared.session.stride.Rank.{Rank}
-use Rattle.clk_sched.specs.declared.session.stride.TheConstants.{FAR}
 use Rattle.clk_sched.specs.inside.Ranks.{first_pass, less}
-use Rattle.clk_sched.proofs.Classes.RankLemmas.{less-none, taken-none, first-is, changed-read, changed-more}
-use Rattle.clk_sched.proofs.session.stride.bring_near.Goals as goal
+use Rattle.clk_sched.proofs.Classes.RankLemmas.{less-none, first-is, changed-read, changed-more}
+use Rattle.clk_sched.proofs.session.stride.subtract_least.Goals as goal
 
-pub returns-then-least-lt-FAR : goal.returns-then-least-lt-FAR
-returns-then-least-lt-FAR c =
+pub returns-then-least-eq0 : goal.returns-then-least-eq0
+returns-then-least-eq0 c =
     let first = first-is c.args.row.now (record { pass = 0; input = 0 }) c.requires.some in
-    let near : first_pass c.args.row.now < FAR = let test = c.if-least-lt-FAR.true in grind (arith, nat_tests, first, test) in
-    sym (ap (λ n. map (less n) c.args.row.now) (taken-none c.args.row.now near) ∙ less-none c.args.row.now)
+    let none : first_pass c.args.row.now ≡ 0 = let test = c.if-least-eq0.true in omega (arith, first, test) in
+    sym (ap (λ n. map (less n) c.args.row.now) none ∙ less-none c.args.row.now)
 
 pub overflow_sub-rank : goal.overflow_sub-rank
 overflow_sub-rank c =
