@@ -2,7 +2,7 @@
 use Rattle.std.proofs.Common.{◌≡◌, ℕ, zero, suc, ◌-◌, ◌≤◌, ◌||◌, Bool, ◌++◌, ◌∷◌, [], List, length, take, true, false, refl, sym, ap, ◌∙◌, subst, arith}
 use Rattle.std.proofs.lemmas.List.{append_assoc, append-nil, length-append}
 use Rattle.rtrb.specs.Fifo.{Allowed}
-use Rattle.clk_inlet.specs.Items.{MayFollow, has_end, is_end, IsWhole}
+use Rattle.clk_inlet.specs.Items.{MayFollow, AreShort, has_end, is_end, IsWhole}
 use Rattle.clk_inlet.specs.declared.item.Item.{Item}
 
 module _ {T : Type 0} (allows : List T → T → Type 0) where
@@ -27,6 +27,11 @@ still_allowed before more now e h k = subst (Allowed MayFollow []) (sym e) (both
 
 pub one_more_allowed : (before now : List Item) (x : Item) → now ≡ before ++ x ∷ [] → MayFollow before x → Allowed MayFollow [] before → Allowed MayFollow [] now
 one_more_allowed before now x e h = still_allowed before (x ∷ []) now e (h, tt)
+
+-- items that are allowed are short
+pub allowed_short : (before xs : List Item) → Allowed MayFollow before xs → AreShort xs
+allowed_short before [] h = tt
+allowed_short before (x ∷ xs) h = (h.0.short, allowed_short (before ++ x ∷ []) xs h.1)
 
 -- what has the end is whole
 pub whole : (items : List Item) → has_end items ≡ true → IsWhole items

@@ -11,6 +11,13 @@ first = packet_item 100 7
 abbrev pub second : Item
 second = packet_item 100 8
 
+-- a packet of the greatest length, and one that is a byte longer
+abbrev pub longest : Item
+longest = packet_item 65535 7
+
+abbrev pub too_long : Item
+too_long = packet_item 65536 7
+
 -- the end of a sender's packets
 abbrev pub the_end : Item
 the_end = packet_item 0 0

@@ -1,8 +1,8 @@
 -- What contracts see of the two halves of an inlet's ring.
-use Rattle.std.specs.Prelude.{◌≡◌, ℕ, ◌+◌, ◌==◌, ◌||◌, ◌⊎◌, Bool, true, List, length, take}
+use Rattle.std.specs.Prelude.{◌≡◌, ℕ, ◌==◌, ◌||◌, ◌⊎◌, Bool, false, List, length, slice_get, IfSome}
 use Rattle.rtrb.specs.Ring.{sent, received, known_items, IsPair}
 use Rattle.clk_inlet.specs.Limits.{most_packets}
-use Rattle.clk_inlet.specs.Items.{packets, has_end}
+use Rattle.clk_inlet.specs.Items.{packets, is_packet, has_end}
 use Rattle.clk_inlet.specs.declared.item.Item.{Item}
 use Rattle.clk_inlet.specs.declared.inlet.Inlet.{Inlet}
 use Rattle.clk_inlet.specs.declared.outlet.Outlet.{Outlet}
@@ -27,9 +27,9 @@ fits i = i.free
 abbrev pub at_end : Inlet → Bool
 at_end i = has_end (pushed i) || (next_number i == most_packets)
 
--- A batch stops after its first `count` items: no item is left, the next one has length 0, or no packet is sure to fit any more.
+-- A batch stops after its first `count` items: no item is left, the next one is no packet, or no packet is sure to fit any more.
 abbrev pub StopsAt : (count : ℕ) → List Item → Inlet → Type 0
-StopsAt count items now = (count ≡ length items) ⊎ ((has_end (take (count + 1) items) ≡ true) ⊎ (fits now ≡ 0))
+StopsAt count items now = (count ≡ length items) ⊎ (IfSome (slice_get items count) (λ x. is_packet x ≡ false) ⊎ (fits now ≡ 0))
 
 -- the items that were popped from the ring, oldest first: the packets, and the end once it was popped
 abbrev pub popped : Outlet → List Item

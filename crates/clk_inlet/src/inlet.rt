@@ -1,8 +1,8 @@
 //! The sender's half of a ring.
 
-ghost use Rattle.std.specs.Prelude.{◌≡◌, ◌+◌, ◌-◌, ◌<◌, ◌≤◌, true, false, length, take};
+ghost use Rattle.std.specs.Prelude.{◌≡◌, ◌+◌, ◌-◌, ◌<◌, ◌≤◌, true, false, length, take, slice_get, IfSome};
 ghost use Rattle.rtrb.specs.Ring.{sent, known_free};
-ghost use Rattle.clk_inlet.specs.Items.{has_end, packets};
+ghost use Rattle.clk_inlet.specs.Items.{has_end, is_packet, packets, AreShort};
 ghost use Rattle.clk_inlet.specs.Limits.{most_packets};
 
 use crate::item::{Item, ItemOrder};
@@ -131,14 +131,17 @@ impl Inlet {
             return Err(self.refusal());
         }
         let number = self.next;
-        self.producer.push_reserved(Item { token, length });
+        self.producer.push_reserved(Item {
+            token,
+            length: u32::from(length),
+        });
         self.next = number + 1;
         self.free -= 1;
         Ok(number)
     }
 
-    /// Offers a batch of packets, in order, and returns how many were accepted. An item's length is in bytes. The batch stops before the
-    /// first item of length 0, and before the first packet that does not fit.
+    /// Offers a batch of packets, in order, and returns how many were accepted. The batch stops before the first item that is no packet,
+    /// and before the first packet that does not fit.
     ///
     /// The taker sees all packets of a batch at once.
     pub fn offer_many(&mut self, items: &[Item]) -> usize
@@ -210,10 +213,11 @@ fn leave(producer: Producer<Item, Global, ItemOrder>)
 fn packets_in(items: &[Item], most: usize) -> usize
     ensures within { (result ≤ most) × (result ≤ length items.now) }
     ensures packets { has_end (take result items.now) ≡ false }
-    ensures stops { result < most → result < length items.now → has_end (take (result + 1) items.now) ≡ true }
+    ensures short { AreShort (take result items.now) }
+    ensures stops { result < most → IfSome (slice_get items.now result) (λ x. is_packet x ≡ false) }
 {
     let mut count = 0;
-    while count < most && count < items.len() && items[count].length != 0 {
+    while count < most && count < items.len() && items[count].is_packet() {
         count += 1;
     }
     count

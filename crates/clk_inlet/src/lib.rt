@@ -11,6 +11,6 @@ mod ring;
 pub use examples::{order_examples, whole_examples};
 pub use inlet::{Inlet, Refusal};
 pub use item::Item;
-pub use limits::{MAX_PACKETS, MAX_ROOM};
+pub use limits::{MAX_LENGTH, MAX_PACKETS, MAX_ROOM};
 pub use outlet::Outlet;
 pub use ring::open;

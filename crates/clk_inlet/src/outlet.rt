@@ -24,7 +24,7 @@ impl Outlet {
     ghost use mathlib.Core.List.{IsPrefix};
     ghost use Rattle.rtrb.specs.Ring.{received};
     ghost use Rattle.rtrb.specs.Fifo.{Allowed};
-    ghost use Rattle.clk_inlet.specs.Items.{has_end, is_end, packets, MayFollow, IsWhole};
+    ghost use Rattle.clk_inlet.specs.Items.{has_end, is_end, packets, AreShort, MayFollow, IsWhole};
     ghost use Rattle.clk_inlet.specs.Halves.{pushed, fits, popped, taken, seen, AreHalves};
     ghost use Rattle.clk_inlet.specs.declared.inlet.Inlet.{Inlet};
 
@@ -85,6 +85,7 @@ impl Outlet {
         ensures rest { drop result items.new ≡ drop result items.old }
         ensures taken { taken self.new ≡ taken self.old ++ take result items.new }
         ensures packets { has_end (take result items.new) ≡ false }
+        ensures short { AreShort (take result items.new) }
         ensures may_follow { Allowed MayFollow (popped self.old) (take result items.new) }
         ensures ended { has_end (popped self.old) ≡ true → popped self.new ≡ popped self.old }
         ensures all_seen { result < length items.old → has_end (popped self.new) ≡ false → IsPrefix (seen self.old) (take result items.new) }

@@ -4,8 +4,8 @@ use crate::calling::through;
 use clk_inlet::{Item, Refusal, open};
 use std::test::Fail;
 
-// A packet of this length, or the end.
-fn item(length: u16, token: u64) -> Item {
+// A packet of this length, or the end, or what is too long for a packet.
+fn item(length: u32, token: u64) -> Item {
     Item { token, length }
 }
 
@@ -33,6 +33,17 @@ fn packets_go_through(rt: HostRuntime) -> Result<(), Fail> {
     assert_eq!(rt; outlet.take_many(&mut taken), 1);
     assert_eq!(rt; taken, [item(70, 10), item(1, 1), item(1, 1)]);
     assert!(rt; outlet.is_ended());
+    assert_eq!(rt; outlet.take(), None);
+    Ok(())
+}
+
+#[test]
+fn a_batch_stops_at_what_is_too_long(rt: HostRuntime) -> Result<(), Fail> {
+    let (mut inlet, mut outlet) = open(rt.alloc(), 4)?;
+    let batch = [item(65_535, 1), item(65_536, 2), item(60, 3)];
+    assert_eq!(rt; inlet.offer_many(&batch), 1);
+    assert_eq!(rt; inlet.offer_many(&batch[1..]), 0);
+    assert_eq!(rt; outlet.take(), Some(item(65_535, 1)));
     assert_eq!(rt; outlet.take(), None);
     Ok(())
 }

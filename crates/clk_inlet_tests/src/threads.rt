@@ -1,6 +1,7 @@
 //! A sender on a thread of its own, and the taker on the test's.
 
 ghost use Rattle.std.specs.Prelude.{◌≤◌};
+ghost use Rattle.clk_inlet.specs.Items.{IsShort};
 
 use clk_inlet::{Inlet, Item, Outlet, Refusal, open};
 use std::alloc::{AllocError, Global};
@@ -16,10 +17,11 @@ const PACKETS: u32 = 10_000;
 // The packet of this number.
 fn packet(number: u32) -> Item
     ensures has_length { 1 ≤ result.length }
+    ensures short { IsShort result }
 {
     Item {
         token: 1_000_000 + u64::from(number),
-        length: 1 + (number % 1500) as u16,
+        length: 1 + number % 1500,
     }
 }
 
@@ -27,7 +29,7 @@ fn packet(number: u32) -> Item
 fn offer(rt: &impl Wait, inlet: &mut Inlet, number: u32) -> bool {
     let item = packet(number);
     for _ in rt.forever() {
-        match inlet.offer(item.length, item.token) {
+        match inlet.offer(item.bytes(), item.token) {
             Ok(told) => return told == number,
             Err(Refusal::Full) => thread::yield_now(),
             Err(Refusal::AtEnd) => break,
@@ -94,7 +96,7 @@ fn send_few(rt: &impl Wait, inlet: Inlet) -> Option<Refusal> {
     }
     inlet.end();
     let item = packet(3);
-    inlet.offer(item.length, item.token).err()
+    inlet.offer(item.bytes(), item.token).err()
 }
 
 #[test]

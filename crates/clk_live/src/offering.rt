@@ -1,7 +1,7 @@
 //! Packets that came from an inlet are offered to their queue.
 
 ghost use Rattle.std.specs.Prelude.{◌≡◌, ◌+◌, ◌≤◌, ◌++◌, List, false, length, take, drop, slice_set};
-ghost use Rattle.clk_inlet.specs.Items.{has_end};
+ghost use Rattle.clk_inlet.specs.Items.{has_end, AreShort, IsShort};
 ghost use Rattle.clk_inlet.specs.declared.item.Item.{Item};
 ghost use Rattle.clk_live.specs.declared.taking.Taken.{Taken};
 ghost use Rattle.clk_live.specs.State.{Seen};
@@ -26,6 +26,7 @@ pub(crate) fn offer_next(
 ) -> Taken
     requires can { (items : List (List Item)) × (before : List Item) × CanRun router.old tokens.old.items items place before 1 }
     requires has_length { 1 ≤ item.length }
+    requires short { IsShort item }
     ensures offered { (items : List (List Item)) (before : List Item) → CanRun router.old tokens.old.items items place before 1 → IsOffered place (record { course = router.old; items = items }) before item result router.new tokens.new.items }
     ensures full { StayFull router.old router.new }
 {
@@ -33,7 +34,7 @@ pub(crate) fn offer_next(
     router.queues_go_on();
     router.has_happened();
     let _ = router.senders();
-    let (packet, outcome) = router.offer(place, item.length);
+    let (packet, outcome) = router.offer(place, item.bytes());
     router.has_happened();
     let queue = router.accounts()[place].queue;
     let capacity = router.queue(queue).capacity;
@@ -58,6 +59,7 @@ pub(crate) fn offer_run(
 )
     requires can { (items : List (List Item)) × (before : List Item) × CanRun router.old tokens.old.items items place before (length run.now) }
     requires packets { has_end run.now ≡ false }
+    requires short { AreShort run.now }
     requires within { from + length run.now ≤ length taken.old }
     ensures kept { (items : List (List Item)) (before : List Item) → CanRun router.old tokens.old.items items place before (length run.now) → IsKept router.new (slice_set items place (before ++ run.now)) tokens.new.items }
     ensures taken { (items : List (List Item)) (before : List Item) → CanRun router.old tokens.old.items items place before (length run.now)

@@ -46,9 +46,9 @@ impl Promise<Inlet> for Sending {
 fn offer<R: Wait + Abort>(rt: &R, inlet: &mut Inlet, packet: Item)
     ensures sent { HasSent inlet.old (packet ∷ []) inlet.new }
 {
-    assert!(rt; packet.length > 0);
+    assert!(rt; packet.is_packet());
     for _ in rt.forever() {
-        match inlet.offer(packet.length, packet.token) {
+        match inlet.offer(packet.bytes(), packet.token) {
             Ok(_) => return,
             Err(refusal) => assert_eq!(rt; refusal, Refusal::Full),
         }
@@ -184,7 +184,7 @@ fn packets_of(alloc: Global, sender: u16, count: u32) -> Result<Vec<Item>, Alloc
     for number in 0..count {
         packets.push(Item {
             token: token_of(sender, number),
-            length: length_of(number),
+            length: u32::from(length_of(number)),
         })?;
     }
     Ok(packets)

@@ -1,14 +1,14 @@
-use Rattle.std.proofs.Common.{◌≡◌, [], ◌∷◌, refl, arith}
+use Rattle.std.proofs.Common.{◌≡◌, [], ◌∷◌, refl, arith, lit≤}
 use Rattle.clk_inlet.specs.Items.{MayFollow}
 use Rattle.clk_inlet.specs.Examples.{first, second, one_packet, just_ended, ended}
 use Rattle.clk_inlet.proofs.Order.{whole}
 use Rattle.clk_inlet.proofs.examples.whole_examples.Goals as goal
 
 first_follows : MayFollow [] first
-first_follows = record { not_ended = refl; numbered = λ _. omega arith }
+first_follows = record { not_ended = refl; short = lit≤ tt; numbered = λ _. omega arith }
 
 second_follows : MayFollow one_packet second
-second_follows = record { not_ended = refl; numbered = λ _. omega arith }
+second_follows = record { not_ended = refl; short = lit≤ tt; numbered = λ _. omega arith }
 
 pub returns-clause-ended : goal.returns-clause-ended
 returns-clause-ended c = whole ended refl

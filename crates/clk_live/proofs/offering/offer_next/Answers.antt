@@ -20,7 +20,7 @@ offers c items before can = record {
     its = can.its;
     few = (let few = can.few in omega (arith, few));
     sender = c.offer-outcome.ensures.sender;
-    bytes = c.offer-outcome.ensures.length;
+    bytes = c.offer-outcome.ensures.length ∙ c.bytes.ensures;
     more = subst (λ (k : Course). CanHappen k.setup k.events) c.offer-outcome.ensures.goes_on c.has_happened-2.ensures;
   };
   goes = c.offer-outcome.ensures.goes_on;

@@ -1,6 +1,6 @@
-use Rattle.std.proofs.Common.{◌-◌, ◌∙◌, length, sym, ap, arith}
+use Rattle.std.proofs.Common.{◌-◌, ◌∙◌, length, sym, ap, subst, arith}
 use Rattle.rtrb.specs.Ring.{sent}
-use Rattle.clk_inlet.specs.Items.{has_end}
+use Rattle.clk_inlet.specs.Items.{AreShort, has_end}
 use Rattle.clk_inlet.proofs.Halves.{sender_stays}
 use Rattle.clk_inlet.proofs.Sending.{front, each_may_follow, sent_on, still_open}
 use Rattle.clk_inlet.proofs.inlet.Inlet.offer_many.Goals as goal
@@ -10,7 +10,7 @@ push_entire_slice-requires c =
     let r = c.room_for-room in
     let i = r.new.self in
     let open_yet = still_open i.ended i.free i.full_at_end (omega (arith, c.if-room-eq0.false, r.ensures.room)) in
-    each_may_follow (sent i.producer) c.split_at.result.0.now (sym i.end_is_put ∙ open_yet) (ap has_end c.split_at.ensures.front ∙ c.packets_in-count.ensures.packets)
+    each_may_follow (sent i.producer) c.split_at.result.0.now (sym i.end_is_put ∙ open_yet) (ap has_end c.split_at.ensures.front ∙ c.packets_in-count.ensures.packets) (subst AreShort (sym c.split_at.ensures.front) c.packets_in-count.ensures.short)
     (omega (arith, i.counted, i.numbers_left, r.ensures.room, c.packets_in-count.ensures.within, c.split_at.ensures.front_len))
 
 pub invariant_of-self : goal.invariant_of-self

@@ -1,9 +1,10 @@
 use Rattle.std.proofs.Common.{◌-◌, ◌++◌, ◌∙◌, List, take, sym, subst, ap, arith}
 use Rattle.std.proofs.lemmas.List.{take-set}
 use Rattle.rtrb.specs.Fifo.{Allowed}
-use Rattle.clk_inlet.specs.Items.{MayFollow, has_end}
+use Rattle.clk_inlet.specs.Items.{MayFollow, AreShort, has_end}
 use Rattle.clk_inlet.specs.Halves.{popped, taken}
 use Rattle.clk_inlet.specs.declared.item.Item.{Item}
+use Rattle.clk_inlet.proofs.Order.{allowed_short}
 use Rattle.clk_inlet.proofs.Taking.{Batch, none_among, front_allowed, ended, at_end, goes_on, keeps, grows, all_seen, in_order, one_ring}
 use Rattle.clk_inlet.proofs.outlet.Outlet.take_many.Goals as goal
 use Rattle.clk_inlet.proofs.outlet.Outlet.take_many.Goals.{After-pop_seen}
@@ -44,6 +45,11 @@ returns-then-items-count-eq0-clause-may_follow c =
     let b = batch (goal.at.returns-then-items-count-eq0-clause-may_follow c).After-pop_seen in
     subst (Allowed MayFollow (popped c.args.self.now)) (sym (take-set c.pop_seen.new.items (c.seen_up_to-count.result - 1) _)) (front_allowed b)
 
+pub returns-then-items-count-eq0-clause-short : goal.returns-then-items-count-eq0-clause-short
+returns-then-items-count-eq0-clause-short c =
+    let b = batch (goal.at.returns-then-items-count-eq0-clause-short c).After-pop_seen in
+    subst AreShort (sym (take-set c.pop_seen.new.items (c.seen_up_to-count.result - 1) _)) (allowed_short (popped c.args.self.now) (take (c.seen_up_to-count.result - 1) c.pop_seen.new.items) (front_allowed b))
+
 pub returns-then-items-count-eq0-clause-keeps : goal.returns-then-items-count-eq0-clause-keeps
 returns-then-items-count-eq0-clause-keeps c = keeps (batch (goal.at.returns-then-items-count-eq0-clause-keeps c).After-pop_seen)
 
@@ -70,6 +76,11 @@ invariant_of-self-else-items-count-eq0 c =
 
 pub returns-clause-taken : goal.returns-clause-taken
 returns-clause-taken c = (goes_on (batch (goal.at.returns-clause-taken c).After-pop_seen) c.if-items-count-eq0.false).2
+
+pub returns-clause-short : goal.returns-clause-short
+returns-clause-short c =
+    let b = batch (goal.at.returns-clause-short c).After-pop_seen in
+    allowed_short (popped c.args.self.now) (take c.seen_up_to-count.result c.pop_seen.new.items) b.allowed
 
 pub returns-clause-all_seen : goal.returns-clause-all_seen
 returns-clause-all_seen c = λ fewer goes_on_yet. all_seen (batch (goal.at.returns-clause-all_seen c).After-pop_seen) (c.seen_up_to-count.ensures.all fewer)
