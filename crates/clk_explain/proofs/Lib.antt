@@ -1,0 +1,1 @@
+-- What the code meets its contracts by.

@@ -1,0 +1,4 @@
+-- What an explanation of a fault says.
+pub mod Position
+pub mod Explanation
+pub mod inside

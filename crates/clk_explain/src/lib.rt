@@ -1,0 +1,16 @@
+//! Explains a fault of a tree text: where it is, the line with a caret, what is wrong, and what was expected.
+#![tactic(auto)]
+
+mod diagram;
+mod examples;
+mod explanation;
+mod limits;
+mod mentions;
+mod position;
+mod wording;
+mod words;
+
+pub use examples::{explanation_examples, position_examples};
+pub use explanation::{Explanation, explain};
+pub use limits::{MAX_EXPLANATION, SHOWN, SHOWN_BEFORE};
+pub use position::{Position, position_of};
