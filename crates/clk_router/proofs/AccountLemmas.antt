@@ -192,8 +192,8 @@ module _ (old new : Course) (more : List Event) where
   alike-after accounts numbers are goes_on numbers_are =
       ap (map account_sender) are ∙ accounts-senders old.events old.setup.senders ∙ ap (λ (c : Course). sender_numbers c.setup) (sym goes_on) ∙ sym numbers_are
 
-  pub accounts-go_on : (f : Account → Account) (accounts changed : List Account) → (old.keeps ≡ keeps_nothing) × (accounts ≡ map (account_after old.events) old.setup.senders) → new ≡ after old more
+  pub accounts-go_on : (f : Account → Account) (accounts changed : List Account) (names : List (List ℕ)) → (old.keeps ≡ keeps_nothing) × (accounts ≡ map (account_after old.events) old.setup.senders) × (names ≡ old.setup.names) → new ≡ after old more
       → map f (map (account_after old.events) old.setup.senders) ≡ map (account_after (old.events ++ more)) old.setup.senders → changed ≡ map f accounts
-      → (new.keeps ≡ keeps_nothing) × (changed ≡ map (account_after new.events) new.setup.senders)
-  accounts-go_on f accounts changed were goes_on step are =
-      (ap (λ (c : Course). c.keeps) goes_on ∙ were.0, are ∙ ap (map f) were.1 ∙ step ∙ ap (λ (c : Course). map (account_after c.events) c.setup.senders) (sym goes_on))
+      → (new.keeps ≡ keeps_nothing) × (changed ≡ map (account_after new.events) new.setup.senders) × (names ≡ new.setup.names)
+  accounts-go_on f accounts changed names were goes_on step are =
+      (ap (λ (c : Course). c.keeps) goes_on ∙ were.0, are ∙ ap (map f) were.1 ∙ step ∙ ap (λ (c : Course). map (account_after c.events) c.setup.senders) (sym goes_on), were.2 ∙ ap (λ (c : Course). c.setup.names) (sym goes_on))

@@ -504,10 +504,10 @@ paths-made [] = refl
 paths-made (q ∷ queues) = ap (λ l. q.device ∷ l) (paths-made queues)
 
 -- The parts of a router to which nothing has happened.
-pub IsAt-made : CallsAreHistory → (trees : List Tree) (queues : List Queued) (senders : List SenderSpec) (parts : Parts) → ((tree : Tree) → IsRun tree [])
+pub IsAt-made : CallsAreHistory → (names : List (List ℕ)) (trees : List Tree) (queues : List Queued) (senders : List SenderSpec) (parts : Parts) → ((tree : Tree) → IsRun tree [])
     → parts.devices.items ≡ map (device_made parts.keeps) trees → parts.queues.rings.items ≡ map queue_made queues → parts.paths.items ≡ map path_made queues → parts.senders.items ≡ map sender_made senders
-    → parts.numbers.items ≡ map number_of senders → IsAt (setup_of trees queues senders) [] parts
-IsAt-made calls trees queues senders parts run devices_are queues_are paths_are senders_are numbers_are =
+    → parts.numbers.items ≡ map number_of senders → IsAt (setup_of names trees queues senders) [] parts
+IsAt-made calls names trees queues senders parts run devices_are queues_are paths_are senders_are numbers_are =
     record {
       can_happen = record {
         senders = tt;

@@ -61,10 +61,10 @@ all-fit [] h = tt
 all-fit (q ∷ queues) h = (h.0.1, all-fit queues h.1)
 
 -- a router can run over a plan
-pub plan-whole : (plan : List Planned) (trees : List Tree) (queues : List Queued) (senders : List SenderSpec) → AreTreesOf plan trees → 1 ≤ length trees → length trees ≤ most_elements → queues ≡ queues_of plan → AreRising (map number_of senders)
+pub plan-whole : (names : List (List ℕ)) (plan : List Planned) (trees : List Tree) (queues : List Queued) (senders : List SenderSpec) → AreTreesOf plan trees → 1 ≤ length trees → length trees ≤ most_elements → queues ≡ queues_of plan → AreRising (map number_of senders)
     → AllByRecursion (SendsWithin (length (queues_of plan))) senders → AllByRecursion (λ (q : Queued). q.device < device_count plan) (queues_of plan) → length (queues_of plan) ≤ most_elements → AllByRecursion HasCapacity (queues_of plan)
-    → IsWhole (setup_of trees queues senders)
-plan-whole plan trees queues senders are some few its rising wired paths queues_few capacities = record {
+    → IsWhole (setup_of names trees queues senders)
+plan-whole names plan trees queues senders are some few its rising wired paths queues_few capacities = record {
   some = some;
   few = omega (arith, few);
   rising = rising;

@@ -15,7 +15,7 @@ use Rattle.clk_sched.specs.Run.{IsRun}
 use Rattle.clk_sched.specs.Results.{asks_queue, emitted}
 use Rattle.clk_tree.specs.declared.plan.parts.SenderSpec.{SenderSpec}
 use Rattle.clk_tree.specs.Plan.{Planned}
-use Rattle.clk_tree.specs.PlanParts.{Queued, queues_of, senders_of, number_of}
+use Rattle.clk_tree.specs.PlanParts.{Queued, queues_of, senders_of, sender_names, number_of}
 use Rattle.clk_packet.specs.Lists.{of_sender}
 
 -- what a router knows of a queue: its kind, its capacity in packets, and the number of the device that emits its packets
@@ -28,19 +28,20 @@ pub record Room : Type 0 where
 abbrev pub room_of : Queued → Room
 room_of q = record { kind = q.kind; capacity = q.capacity; device = q.device }
 
--- what a router is made over: a tree for each device, by its number, the queues, and the senders
+-- what a router is made over: a tree for each device, by its number, the queues, the senders, and the name of each sender's element
 pub record Setup : Type 0 where
   pub trees : List Tree
   pub queues : List Room
   pub senders : List SenderSpec
+  pub names : List (List ℕ)
 
--- the setup of these trees, queues and senders
-abbrev pub setup_of : List Tree → List Queued → List SenderSpec → Setup
-setup_of trees queues senders = record { trees = trees; queues = map room_of queues; senders = senders }
+-- the setup of these names, trees, queues and senders
+abbrev pub setup_of : List (List ℕ) → List Tree → List Queued → List SenderSpec → Setup
+setup_of names trees queues senders = record { trees = trees; queues = map room_of queues; senders = senders; names = names }
 
 -- the setup of a plan with its trees
 abbrev pub plan_setup : List Tree → List Planned → Setup
-plan_setup trees plan = setup_of trees (queues_of plan) (senders_of plan)
+plan_setup trees plan = setup_of (sender_names plan) trees (queues_of plan) (senders_of plan)
 
 -- the numbers of the senders of a setup
 abbrev pub sender_numbers : Setup → List ℕ

@@ -1,5 +1,5 @@
 -- Events that can happen over one queue, and events that cannot, which differ in one thing.
-use Rattle.std.specs.Prelude.{List, [], ◌∷◌}
+use Rattle.std.specs.Prelude.{List, [], ◌∷◌, codes}
 use Rattle.clk_packet.specs.declared.packet.Kind.TheVariants.{TailDrop}
 use Rattle.clk_packet.specs.declared.packet.Offered.TheVariants.{Accepted}
 use Rattle.clk_sched.specs.Tree.{queue}
@@ -12,6 +12,7 @@ one_queue = record {
   trees = queue 0 ∷ [];
   queues = record { kind = TailDrop; capacity = 2; device = 0 } ∷ [];
   senders = record { number = 0; queue = 0 } ∷ [];
+  names = codes "s" ∷ [];
 }
 
 -- sender 0 offers its first packet

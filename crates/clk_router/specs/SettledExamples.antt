@@ -1,5 +1,5 @@
 -- Courses of two devices that are settled or accounted for, and courses that are not, which differ in one thing.
-use Rattle.std.specs.Prelude.{ℕ, List, [], ◌∷◌, Some, None, true, false}
+use Rattle.std.specs.Prelude.{ℕ, List, [], ◌∷◌, codes, Some, None, true, false}
 use Rattle.std.proofs.Common.{lit≤}
 use Rattle.clk_packet.specs.declared.packet.Packet.{Packet}
 use Rattle.clk_packet.specs.declared.packet.Kind.TheVariants.{TailDrop, FrontDrop}
@@ -31,6 +31,7 @@ two_devices = record {
   trees = queue 0 ∷ queue 1 ∷ [];
   queues = record { kind = TailDrop; capacity = 2; device = 0 } ∷ record { kind = FrontDrop; capacity = 2; device = 1 } ∷ [];
   senders = record { number = 0; queue = 0 } ∷ record { number = 1; queue = 1 } ∷ [];
+  names = codes "s" ∷ codes "t" ∷ [];
 }
 
 -- pull k of a device, in which its queue gives this packet and the device emits it
@@ -107,6 +108,7 @@ one_drr = record {
   trees = scheduler (drr (50 ∷ [])) (leaf 0 end) ∷ [];
   queues = record { kind = TailDrop; capacity = 2; device = 0 } ∷ [];
   senders = record { number = 0; queue = 0 } ∷ [];
+  names = codes "s" ∷ [];
 }
 
 -- the DRRSched holds the first of two packets as a head
@@ -119,12 +121,12 @@ stranger_held = pulled 0 0 (look 0 0 1 0 true (Some p7_0) false ∷ asking 0 0 0
 
 -- the queue of each device stands in the tree of the other
 abbrev pub crossed : Setup
-crossed = record { trees = queue 1 ∷ queue 0 ∷ []; queues = two_devices.queues; senders = two_devices.senders }
+crossed = record { trees = queue 1 ∷ queue 0 ∷ []; queues = two_devices.queues; senders = two_devices.senders; names = two_devices.names }
 
 -- a queue of a device without a tree
 abbrev pub without_tree : Setup
-without_tree = record { trees = []; queues = record { kind = TailDrop; capacity = 2; device = 0 } ∷ []; senders = [] }
+without_tree = record { trees = []; queues = record { kind = TailDrop; capacity = 2; device = 0 } ∷ []; senders = []; names = [] }
 
 -- a tree over a queue that does not exist
 abbrev pub without_queue : Setup
-without_queue = record { trees = queue 0 ∷ []; queues = []; senders = [] }
+without_queue = record { trees = queue 0 ∷ []; queues = []; senders = []; names = [] }

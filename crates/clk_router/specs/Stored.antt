@@ -26,8 +26,8 @@ room_code = code_by (Kind × (ℕ × ℕ)) (coded× kind_row.coded (coded× code
 -- how a setup is stored
 abbrev pub setup_code : Coded Setup
 setup_code =
-    code_by (List Tree × (List Room × List SenderSpec)) (coded× (coded_list tree_code) (coded× (coded_list room_code) (coded_list sender_row.coded))) (λ s. (s.trees, (s.queues, s.senders)))
-    (λ t. record { trees = t.0; queues = t.1.0; senders = t.1.1 }) (λ s. refl)
+    code_by (List Tree × (List Room × (List SenderSpec × List (List ℕ)))) (coded× (coded_list tree_code) (coded× (coded_list room_code) (coded× (coded_list sender_row.coded) (coded_list (coded_list coded_ℕ)))))
+    (λ s. (s.trees, (s.queues, (s.senders, s.names)))) (λ t. record { trees = t.0; queues = t.1.0; senders = t.1.1.0; names = t.1.1.1 }) (λ s. refl)
 
 -- an event as a sum of products: an offer, or a pull
 abbrev Parts : Type 0

@@ -17,6 +17,8 @@ pub struct CountingRouter {
     router: Router,
     /// The account of each sender, at its place.
     accounts: Vec<Account>,
+    /// The name of each sender's element, at its place.
+    names: Vec<Vec<u8>>,
 }
 
 impl Model for CountingRouter {
@@ -32,11 +34,12 @@ impl Model for CountingRouter {
 
     ghost view = { λ r. r.router };
 
-    ghost invariant = { λ r. (r.router.keeps ≡ keeps_nothing) × (r.accounts.items ≡ map (account_after r.router.events) r.router.setup.senders) };
+    ghost invariant = { λ r. (r.router.keeps ≡ keeps_nothing) × (r.accounts.items ≡ map (account_after r.router.events) r.router.setup.senders)
+        × (map (λ n. n.items) r.names.items ≡ r.router.setup.names) };
 }
 
 impl CountingRouter {
-    ghost use Rattle.std.specs.Prelude.{◌≡◌, ℕ, ◌+◌, ◌<◌, ◌≤◌, ◌∷◌, [], Some, None, true, false, map, length, IfSome, IfOk, IsOkUnless};
+    ghost use Rattle.std.specs.Prelude.{◌≡◌, ℕ, ◌+◌, ◌<◌, ◌≤◌, ◌∷◌, [], Some, None, true, false, map, length, slice_get, IfSome, IfOk, IsOkUnless, MatchOption};
     ghost use Rattle.clk_packet.specs.Limits.{most_elements, most_capacity};
     ghost use Rattle.clk_sched.specs.Kinds.{keeps_nothing};
     ghost use Rattle.clk_sched.specs.Limits.{end_of_moments};
@@ -66,6 +69,7 @@ impl CountingRouter {
         Ok(CountingRouter {
             router: Router::open(alloc, plan, keeps)?,
             accounts: accounts_of(alloc, plan.senders())?,
+            names: plan.sender_names(alloc)?,
         })
     }
 
@@ -83,6 +87,15 @@ impl CountingRouter {
         ensures missing { result ≡ None → (place : _) → sender_at self.now.setup place ≡ Some sender → ⊥ }
     {
         place_of(self.router.senders(), sender)
+    }
+
+    /// The name of the sender at this place, if there is one: that of its element in the plan.
+    pub fn sender_name(&self, place: usize) -> Option<&[u8]>
+        ensures { MatchOption result (slice_get self.now.setup.names place ≡ None) (λ name. slice_get self.now.setup.names place ≡ Some name.now) }
+    {
+        // Reading the router brings its invariant into scope, which says that these are the names.
+        let _ = &self.router;
+        Some(self.names.get(place)?.as_slice())
     }
 
     /// All that has happened can happen over its setup. A law, which does nothing.

@@ -31,7 +31,7 @@ pub struct Parts {
 }
 
 impl Parts {
-    ghost use Rattle.std.specs.Prelude.{◌≡◌, ◌+◌, ◌<◌, ◌≤◌, ◌++◌, List, ◌∷◌, [], Some, map, length, slice_get, IfOk, OnErr, IsOk, IsOkUnless, true};
+    ghost use Rattle.std.specs.Prelude.{◌≡◌, ℕ, ◌+◌, ◌<◌, ◌≤◌, ◌++◌, List, ◌∷◌, [], Some, map, length, slice_get, IfOk, OnErr, IsOk, IsOkUnless, true};
     ghost use Rattle.std.specs.List.{AllByRecursion};
     ghost use Rattle.clk_sched.specs.Kinds.{keeps_nothing};
     ghost use Rattle.clk_sched.specs.Limits.{end_of_moments};
@@ -50,8 +50,8 @@ impl Parts {
     ) -> Result<Parts, Fault>
         requires trees { AllByRecursion CanStand trees.items }
         requires capacities { AllByRecursion HasCapacity (map queued queues.now) }
-        requires whole { IsWhole (setup_of trees.items (map queued queues.now) senders.now) }
-        ensures at { IfOk result (IsAt (setup_of trees.items (map queued queues.now) senders.now) []) }
+        requires whole { (names : List (List ℕ)) → IsWhole (setup_of names trees.items (map queued queues.now) senders.now) }
+        ensures at { IfOk result (λ parts. (names : List (List ℕ)) → IsAt (setup_of names trees.items (map queued queues.now) senders.now) [] parts) }
         ensures keeps { IfOk result (λ parts. parts.keeps ≡ keeps) }
         ensures fault { IsOkUnless result Fault.Memory }
     {

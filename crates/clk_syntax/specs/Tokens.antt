@@ -66,6 +66,11 @@ piece_at byte rest =
     else if (byte == 45) && begins_with 62 rest then piece.Token LeadsTo 2
     else piece.Token (mark_of byte) 1
 
+-- what stands at the front of a text, if it isn't empty
+abbrev pub first_piece : List ℕ → Option Piece
+first_piece [] = None
+first_piece (byte ∷ rest) = Some (piece_at byte rest)
+
 -- how many bytes a piece has
 abbrev pub piece_len : Piece → ℕ
 piece_len (piece.Gap n) = n

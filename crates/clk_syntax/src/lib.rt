@@ -22,6 +22,6 @@ pub use naming::Named;
 pub use naming::class::{Class, ClassName, Role, letters};
 pub use node::{Link, Node};
 pub use reading::named_text;
-pub use texts::lexer::Piece;
+pub use texts::lexer::{Piece, first_piece};
 pub use texts::statements::{Connection, Declaration, Statements};
 pub use texts::token::{Symbol, Token};

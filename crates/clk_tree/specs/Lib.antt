@@ -1,5 +1,6 @@
 -- The plan that a tree text denotes.
 pub mod Plan
+pub mod Elements
 pub mod PlanTree
 pub mod PlanPaths
 pub mod PlanParts

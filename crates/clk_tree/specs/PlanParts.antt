@@ -45,6 +45,20 @@ senders_of plan = by_number (senders_from plan 0 plan)
 abbrev pub number_of : SenderSpec → ℕ
 number_of s = s.number
 
+-- whether a class is that of the sender of this number
+abbrev pub is_sender : ℕ → Class → Bool
+is_sender n (sender m) = m == n
+is_sender n class = false
+
+-- the name of the first element that is the sender of this number; of none, if there is none
+abbrev pub name_of_sender : ℕ → List Planned → List ℕ
+name_of_sender n [] = []
+name_of_sender n (e ∷ more) = if is_sender n e.class then e.name else name_of_sender n more
+
+-- the names of the senders of a plan, by rising number
+abbrev pub sender_names : List Planned → List (List ℕ)
+sender_names plan = map (λ (s : SenderSpec). name_of_sender s.number plan) (senders_of plan)
+
 -- a queue of a plan: its kind, how many packets it holds at most, the numbers of its senders, and the number of the device at the end of
 -- its path
 pub record Queued : Type 0 where

@@ -5,4 +5,4 @@ mod laws;
 mod plan;
 
 pub use laws::texts_have_one_meaning;
-pub use plan::{Plan, QueueSpec, SenderSpec};
+pub use plan::{Element, Plan, QueueSpec, SenderSpec};

@@ -14,16 +14,16 @@ ghost use Rattle.clk_packet.specs.declared.fault.Fault.TheVariants.{Memory};
 ghost use Rattle.clk_syntax.specs.Reading.{HasFault};
 ghost use Rattle.clk_tree.specs.Plan.{Denotes};
 ghost use Rattle.clk_tree.specs.PlanTree.{device_sources};
-ghost use Rattle.clk_tree.specs.inside.Kept.{planned};
+ghost use Rattle.clk_tree.specs.Elements.{planned};
 
 use crate::plan::build::elements_of;
-use crate::plan::element::Element;
-use crate::plan::parts::{queues_of, senders_of};
+use crate::plan::parts::{names_of, queues_of, senders_of};
 use crate::plan::text::canonical_text;
 use crate::plan::tree::tree_at;
 use clk_packet::{Fault, MAX_LEVELS};
 use clk_sched::Tree;
 use clk_syntax::{Class, Graph, check_graph, named_text};
+pub use element::Element;
 pub use parts::{QueueSpec, SenderSpec};
 use std::alloc::Global;
 use std::marker::Model;
@@ -42,7 +42,7 @@ impl Model for Plan {
     ghost use Rattle.std.specs.Prelude.{List, map};
     ghost use Rattle.clk_tree.specs.Plan.{Planned};
     ghost use Rattle.clk_tree.specs.PlanParts.{queued, IsKept};
-    ghost use Rattle.clk_tree.specs.inside.Kept.{planned};
+    ghost use Rattle.clk_tree.specs.Elements.{planned};
 
     ghost Value = { List Planned };
 
@@ -62,8 +62,9 @@ impl Plan {
     ghost use Rattle.clk_syntax.specs.Limits.{most_tree_bytes};
     ghost use Rattle.clk_syntax.specs.Reading.{HasFault};
     ghost use Rattle.clk_tree.specs.Plan.{Denotes};
+    ghost use Rattle.clk_tree.specs.Elements.{planned};
     ghost use Rattle.clk_tree.specs.PlanTree.{device_count, IsTreeOf};
-    ghost use Rattle.clk_tree.specs.PlanParts.{queued, leads_to, number_of, senders_of, queues_of, HasCapacity, HasNumber, SendsWithin};
+    ghost use Rattle.clk_tree.specs.PlanParts.{queued, leads_to, number_of, senders_of, queues_of, sender_names, HasCapacity, HasNumber, SendsWithin};
     ghost use Rattle.clk_tree.specs.Shares.{AreTreesOf, AreSharedOut};
     ghost use Rattle.clk_tree.specs.Drrs.{AreDrrsAbove};
     ghost use Rattle.clk_tree.specs.Canonical.{canonical_text};
@@ -105,6 +106,13 @@ impl Plan {
         ensures fault { IsOkUnless result Memory }
     {
         canonical_text(alloc, &self.elements)
+    }
+
+    /// The elements of the plan, in order of declaration. Places are counted from 0.
+    pub fn elements(&self) -> &[Element]
+        ensures { map planned result.now ≡ self.now }
+    {
+        &self.elements
     }
 
     /// How many devices there are. Each is the root of a tree of its own; they are numbered from 0 in order of declaration.
@@ -184,6 +192,18 @@ impl Plan {
         ensures wired { AllByRecursion (SendsWithin (length (queues_of self.now))) result.now }
     {
         &self.senders
+    }
+
+    /// The names of the senders of the plan, in the order of `senders`.
+    ///
+    /// # Errors
+    ///
+    /// Fault 1 if an allocation fails.
+    pub fn sender_names(&self, alloc: Global) -> Result<Vec<Vec<u8>>, Fault>
+        ensures names { IfOk result (λ names. map (λ n. n.items) names.items ≡ sender_names self.now) }
+        ensures fault { IsOkUnless result Memory }
+    {
+        names_of(alloc, &self.elements, self.senders())
     }
 }
 

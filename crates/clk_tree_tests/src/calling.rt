@@ -1,5 +1,6 @@
 //! Callers of the libraries, which their pages CALLING.md show: what follows from their contracts.
 
+mod explain;
 mod syntax;
 mod tree;
 
@@ -24,4 +25,18 @@ fn a_name_that_is_not_declared_is_told(rt: HostRuntime) {
     let fault = syntax::fault_of_names(rt.alloc(), b"q :: Queue; q -> d;");
     assert_eq!(rt; fault, Some(Fault::UnknownName { offset: 17 }));
     assert_eq!(rt; syntax::fault_of_names(rt.alloc(), b"q :: Queue;"), None);
+}
+
+#[test]
+fn a_fault_is_explained(rt: HostRuntime) {
+    let told = explain::explained(rt.alloc(), b"q :: Queue;\nq -> d;");
+    assert!(rt; told.is_some());
+    if let Some((fault, lines)) = told {
+        assert_eq!(rt; fault, Fault::UnknownName { offset: 17 });
+        assert!(rt;
+            lines
+                .as_slice()
+                .starts_with(b"2:6: no element has the name 'd'\n")
+        );
+    }
 }

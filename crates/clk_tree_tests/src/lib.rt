@@ -10,6 +10,8 @@ mod canonical;
 #[cfg(test)]
 mod drrs;
 #[cfg(test)]
+mod explained;
+#[cfg(test)]
 mod faults;
 #[cfg(test)]
 mod limits;

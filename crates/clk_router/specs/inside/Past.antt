@@ -10,7 +10,7 @@ use Rattle.clk_router.specs.Events.{Setup, Event, pulled, events_at, log_of, clo
 
 -- the setup of nothing
 abbrev pub nothing : Setup
-nothing = record { trees = []; queues = []; senders = [] }
+nothing = record { trees = []; queues = []; senders = []; names = [] }
 
 -- the tree of a device
 abbrev pub device_tree : Device → Tree

@@ -6,7 +6,7 @@ ghost use Rattle.std.specs.Str.{all_ascii_digits};
 ghost use Rattle.clk_packet.specs.declared.fault.Fault.TheVariants.{Memory};
 ghost use Rattle.clk_syntax.specs.Limits.{most_tree_bytes};
 ghost use Rattle.clk_syntax.specs.Within.{AreWithin};
-ghost use Rattle.clk_syntax.specs.Tokens.{is_blank, is_word_byte, begins_with, comment_end, comment, word_symbol, word, mark_of, piece_at, piece_len, shown, tokens_of};
+ghost use Rattle.clk_syntax.specs.Tokens.{is_blank, is_word_byte, begins_with, comment_end, comment, word_symbol, word, mark_of, piece_at, first_piece, piece_len, shown, tokens_of};
 
 use crate::texts::token::{Symbol, Token};
 use clk_packet::Fault;
@@ -192,6 +192,18 @@ fn piece_at(byte: u8, rest: &[u8], text: &[u8], unclosed: &mut bool) -> Piece
         }
     }
     Piece::Token(mark_of(byte), 1)
+}
+
+/// What stands at the front of a text, if it isn't empty. It takes time in proportion to the piece, or to the text if that opens a comment
+/// and doesn't close it.
+pub fn first_piece(text: &[u8]) -> Option<Piece>
+    ensures piece { result ≡ first_piece text.now }
+    ensures within { IfSome result (λ piece. (1 ≤ piece_len piece) × (piece_len piece ≤ length text.now)) }
+{
+    let [byte, rest @ ..] = text else {
+        return None;
+    };
+    Some(piece_at(*byte, rest, text, &mut false))
 }
 
 /// Keeps the token that a piece at this place is, if it is one, and returns how many bytes the piece has. Fault 1 if an allocation fails.

@@ -14,7 +14,8 @@ use Rattle.clk_syntax.specs.Within.{IsWithin, IsDeclaredWithin, words_in}
 use Rattle.clk_syntax.proofs.Callers.Elements.{width-in}
 use Rattle.clk_tree.specs.declared.plan.element.Element as plan
 use Rattle.clk_tree.specs.Plan.{Planned, Known, known, all_known, planned_at, planned_from}
-use Rattle.clk_tree.specs.inside.Kept.{planned, known_as, names_as}
+use Rattle.clk_tree.specs.Elements.{planned}
+use Rattle.clk_tree.specs.inside.Kept.{known_as, names_as}
 
 -- the elements of these, from a place on
 abbrev pub planned_in : Graph → ℕ → List Known → List Planned

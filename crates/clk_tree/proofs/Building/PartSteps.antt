@@ -8,7 +8,7 @@ use Rattle.clk_tree.specs.declared.plan.element.Element.{Element}
 use Rattle.clk_tree.specs.declared.plan.parts.SenderSpec.{SenderSpec}
 use Rattle.clk_tree.specs.Plan.{Planned}
 use Rattle.clk_tree.specs.PlanTree.{is_queue}
-use Rattle.clk_tree.specs.inside.Kept.{planned}
+use Rattle.clk_tree.specs.Elements.{planned}
 use Rattle.clk_tree.specs.PlanParts.{queue_fed, placed}
 
 -- what is left begins with the element that stands there

@@ -10,7 +10,7 @@ use Rattle.clk_tree.specs.declared.plan.element.Element.{Element}
 use Rattle.clk_tree.specs.Plan.{Planned}
 use Rattle.clk_tree.specs.PlanTree.{is_device, device_sources, device_count}
 use Rattle.clk_tree.specs.PlanPaths.{has_output, place_fed, place_after}
-use Rattle.clk_tree.specs.inside.Kept.{planned}
+use Rattle.clk_tree.specs.Elements.{planned}
 use Rattle.clk_tree.proofs.Building.PartSteps.{left-cons, any-stands}
 
 -- the first element that is left has one among its sources, or not

@@ -10,7 +10,7 @@ use Rattle.clk_tree.specs.declared.plan.element.Element.{Element}
 use Rattle.clk_tree.specs.declared.plan.parts.QueueSpec.{QueueSpec}
 use Rattle.clk_tree.specs.declared.plan.parts.SenderSpec.{SenderSpec}
 use Rattle.clk_tree.specs.Plan.{Planned}
-use Rattle.clk_tree.specs.inside.Kept.{planned}
+use Rattle.clk_tree.specs.Elements.{planned}
 use Rattle.clk_tree.specs.PlanTree.{is_queue, queue_count}
 use Rattle.clk_tree.specs.PlanPaths.{device_of}
 use Rattle.clk_tree.specs.PlanParts.{Queued, queued, senders_of, senders_to, queue_of, queues_from, queues_of}

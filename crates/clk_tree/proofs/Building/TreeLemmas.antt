@@ -15,7 +15,7 @@ use Rattle.clk_sched.specs.Built.{built, row}
 use Rattle.clk_syntax.specs.Classes.{class_view}
 use Rattle.clk_tree.specs.declared.plan.element.Element.{Element}
 use Rattle.clk_tree.specs.Plan.{Planned}
-use Rattle.clk_tree.specs.inside.Kept.{planned}
+use Rattle.clk_tree.specs.Elements.{planned}
 use Rattle.clk_tree.specs.PlanTree.{is_queue, queue_count, number_if, queue_number, scheduler_over, sources_at, IsNode, IsRowOf}
 use Rattle.clk_tree.specs.inside.PlanTree.{is_queue_at, IsOver, IsBuilt, IsScheduled}
 

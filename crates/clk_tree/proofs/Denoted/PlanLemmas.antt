@@ -17,7 +17,7 @@ use Rattle.clk_syntax.specs.Source.{kept, elements}
 use Rattle.clk_syntax.specs.Faults.{nodes_fault}
 use Rattle.clk_syntax.specs.Reading.{IsNamedText, elements_of, wires_of}
 use Rattle.clk_tree.specs.declared.plan.element.Element as plan
-use Rattle.clk_tree.specs.inside.Kept.{planned}
+use Rattle.clk_tree.specs.Elements.{planned}
 use Rattle.clk_tree.specs.declared.plan.parts.SenderSpec.{SenderSpec}
 use Rattle.clk_tree.specs.Plan.{Planned, all_known, planned_from, Denotes}
 use Rattle.clk_tree.specs.PlanTree.{IsRowOf, IsTreeOf, device_sources, device_count, sources_of_device}

@@ -1,13 +1,9 @@
--- What the code's elements stand for.
+-- Elements whose names and classes are known.
 use Rattle.std.specs.Prelude.{ℕ, List, map}
 use Rattle.clk_syntax.specs.declared.texts.token.Token.{Token}
-use Rattle.clk_syntax.specs.Classes.{Class, class_view}
+use Rattle.clk_syntax.specs.Classes.{Class}
 use Rattle.clk_syntax.specs.Source.{letters}
-use Rattle.clk_tree.specs.declared.plan.element.Element.{Element}
-use Rattle.clk_tree.specs.Plan.{Known, Planned}
-
-abbrev pub planned : Element → Planned
-planned e = record { name = e.name.items; class = class_view e.class; sources = e.sources.items }
+use Rattle.clk_tree.specs.Plan.{Known}
 
 -- an element of this name and class
 abbrev pub known_as : List ℕ → Class → Known

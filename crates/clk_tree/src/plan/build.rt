@@ -11,7 +11,8 @@ ghost use Rattle.clk_syntax.specs.Declarations.{class_in};
 ghost use Rattle.clk_syntax.specs.Within.{IsWithin, IsDeclaredWithin, words_in};
 ghost use Rattle.clk_syntax.specs.Tables.{IsTabled};
 ghost use Rattle.clk_tree.specs.Plan.{all_known, planned_from, planned_at};
-ghost use Rattle.clk_tree.specs.inside.Kept.{planned, known_as, names_as};
+ghost use Rattle.clk_tree.specs.Elements.{planned};
+ghost use Rattle.clk_tree.specs.inside.Kept.{known_as, names_as};
 
 use crate::plan::element::Element;
 use crate::plan::wiring::sources_of;

@@ -4,7 +4,7 @@ ghost use Rattle.std.specs.Prelude.{◌≡◌, ◌≤◌, map, take, length, sli
 ghost use Rattle.clk_packet.specs.Limits.{most_elements};
 ghost use Rattle.clk_tree.specs.PlanTree.{device_count};
 ghost use Rattle.clk_tree.specs.PlanPaths.{has_output, place_fed, place_after, device_of};
-ghost use Rattle.clk_tree.specs.inside.Kept.{planned};
+ghost use Rattle.clk_tree.specs.Elements.{planned};
 
 use crate::plan::element::Element;
 

@@ -6,6 +6,7 @@ ghost use Rattle.clk_sched.specs.Tree as tree;
 ghost use Rattle.clk_sched.specs.Tree.{HasArguments};
 ghost use Rattle.clk_sched.specs.Built.{built};
 ghost use Rattle.clk_syntax.specs.Classes.{class_view};
+ghost use Rattle.clk_tree.specs.PlanParts.{is_sender};
 ghost use Rattle.clk_tree.specs.PlanTree.{is_queue, is_device, drr_over};
 ghost use Rattle.clk_tree.specs.inside.PlanTree.{IsOver, IsBuilt};
 
@@ -17,7 +18,9 @@ use std::alloc::Global;
 /// An element of a plan.
 #[derive(Drop)]
 pub struct Element {
+    /// Its name.
     pub name: Vec<u8>,
+    /// Its class with all arguments.
     pub class: Class,
     /// The elements that are connected to it, by their places among all: of a queue its senders in order of declaration, of any other element
     /// the one at each input.
@@ -45,8 +48,18 @@ impl Element {
         }
     }
 
+    /// Whether it is the sender of this number.
+    pub fn is_sender(&self, number: u16) -> bool
+        ensures { result ≡ is_sender number (class_view self.now.class) }
+    {
+        match self.class {
+            Class::Sender(own) => own == number,
+            _ => false,
+        }
+    }
+
     /// The tree of this scheduler over its inputs. Fault 1 if an allocation fails, and otherwise the faults of the tree's constructor.
-    pub fn over(&self, alloc: Global, children: Vec<Tree>) -> Result<Tree, Fault>
+    pub(crate) fn over(&self, alloc: Global, children: Vec<Tree>) -> Result<Tree, Fault>
         requires inputs { IsOver (class_view self.now.class) (length children.items) }
         ensures { (result ≡ Err Memory) ⊎ IsBuilt (class_view self.now.class) children.items result }
     {

@@ -4,8 +4,9 @@ ghost use Rattle.std.specs.Prelude.{◌≡◌, ◌≤◌, map, length, nat_le, I
 ghost use Rattle.std.specs.List.{prefix_len};
 ghost use Rattle.clk_packet.specs.declared.fault.Fault.TheVariants.{Memory};
 ghost use Rattle.clk_packet.specs.Limits.{most_elements};
-ghost use Rattle.clk_tree.specs.PlanParts.{queued, queue_fed, placed, senders_to, senders_of, queues_of};
-ghost use Rattle.clk_tree.specs.inside.Kept.{planned};
+ghost use Rattle.clk_tree.specs.PlanParts.{queued, queue_fed, placed, senders_to, senders_of, queues_of, name_of_sender};
+ghost use Rattle.clk_tree.specs.declared.plan.parts.SenderSpec.{SenderSpec};
+ghost use Rattle.clk_tree.specs.Elements.{planned};
 
 use crate::plan::devices::device_of;
 use crate::plan::element::Element;
@@ -129,4 +130,33 @@ pub fn queues_of(
         }
     }
     Ok(queues)
+}
+
+/// The name of the first element that is the sender of this number, or no bytes if there is none.
+fn name_of_sender(elements: &[Element], number: u16) -> &[u8]
+    ensures { result.now ≡ name_of_sender number (map planned elements.now) }
+{
+    let [first, rest @ ..] = elements else {
+        return &[];
+    };
+    if first.is_sender(number) {
+        return &first.name;
+    }
+    name_of_sender(rest, number)
+}
+
+/// The names of these senders, which are elements of a plan. Fault 1 if an allocation fails.
+pub fn names_of(
+    alloc: Global,
+    elements: &[Element],
+    senders: &[SenderSpec],
+) -> Result<Vec<Vec<u8>>, Fault>
+    ensures made { IfOk result (λ names. map (λ n. n.items) names.items ≡ map (λ (s : SenderSpec). name_of_sender s.number (map planned elements.now)) senders.now) }
+    ensures fault { IsOkUnless result Memory }
+{
+    let mut names = Vec::new(alloc);
+    for sender in senders {
+        names.push(name_of_sender(elements, sender.number).to_vec(alloc)?)?;
+    }
+    Ok(names)
 }

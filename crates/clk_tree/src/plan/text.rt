@@ -4,7 +4,7 @@ ghost use Rattle.std.specs.Prelude.{◌≡◌, ◌++◌, ◌∷◌, [], codes, d
 ghost use Rattle.std.specs.List.{flat_map};
 ghost use Rattle.clk_packet.specs.declared.fault.Fault.TheVariants.{Memory};
 ghost use Rattle.clk_syntax.specs.Classes.{class_view};
-ghost use Rattle.clk_tree.specs.inside.Kept.{planned};
+ghost use Rattle.clk_tree.specs.Elements.{planned};
 ghost use Rattle.clk_tree.specs.Canonical.{class_text, arguments_of, arguments_text, element_text, name_of, connection_text, inputs_text, connections_text, canonical_text};
 
 use crate::plan::element::Element;

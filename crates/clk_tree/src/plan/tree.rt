@@ -8,7 +8,7 @@ ghost use Rattle.clk_sched.specs.Tree.{root, height};
 ghost use Rattle.clk_sched.specs.Built.{row};
 ghost use Rattle.clk_tree.specs.PlanTree.{queue_number, IsRowOf};
 ghost use Rattle.clk_tree.specs.inside.PlanTree.{is_queue_at, IsScheduled};
-ghost use Rattle.clk_tree.specs.inside.Kept.{planned};
+ghost use Rattle.clk_tree.specs.Elements.{planned};
 
 use crate::plan::element::Element;
 use clk_packet::Fault;

@@ -1,6 +1,6 @@
 use Rattle.std.proofs.Common.{map, ◌∙◌}
 use Rattle.std.proofs.lemmas.Result.{IfOk-weaker}
-use Rattle.clk_tree.specs.inside.Kept.{planned}
+use Rattle.clk_tree.specs.Elements.{planned}
 use Rattle.clk_tree.proofs.Denoted.PlanLemmas.{read-all, read-denotes}
 use Rattle.clk_tree.proofs.plan.read_elements.Goals as goal
 

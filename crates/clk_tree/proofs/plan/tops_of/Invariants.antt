@@ -1,6 +1,6 @@
 use Rattle.std.proofs.Common.{◌≡◌, ◌++◌, ◌∷◌, [], map, length, drop}
 use Rattle.std.specs.List.{AllByRecursion}
-use Rattle.clk_tree.specs.inside.Kept.{planned}
+use Rattle.clk_tree.specs.Elements.{planned}
 use Rattle.clk_tree.specs.PlanTree.{device_sources}
 use Rattle.clk_tree.proofs.plan.tops_of.Given as goal
 

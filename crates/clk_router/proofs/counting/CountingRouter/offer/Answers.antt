@@ -10,5 +10,5 @@ pub invariant_of-self : goal.invariant_of-self
 invariant_of-self c =
     let packet = c.offer-outcome.result.0 in
     let outcome = c.offer-outcome.result.1 in
-    accounts-go_on c.self.inside.router c.offer-outcome.new.self _ (noted packet outcome) c.self.inside.accounts.items _ c.self.invariant c.offer-outcome.ensures.goes_on
+    accounts-go_on c.self.inside.router c.offer-outcome.new.self _ (noted packet outcome) c.self.inside.accounts.items _ _ c.self.invariant c.offer-outcome.ensures.goes_on
     (accounts-offered c.self.inside.router.events packet outcome c.self.inside.router.setup.senders) c.count_offered.ensures

@@ -11,5 +11,5 @@ count_given-requires-clause-alike c =
 pub invariant_of-self : goal.invariant_of-self
 invariant_of-self c =
     let pulled : IsPulled c.self.inside.router c.pull.new.self c.args.device c.args.moment c.unwrap-got.result = rw c.unwrap-got.ensures at c.pull.ensures.pulled in
-    accounts-go_on c.self.inside.router c.pull.new.self _ (given c.unwrap-got.result) c.self.inside.accounts.items _ c.self.invariant pulled.goes_on
+    accounts-go_on c.self.inside.router c.pull.new.self _ (given c.unwrap-got.result) c.self.inside.accounts.items _ _ c.self.invariant pulled.goes_on
     (accounts-pulled c.self.inside.router.events c.args.device c.args.moment pulled.visits c.unwrap-got.result pulled.result c.self.inside.router.setup.senders) c.count_given.ensures

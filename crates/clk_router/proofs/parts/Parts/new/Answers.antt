@@ -14,5 +14,5 @@ returns-clause-at c =
       numbers = c.in_ok-numbers_of.field-0;
       keeps = c.args.keeps;
     } in
-    IsAt-made c.calls_are_history.ensures c.args.trees.items (map queued c.args.queues.now) c.args.senders.now parts (λ tree. (c.runs_go_on.ensures tree).start) c.in_ok-devices_of.ensures.made c.in_ok-new.ensures.made
+    λ names. IsAt-made c.calls_are_history.ensures names c.args.trees.items (map queued c.args.queues.now) c.args.senders.now parts (λ tree. (c.runs_go_on.ensures tree).start) c.in_ok-devices_of.ensures.made c.in_ok-new.ensures.made
     c.in_ok-paths_of.ensures.made c.in_ok-senders_of.ensures.made c.in_ok-numbers_of.ensures.made

@@ -1,5 +1,5 @@
 use Rattle.std.proofs.Common.{map, arith}
-use Rattle.clk_tree.specs.inside.Kept.{planned}
+use Rattle.clk_tree.specs.Elements.{planned}
 use Rattle.clk_tree.specs.PlanParts.{queued}
 use Rattle.clk_tree.proofs.Denoted.PlanLemmas.{kept-devices}
 use Rattle.clk_tree.proofs.plan.Plan.devices.Goals as goal

@@ -1,7 +1,7 @@
 use Rattle.std.proofs.Common.{◌≡◌, map, length, ◌≤◌, sym, ap, subst, ◌∙◌}
 use Rattle.std.specs.List.{AllByRecursion}
 use Rattle.clk_packet.specs.Limits.{most_elements}
-use Rattle.clk_tree.specs.inside.Kept.{planned}
+use Rattle.clk_tree.specs.Elements.{planned}
 use Rattle.clk_tree.specs.PlanTree.{device_sources}
 use Rattle.clk_tree.specs.PlanParts.{senders_of}
 use Rattle.clk_tree.proofs.Denoted.PlanLemmas.{denoted-one, denoted-few}

@@ -1,6 +1,6 @@
 use Rattle.std.proofs.Common.{map, length, sym, subst, ◌∙◌}
 use Rattle.std.specs.List.{AllByRecursion}
-use Rattle.clk_tree.specs.inside.Kept.{planned}
+use Rattle.clk_tree.specs.Elements.{planned}
 use Rattle.clk_tree.specs.PlanParts.{number_of, queues_of, HasNumber, SendsWithin}
 use Rattle.clk_packet.specs.Lists.{AreRising}
 use Rattle.clk_tree.proofs.Denoted.PartLemmas.{senders-rising, senders-numbers, senders-wired}

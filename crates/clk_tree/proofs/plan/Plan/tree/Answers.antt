@@ -2,7 +2,7 @@ use Rattle.std.proofs.Common.{◌≡◌, ◌∷◌, [], ℕ, map, slice_get, IfO
 use Rattle.clk_packet.specs.Limits.{most_levels}
 use Rattle.clk_packet.specs.Lists.{stands_in}
 use Rattle.clk_sched.specs.Tree.{Tree, root, leaves}
-use Rattle.clk_tree.specs.inside.Kept.{planned}
+use Rattle.clk_tree.specs.Elements.{planned}
 use Rattle.clk_tree.specs.PlanParts.{queued, queues_of, leads_to}
 use Rattle.clk_tree.specs.PlanTree.{IsRowOf}
 use Rattle.clk_tree.specs.inside.PlanTree.{IsScheduled}

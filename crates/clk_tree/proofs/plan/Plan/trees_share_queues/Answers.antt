@@ -1,6 +1,6 @@
 use Rattle.std.proofs.Common.{List, map, subst}
 use Rattle.clk_sched.specs.Tree.{Tree}
-use Rattle.clk_tree.specs.inside.Kept.{planned}
+use Rattle.clk_tree.specs.Elements.{planned}
 use Rattle.clk_tree.specs.PlanParts.{queued, queues_of}
 use Rattle.clk_tree.specs.Shares.{AreTreesOf, AreSharedOut}
 use Rattle.clk_tree.proofs.Denoted.PlanLemmas.{kept-shared}

@@ -1,7 +1,7 @@
 use Rattle.std.proofs.Common.{◌≡◌, ℕ, List, length, map, subst, ap, ◌∙◌, ◌≤◌}
 use Rattle.std.proofs.lemmas.Result.{IfOk-weaker}
 use Rattle.clk_syntax.specs.Limits.{most_tree_bytes}
-use Rattle.clk_tree.specs.inside.Kept.{planned}
+use Rattle.clk_tree.specs.Elements.{planned}
 use Rattle.clk_tree.specs.Plan.{Planned, Denotes}
 use Rattle.clk_tree.specs.Canonical.{canonical_text}
 use Rattle.clk_tree.proofs.Canonical.CanonicalLaws.{written-denotes}

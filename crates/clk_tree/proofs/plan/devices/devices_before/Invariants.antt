@@ -1,5 +1,5 @@
 use Rattle.std.proofs.Common.{◌≡◌, ◌≤◌, ◌+◌, map, take, drop}
-use Rattle.clk_tree.specs.inside.Kept.{planned}
+use Rattle.clk_tree.specs.Elements.{planned}
 use Rattle.clk_tree.specs.PlanTree.{device_count}
 use Rattle.clk_tree.proofs.plan.devices.devices_before.Given as goal
 

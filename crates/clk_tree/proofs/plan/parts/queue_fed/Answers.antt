@@ -1,5 +1,5 @@
 use Rattle.std.proofs.Common.{◌+◌, map, drop, sym, ap, ◌∙◌, arith}
-use Rattle.clk_tree.specs.inside.Kept.{planned}
+use Rattle.clk_tree.specs.Elements.{planned}
 use Rattle.clk_tree.specs.PlanParts.{queue_fed}
 use Rattle.clk_tree.proofs.Building.PartSteps.{queue-found, queue-passed, other-passed}
 use Rattle.clk_tree.proofs.plan.parts.queue_fed.Goals as goal

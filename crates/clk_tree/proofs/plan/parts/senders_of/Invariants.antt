@@ -1,5 +1,5 @@
 use Rattle.std.proofs.Common.{◌≡◌, ◌-◌, map, length, drop}
-use Rattle.clk_tree.specs.inside.Kept.{planned}
+use Rattle.clk_tree.specs.Elements.{planned}
 use Rattle.clk_tree.specs.PlanParts.{senders_from, by_number}
 use Rattle.clk_tree.proofs.plan.parts.senders_of.Given as goal
 

@@ -1,6 +1,6 @@
 use Rattle.std.proofs.Common.{◌≡◌, ◌++◌, map, drop}
 use Rattle.std.specs.List.{flat_map}
-use Rattle.clk_tree.specs.inside.Kept.{planned}
+use Rattle.clk_tree.specs.Elements.{planned}
 use Rattle.clk_tree.specs.Canonical.{connection_text}
 use Rattle.clk_tree.proofs.plan.text.push_senders.Given as goal
 

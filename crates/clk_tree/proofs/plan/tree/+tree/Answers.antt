@@ -3,7 +3,7 @@ use Rattle.clk_sched.specs.Built.{row}
 use Rattle.clk_syntax.specs.Classes.{class_view}
 use Rattle.clk_tree.specs.PlanTree.{IsRowOf}
 use Rattle.clk_tree.specs.inside.PlanTree.{IsOver}
-use Rattle.clk_tree.specs.inside.Kept.{planned}
+use Rattle.clk_tree.specs.Elements.{planned}
 use Rattle.clk_tree.proofs.Building.TreeLemmas.{IsMade, scheduler-here, over-made, so-far-more, all-made}
 use Rattle.clk_tree.proofs.plan.tree.+tree.Goals as goal
 
