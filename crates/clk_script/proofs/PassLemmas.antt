@@ -126,22 +126,6 @@ line-alone {size = size} start new old text room same is =
     let rest = length-drop start new in
     take_all (size - start) (drop start new) (omega (arith, rest, same)) ∙ is ∙ ap (λ l. text ++ l) (ap (λ n. drop n old) (sym room) ∙ drop-length old) ∙ append-nil text
 
--- a line that was copied behind what is held, and more bytes with it
-pub line-held : (len start : ℕ) (bytes ys room old text rest : List ℕ) → len ≤ length bytes → length room ≡ 96 → length old ≡ 96 → start ≤ 48 → ys ≡ take 48 (drop start room) → drop start room ≡ text ++ drop 48 old
-    → take (len + (48 - start)) (take len bytes ++ (ys ++ rest)) ≡ take len bytes ++ text
-line-held len start bytes ys room old text rest fits room_is old_is low copied is =
-    let front : length (take len bytes) ≡ len = length-take-le len bytes fits in
-    let all = length-drop start room in
-    let part = length-drop 48 old in
-    let sum = ap length is in
-    let both = length-append text (drop 48 old) in
-    let size : length text ≡ 48 - start = omega (arith, all, part, sum, both, room_is, old_is, low) in
-    let many : length ys ≡ 48 = ap length copied ∙ length-take-le 48 (drop start room) (omega (arith, all, room_is, low)) in
-    ap (λ n. take (n + (48 - start)) (take len bytes ++ (ys ++ rest))) (sym front) ∙ take-append-add (take len bytes) (ys ++ rest) (48 - start)
-    ∙ ap (λ l. take len bytes ++ l)
-    (take-append-le (48 - start) ys rest (omega (arith, many)) ∙ ap (take (48 - start)) copied ∙ take-take (48 - start) 48 (drop start room) (omega arith) ∙ ap (take (48 - start)) is
-    ∙ ap (λ n. take n (text ++ drop 48 old)) (sym size) ∙ take-append_seam text (drop 48 old))
-
 -- the piece at a place, and those after it
 pub pieces-left : {X : Type 0} (f : X → List ℕ) (xs : List X) (i : ℕ) (x : X) → i < length xs → x ≡ get_or xs i x → flat_map f (drop i xs) ≡ f x ++ flat_map f (drop (i + 1) xs)
 pieces-left f xs i x within is = ap (flat_map f) (drop_more xs i x within) ∙ ap (λ y. f y ++ flat_map f (drop (i + 1) xs)) (sym is)

@@ -1,5 +1,5 @@
 -- Events that cannot happen, and pulls that are no drain; each is wrong in one thing.
-use Rattle.std.specs.Prelude.{ℕ, List, [], ◌∷◌, Option, Some, None, Result, Err}
+use Rattle.std.specs.Prelude.{ℕ, List, [], ◌∷◌, codes, Option, Some, None, Result, Err}
 use Rattle.std.proofs.Common.{lit≤}
 use Rattle.clk_packet.specs.declared.fault.Fault.{Fault}
 use Rattle.clk_packet.specs.declared.packet.Packet.{Packet}
@@ -32,6 +32,7 @@ two_queues = record {
   trees = scheduler prio (leaf 0 (leaf 1 end)) ∷ [];
   queues = record { kind = TailDrop; capacity = 2; device = 0 } ∷ record { kind = TailDrop; capacity = 2; device = 0 } ∷ [];
   senders = record { number = 0; queue = 0 } ∷ record { number = 1; queue = 1 } ∷ [];
+  names = codes "s" ∷ codes "t" ∷ [];
 }
 
 -- a Queue of one packet below a Shaper of rate 1 and burst 1
@@ -40,6 +41,7 @@ shaped = record {
   trees = scheduler (shaper 1 1) (leaf 0 end) ∷ [];
   queues = record { kind = TailDrop; capacity = 1; device = 0 } ∷ [];
   senders = record { number = 0; queue = 0 } ∷ [];
+  names = codes "s" ∷ [];
 }
 
 -- two devices, each with a queue of two packets and a sender of its own
@@ -48,6 +50,7 @@ two_devices = record {
   trees = queue 0 ∷ queue 1 ∷ [];
   queues = record { kind = TailDrop; capacity = 2; device = 0 } ∷ record { kind = TailDrop; capacity = 2; device = 1 } ∷ [];
   senders = record { number = 0; queue = 0 } ∷ record { number = 1; queue = 1 } ∷ [];
+  names = codes "s" ∷ codes "t" ∷ [];
 }
 
 -- Over `shaped`: a pull at moment 3 follows one at moment 5 and is counted at 3, not at 5.
@@ -142,6 +145,7 @@ great_sender = record {
   trees = queue 0 ∷ [];
   queues = record { kind = TailDrop; capacity = 2; device = 0 } ∷ [];
   senders = record { number = 65536; queue = 0 } ∷ [];
+  names = codes "s" ∷ [];
 }
 
 -- that sender offers a packet

@@ -4,6 +4,7 @@
 mod answer;
 mod counts;
 mod fields;
+mod held;
 mod laws;
 mod limits;
 mod lines;

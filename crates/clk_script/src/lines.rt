@@ -2,13 +2,9 @@
 
 ghost use Rattle.std.specs.Prelude.{◌≡◌, ◌+◌, ◌≤◌, ◌++◌, [], length, OnOk};
 ghost use Rattle.clk_script.specs.declared.lines.TheConstants.{ROOM};
-ghost use Rattle.clk_script.specs.declared.text.TheConstants.{COMMAND_ROOM};
 ghost use Rattle.clk_packet.specs.Bytes.{Wrote};
-ghost use Rattle.clk_script.specs.Record.{command_text};
 ghost use Rattle.clk_script.specs.inside.Lines.{Passes};
 
-use crate::script::Command;
-use crate::text::{COMMAND_ROOM, put_command};
 use clk_packet::{Fault, Sink, write_all};
 use std::marker::Model;
 
@@ -68,35 +64,6 @@ impl Lines {
         let end = self.len + line.len();
         self.bytes[self.len..end].copy_from_slice(line);
         self.len = end;
-    }
-
-    /// Adds the line of a command. If there is no room for one, what is held is written first. Fault 20 if the sink fails, which has then
-    /// taken a front of what was held.
-    #[inline(always)]
-    pub fn add_command<W: Sink>(&mut self, command: Command, writer: &mut W) -> Result<(), Fault>
-        ensures { Passes (W.Sink.taken writer.old) (W.Sink.taken writer.new)
-            (W.Sink.failures writer.old) (W.Sink.failures writer.new) result self.old (command_text command) self.new }
-    {
-        if ROOM - self.len < COMMAND_ROOM {
-            self.write(writer)?;
-        }
-        self.hold_command(command);
-        Ok(())
-    }
-
-    /// Holds the line of a command, for which there is room. Bytes that follow the line are copied with it, and the next line overwrites them:
-    /// to copy a known number of bytes takes no call.
-    #[inline(always)]
-    fn hold_command(&mut self, command: Command)
-        requires { length self.old + COMMAND_ROOM ≤ ROOM }
-        ensures { self.new ≡ self.old ++ command_text command }
-    {
-        let mut room = [0; 2 * COMMAND_ROOM];
-        let start = put_command(&mut room, command, COMMAND_ROOM);
-        self.bytes[self.len..self.len + COMMAND_ROOM].copy_from_slice(
-            &room[start..start + COMMAND_ROOM],
-        );
-        self.len += COMMAND_ROOM - start;
     }
 
     /// Writes what is held. Fault 20 if the sink fails; it has then taken a front of it.

@@ -141,6 +141,7 @@ pub fn put_command(line: &mut [u8], command: Command, end: usize) -> usize
     requires room { COMMAND_ROOM ≤ end }
     requires within { end ≤ length line.old }
     ensures piece { drop result line.new ≡ command_text command ++ drop end line.old }
+    ensures near { end ≤ result + COMMAND_ROOM }
     ensures before { result ≤ end }
 {
     let end = put(line, b"\n", end);

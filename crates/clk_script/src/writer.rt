@@ -8,18 +8,19 @@ ghost use Rattle.clk_script.specs.declared.script.Command.{Command};
 ghost use Rattle.clk_script.specs.Record.{record_text, handed_in, HasRoom};
 ghost use Rattle.clk_script.specs.Records.{Records};
 
+use crate::held::HeldCommands;
 use crate::limits::{MAX_LINES, MAX_MOMENT};
-use crate::lines::Lines;
 use crate::script::Command;
 use crate::text::{COMMAND_ROOM, drain_line};
 use clk_packet::{Fault, Sink};
 
 /// Writes the record of a router: the script of the commands that were carried out, line by line.
 ///
-/// Lines are held until there are 16 KiB of them, and are then written at once. `finish` writes those that are left. No call allocates.
+/// Commands are held until there are 1,024 of them, and their lines are then written at once. `finish` writes those that are left. No call
+/// allocates.
 #[derive(Drop)]
 pub struct ScriptWriter {
-    held: Lines,
+    held: HeldCommands,
     /// How many lines the record has.
     lines: u32,
 }
@@ -30,7 +31,7 @@ impl ScriptWriter {
         ensures { (start : Option (List ℕ)) → Records start start [] result }
     {
         ScriptWriter {
-            held: Lines::new(),
+            held: HeldCommands::new(),
             lines: 0,
         }
     }
@@ -54,7 +55,7 @@ impl ScriptWriter {
         if !self.has_room(handed_in(command)) {
             return Err(Fault::TooLarge);
         }
-        self.held.add_command(command, sink)?;
+        self.held.add(command, sink)?;
         self.lines += 1;
         Ok(())
     }
@@ -108,8 +109,7 @@ impl ScriptWriter {
         }
         let mut held = self.held;
         let mut room = [0; COMMAND_ROOM];
-        held.add(drain_line(&mut room, moment), sink)?;
-        held.write(sink)
+        held.write_with(drain_line(&mut room, moment), sink)
     }
 }
 

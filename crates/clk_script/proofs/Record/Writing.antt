@@ -53,20 +53,17 @@ pub records-cut : (start old new : Option (List ℕ)) (f g : ℕ) (fault : Fault
 records-cut start old new f g fault commands command writer holds its p =
     subst (AppendsFront start new) (sym (command-more commands command)) (cut-short start old commands writer its new (command_text command) p.front)
 
--- The line of a drain was cut short.
-pub drain-cut : (start old new : Option (List ℕ)) (f g : ℕ) (fault : Fault) (commands : List Command) (moment : ℕ) (writer : ScriptWriter) (holds : List ℕ) → Records start old commands writer
-    → Passes old new f g (Err fault) writer.held (drain_text (Some moment)) holds → AppendsFront start new (record_text commands (Some moment))
-drain-cut start old new f g fault commands moment writer holds its p =
-    subst (AppendsFront start new) (sym (drain-more commands moment)) (cut-short start old commands writer its new (drain_text (Some moment)) p.front)
+-- The line of a drain was written after what is held, or both were cut short.
+pub drain-whole : (start old new : Option (List ℕ)) (commands : List Command) (moment : ℕ) (writer : ScriptWriter) → Records start old commands writer → Appends old new (writer.held ++ drain_text (Some moment))
+    → Appends start new (record_text commands (Some moment))
+drain-whole start old new commands moment writer its w =
+    subst (Appends start new) (sym (drain-more commands moment ∙ joined start old commands writer its (drain_text (Some moment)))) (Appends-append start old new its.written (writer.held ++ drain_text (Some moment)) its.appends w)
 
--- What is held behind the line of a drain was cut short.
-pub drain-front : (start old mid new : Option (List ℕ)) (f g h : ℕ) (r : Result (Unit {0}) Fault) (commands : List Command) (moment : ℕ) (writer : ScriptWriter) (holds : List ℕ)
-    → Passes old mid f g (Ok tt) writer.held (drain_text (Some moment)) holds → Wrote mid new g h r holds → Records start old commands writer
-    → IsErrOf r Write → AppendsFront start new (record_text commands (Some moment))
-drain-front start old mid new f g h (Ok x) commands moment writer holds p w its is = absurd (cc is)
-drain-front start old mid new f g h (Err e) commands moment writer holds p w its is =
-    let has = passed-on start old commands writer its mid f g (drain_text (Some moment)) holds p in
-    subst (AppendsFront start new) (sym (drain-more commands moment ∙ has.split)) (front-after start mid new has.written holds has.appends w.front)
+pub drain-front : (start old new : Option (List ℕ)) (f g : ℕ) (r : Result (Unit {0}) Fault) (commands : List Command) (moment : ℕ) (writer : ScriptWriter) → Wrote old new f g r (writer.held ++ drain_text (Some moment))
+    → Records start old commands writer → IsErrOf r Write → AppendsFront start new (record_text commands (Some moment))
+drain-front start old new f g (Ok x) commands moment writer w its is = absurd (cc is)
+drain-front start old new f g (Err e) commands moment writer w its is =
+    subst (AppendsFront start new) (sym (drain-more commands moment)) (cut-short start old commands writer its new (drain_text (Some moment)) w.front)
 
 -- What is held was cut short.
 pub plain-front : (start old new : Option (List ℕ)) (f g : ℕ) (r : Result (Unit {0}) Fault) (commands : List Command) (writer : ScriptWriter) → Wrote old new f g r writer.held → Records start old commands writer
