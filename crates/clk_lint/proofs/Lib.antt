@@ -1,0 +1,5 @@
+-- Lemmas that answers cite.
+mod LoadLemmas
+mod TextLemmas
+mod QuantumLemmas
+mod WalkLemmas

@@ -1,0 +1,2 @@
+-- What the code's own parts say to one another: no contract of a public call stands on it.
+pub mod Kept
