@@ -104,7 +104,7 @@ typedef enum clk_status {
                              * times, the most that it may be; or a limit of records is reached (see there) */
     CLK_UNKNOWN_QUEUE = 8,  /* the tree has no queue with this number */
     CLK_FAULT = 9,          /* the text makes no router, or an allocation failed: see the fault */
-    CLK_FULL = 10,          /* the inlet has no room for the packet now, or the buffer of a record has none for its lines */
+    CLK_FULL = 10,          /* the inlet has no room for the packet now, or a buffer has none for lines, for an explanation or for a name */
     CLK_BAD_ROOM = 11,      /* the room of inlets is not from 1 to 16,777,216 */
     CLK_HANDED_OUT = 12,    /* the inlet of this sender was handed out before */
     CLK_RECLAIMED = 13      /* the tokens of the live router were reclaimed: call only clk_live_close and clk_live_reclaim */
@@ -209,6 +209,9 @@ typedef struct clk_live {
 /* The value of a variable that has no live router yet: clk_live live = CLK_NO_LIVE; */
 #define CLK_NO_LIVE {NULL}
 
+/* How many bytes an explanation of a fault has at most. */
+#define CLK_MOST_EXPLANATION 1024
+
 /* The greatest room of an inlet, in packets. */
 #define CLK_MOST_ROOM (UINT32_C(1) << 24)
 
@@ -260,6 +263,8 @@ typedef struct clk_record {
  * then its length. The exports that only read a router take it by the same pointer type, and change nothing. */
 extern uint32_t clk_router_open(const uint8_t *text, size_t length, clk_router *router, clk_fault *fault);
 extern void clk_router_close(clk_router router);
+extern uint32_t clk_router_explain(const uint8_t *text, size_t length, const clk_fault *fault, uint8_t *buffer, size_t buffer_length,
+                                   size_t *needed);
 extern uint32_t clk_router_offer(clk_router *router, uint32_t sender, uint32_t length, clk_offered *offered);
 extern uint32_t clk_router_offer_many(clk_router *router, const clk_offer_of *offers, size_t offers_length, clk_offered *offered,
                                       size_t offered_length, size_t *done);
@@ -273,6 +278,7 @@ extern uint32_t clk_router_drain(clk_router *router, uint16_t device, clk_depart
                                  uint64_t pulls, size_t *given);
 extern size_t clk_router_senders(clk_router *router);
 extern uint32_t clk_router_account(clk_router *router, size_t place, clk_account *account);
+extern uint32_t clk_router_sender_name(clk_router *router, size_t place, uint8_t *buffer, size_t buffer_length, size_t *needed);
 extern size_t clk_router_queues(clk_router *router);
 extern uint32_t clk_router_queue(clk_router *router, uint16_t number, clk_queue *queue);
 extern size_t clk_router_devices(clk_router *router);
@@ -368,6 +374,34 @@ CLK_API void clk_close(clk_router *router) {
         clk_router_close(*router);
         router->at = NULL;
     }
+}
+
+/* Explains a fault that clk_open or clk_live_open had with this text, in lines of ASCII, each with a line feed:
+ *
+ *     2:6: there is no class 'Heap'
+ *         q :: Heap(3);
+ *              ^
+ *     expected Sender, Queue, FrontDropQueue, PrioSched, RoundRobinSched, DRRSched, StrideSched, Shaper or ToDevice
+ *
+ * These are the line and the column of the fault (from 1, columns in bytes) and what is wrong; the line with a caret below the column; and
+ * what was expected. Of a long line 120 bytes are shown, 80 of them before the column. A blank is shown as a space, and a byte that is no
+ * printable ASCII as a question mark. A fault without a place has the first line, without line and column, and the last.
+ *
+ * `buffer` gets as much of it as fits into `room` bytes, and no zero behind it. `needed` is how many bytes all of it has, at most
+ * CLK_MOST_EXPLANATION. For a number that no fault of clk_open has it is 0. `buffer` may be null if `room` is 0, and `text` if `length` is 0.
+ * No memory is allocated.
+ *
+ * CLK_OK    `buffer` has all of it.
+ * CLK_FULL  `buffer` has the first `room` bytes.
+ * CLK_NULL  a pointer is null. */
+CLK_API clk_status clk_explain(const char *text, size_t length, const clk_fault *fault, char *buffer, size_t room, size_t *needed) {
+    char unused = 0;
+    if (!needed)
+        return CLK_NULL;
+    *needed = 0;
+    if ((!text && length != 0) || !fault || (!buffer && room != 0))
+        return CLK_NULL;
+    return CLK_STATUS(clk_router_explain(CLK_BYTES(text ? text : ""), length, fault, CLK_BUFFER(buffer ? buffer : &unused), room, needed));
 }
 
 /* ------------------------------------------------------------------------------------------------------------ offers */
@@ -550,6 +584,25 @@ CLK_API clk_status clk_account_at(const clk_router *router, size_t place, clk_ac
         return CLK_SHUT;
     clk_router same = *router;
     return CLK_STATUS(clk_router_account(&same, place, account));
+}
+
+/* The name of the sender at this place: that of its element in the tree's text. `buffer` has `room` bytes. Places are those of
+ * clk_account_at.
+ *
+ * CLK_OK    `buffer` begins with the name, which has `*needed` bytes. No zero is written behind it.
+ * CLK_FULL  `room` is below `*needed`. Nothing was written.
+ * CLK_UNKNOWN_SENDER (no such place), CLK_SHUT, CLK_NULL, all with `*needed` 0 if `needed` isn't null. */
+CLK_API clk_status clk_sender_name(const clk_router *router, size_t place, char *buffer, size_t room, size_t *needed) {
+    char unused = 0;
+    if (!needed)
+        return CLK_NULL;
+    *needed = 0;
+    if (!router || (room != 0 && !buffer))
+        return CLK_NULL;
+    if (!router->at)
+        return CLK_SHUT;
+    clk_router same = *router;
+    return CLK_STATUS(clk_router_sender_name(&same, place, CLK_BUFFER(buffer ? buffer : &unused), buffer ? room : 0, needed));
 }
 
 /* The queue with this number, from 0 to clk_queues - 1 in the order of declaration.

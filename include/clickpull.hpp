@@ -28,6 +28,7 @@
 #include <cstdint>
 #include <deque>
 #include <limits>
+#include <memory>
 #include <new>
 #include <optional>
 #include <stdexcept>
@@ -63,7 +64,8 @@ private:
 // A text that makes no router.
 class TextFault : public Error {
 public:
-    TextFault(clk_fault fault, std::string_view text) : TextFault(fault, place_in(text.substr(0, fault.offset))) {}
+    TextFault(clk_fault fault, std::string_view text)
+        : TextFault(fault, place_in(text.substr(0, fault.offset)), std::make_shared<const std::string>(explained(fault, text))) {}
 
     // Its number, name and place, in bytes from 0, as in docs/FORMATS.md.
     std::uint32_t number() const noexcept { return fault_.number; }
@@ -74,12 +76,24 @@ public:
     std::size_t line() const noexcept { return place_.line; }
     std::size_t column() const noexcept { return place_.column; }
 
+    // What is wrong in lines for a person: the place, the line of the text with a caret, and what was expected, as clk_explain has them.
+    const std::string &explanation() const noexcept { return *explanation_; }
+
 private:
     struct Place {
         std::size_t line, column;
     };
 
-    TextFault(clk_fault fault, Place place) : Error(CLK_FAULT, message(fault, place)), fault_(fault), place_(place) {}
+    TextFault(clk_fault fault, Place place, std::shared_ptr<const std::string> explanation)
+        : Error(CLK_FAULT, message(fault, place)), fault_(fault), place_(place), explanation_(std::move(explanation)) {}
+
+    static std::string explained(clk_fault fault, std::string_view text) {
+        std::size_t needed = 0;
+        clk_explain(text.data(), text.size(), &fault, nullptr, 0, &needed);
+        std::string lines(needed, '\0');
+        clk_explain(text.data(), text.size(), &fault, lines.data(), lines.size(), &needed);
+        return lines;
+    }
 
     static Place place_in(std::string_view before) {
         const auto lines = static_cast<std::size_t>(std::count(before.begin(), before.end(), '\n'));
@@ -94,6 +108,7 @@ private:
 
     clk_fault fault_;
     Place place_;
+    std::shared_ptr<const std::string> explanation_; // shared, so that a copy doesn't throw
 };
 
 // How far a drain came: `count` packets were emitted, and `all` says whether none is left.
@@ -302,6 +317,18 @@ public:
     std::vector<Account> accounts() const {
         return detail::all_of<Account>(clk_senders(router_.c()),
                                        [&](std::size_t place, Account *it) { return clk_account_at(router_.c(), place, it); });
+    }
+
+    // The name of each sender's element in the tree, by rising numbers of senders.
+    std::vector<std::string> sender_names() const {
+        std::vector<std::string> names(clk_senders(router_.c()));
+        for (std::size_t place = 0; place < names.size(); place++) {
+            std::size_t needed = 0;
+            clk_sender_name(router_.c(), place, nullptr, 0, &needed);
+            names[place].resize(needed);
+            detail::need(clk_sender_name(router_.c(), place, &names[place][0], needed, &needed));
+        }
+        return names;
     }
 
     // The queues, by number: in order of declaration.

@@ -61,12 +61,15 @@ class TextFault(Error, ValueError):
     """At which line, from 1."""
     column: int
     """At which byte of the line, from 1."""
+    explanation: str
+    """Lines for a person: the place, the line of the text with a caret, what is wrong, and what was expected."""
 
-    def __init__(self, number: int, offset: int, text: bytes) -> None:
+    def __init__(self, number: int, offset: int, text: bytes, explanation: str) -> None:
         before = text[:offset]
         self.number = number
         self.name = FAULTS.get(number, "")
         self.offset = offset
         self.line = before.count(b"\n") + 1
         self.column = offset - before.rfind(b"\n")
+        self.explanation = explanation
         super().__init__(f"fault {number}: {self.name} at line {self.line}, column {self.column}")

@@ -161,6 +161,7 @@ RECORD = [POINTER(c_uint8), c_size_t, COUNT, POINTER(c_uint32)]
 CALLS = {
     "clk_router_open": ([POINTER(c_uint8), c_size_t, ROUTER, POINTER(Fault)], c_uint32),
     "clk_router_close": ([RouterHandle], None),
+    "clk_router_explain": ([POINTER(c_uint8), c_size_t, POINTER(Fault), POINTER(c_uint8), c_size_t, COUNT], c_uint32),
     "clk_router_offer": ([ROUTER, c_uint32, c_uint32, POINTER(Offered)], c_uint32),
     "clk_router_offer_many": ([ROUTER, POINTER(OfferOf), c_size_t, POINTER(Offered), c_size_t, COUNT], c_uint32),
     "clk_router_pull": ([ROUTER, c_uint16, c_uint64, POINTER(Packet)], c_uint32),
@@ -171,6 +172,7 @@ CALLS = {
     "clk_router_drain": ([ROUTER, c_uint16, POINTER(Departure), c_size_t, c_uint64, COUNT], c_uint32),
     "clk_router_senders": ([ROUTER], c_size_t),
     "clk_router_account": ([ROUTER, c_size_t, POINTER(Account)], c_uint32),
+    "clk_router_sender_name": ([ROUTER, c_size_t, POINTER(c_uint8), c_size_t, COUNT], c_uint32),
     "clk_router_queues": ([ROUTER], c_size_t),
     "clk_router_queue": ([ROUTER, c_uint16, POINTER(Queue)], c_uint32),
     "clk_router_devices": ([ROUTER], c_size_t),

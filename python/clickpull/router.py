@@ -65,6 +65,15 @@ def _no_router() -> _Handle:
     return handle
 
 
+def _explained(text: "ctypes.Array[ctypes.c_uint8]", length: int, fault: library.Fault) -> str:
+    """The explanation of a fault of a text that has so many bytes."""
+    needed = ctypes.c_size_t()
+    LIBRARY.clk_router_explain(text, length, byref(fault), (ctypes.c_uint8 * 1)(), 0, byref(needed))
+    lines = (ctypes.c_uint8 * max(needed.value, 1))()
+    LIBRARY.clk_router_explain(text, length, byref(fault), lines, needed.value, byref(needed))
+    return bytes(lines[: needed.value]).decode("ascii")
+
+
 class Router:
     """The router of a tree in Click's language.
 
@@ -81,7 +90,7 @@ class Router:
         if LIBRARY.clk_router_open(array, len(code), handle, byref(fault)) != library.OK:
             if fault.number == 1:
                 raise MemoryError("clickpull: a router's memory was refused")
-            raise TextFault(fault.number, fault.offset, code)
+            raise TextFault(fault.number, fault.offset, code, _explained(array, len(code), fault))
         self._handle: _Handle | None = handle
         # A dispatcher with a record puts calls here that record, too.
         self._call_offer: Callable[..., int] = LIBRARY.clk_router_offer
@@ -223,6 +232,10 @@ class Router:
         """The totals of the packets of each sender, in the order of the senders' numbers."""
         return [self._account(place) for place in range(LIBRARY.clk_router_senders(self._need_open()))]
 
+    def sender_names(self) -> list[str]:
+        """The names of the senders' elements in the tree, in the order of the senders' numbers."""
+        return [self._sender_name(place) for place in range(LIBRARY.clk_router_senders(self._need_open()))]
+
     def queues(self) -> list[Queue]:
         """The queues, by number, that is in the order of declaration."""
         return [self._queue(number) for number in range(LIBRARY.clk_router_queues(self._need_open()))]
@@ -231,6 +244,14 @@ class Router:
         it = library.Account()
         self._need(LIBRARY.clk_router_account(self._need_open(), place, byref(it)))
         return Account(it.sender, it.queue, _total(it.accepted), _total(it.refused), _total(it.evicted), _total(it.emitted))
+
+    def _sender_name(self, place: int) -> str:
+        needed = ctypes.c_size_t()
+        unused = (ctypes.c_uint8 * 1)()
+        LIBRARY.clk_router_sender_name(self._need_open(), place, unused, 0, byref(needed))
+        name = (ctypes.c_uint8 * needed.value)()
+        self._need(LIBRARY.clk_router_sender_name(self._need_open(), place, name, needed.value, byref(needed)))
+        return bytes(name).decode()
 
     def _queue(self, number: int) -> Queue:
         it = library.Queue()

@@ -40,6 +40,8 @@ def test_a_fault_says_where() -> None:
     it = raised.value
     assert (it.number, it.name, it.offset, it.line, it.column) == (3, "UnknownClass", 21, 2, 6)
     assert str(it) == "fault 3: UnknownClass at line 2, column 6"
+    assert it.explanation.startswith("2:6: there is no class 'Heap'\n    q :: Heap(3);\n         ^\nexpected Sender, ")
+    assert it.explanation.endswith("\n")
     assert isinstance(it, Error) and isinstance(it, ValueError)
 
 
@@ -156,6 +158,7 @@ def test_what_there_is() -> None:
         router.offer_many([(3, 10), (3, 20)])
         assert router.devices == 2
         assert router.queues() == [Queue(1000, 0, 0, False), Queue(1, 1, 1, True)]
+        assert router.sender_names() == ["a", "b"]
         first, last = router.accounts()
         none = Total(0, 0)
         assert first == (3, 1, Total(2, 30), none, Total(1, 10), none)

@@ -2,6 +2,9 @@
 
 use std::fmt;
 
+use crate::ffi::explain;
+use crate::layout::Fault;
+
 /// Why a call failed. A call that fails changes nothing; a call for many says how far it came.
 #[derive(Clone, Debug, PartialEq, Eq)]
 #[non_exhaustive]
@@ -54,6 +57,7 @@ impl std::error::Error for Error {}
 /// assert_eq!((fault.number(), fault.name()), (3, "UnknownClass"));
 /// assert_eq!((fault.offset(), fault.line(), fault.column()), (21, 2, 6));
 /// assert_eq!(fault.to_string(), "fault 3: UnknownClass at line 2, column 6");
+/// assert!(fault.explanation().starts_with("2:6: there is no class 'Heap'\n    q :: Heap(3);\n         ^\n"));
 /// ```
 #[derive(Clone, Debug, PartialEq, Eq)]
 pub struct TextFault {
@@ -61,16 +65,17 @@ pub struct TextFault {
     offset: usize,
     line: usize,
     column: usize,
+    explanation: String,
 }
 
 impl TextFault {
-    /// The fault with this number, at this byte of a text.
-    pub(crate) fn new(number: u32, offset: u32, text: &str) -> Self {
-        let offset = offset as usize;
+    /// A fault of a text.
+    pub(crate) fn new(fault: &Fault, text: &str) -> Self {
+        let (number, offset) = (fault.number, fault.offset as usize);
         let before = &text.as_bytes()[..offset.min(text.len())];
         let line = 1 + before.iter().filter(|&&it| it == b'\n').count();
         let column = before.iter().rev().take_while(|&&it| it != b'\n').count() + 1;
-        TextFault { number, offset, line, column }
+        TextFault { number, offset, line, column, explanation: explain(text, fault) }
     }
 
     /// The number of the fault, as in the project's `docs/FORMATS.md`.
@@ -96,6 +101,11 @@ impl TextFault {
     /// At which byte of its line it is, from 1.
     pub fn column(&self) -> usize {
         self.column
+    }
+
+    /// Lines for a person: the place, the line of the text with a caret, what is wrong, and what was expected.
+    pub fn explanation(&self) -> &str {
+        &self.explanation
     }
 }
 

@@ -45,6 +45,14 @@ struct Handle(*mut c_void);
 extern "C" {
     fn clk_router_open(text: *const u8, length: usize, router: *mut Handle, fault: *mut Fault) -> u32;
     fn clk_router_close(router: Handle);
+    fn clk_router_explain(
+        text: *const u8,
+        length: usize,
+        fault: *const Fault,
+        buffer: *mut u8,
+        buffer_length: usize,
+        needed: *mut usize,
+    ) -> u32;
     fn clk_router_offer(router: *mut Handle, sender: u32, length: u32, offered: *mut Offered) -> u32;
     fn clk_router_offer_many(
         router: *mut Handle,
@@ -76,6 +84,7 @@ extern "C" {
     fn clk_router_left(router: *mut Handle, device: u16, packets: *mut u64) -> u32;
     fn clk_router_senders(router: *mut Handle) -> usize;
     fn clk_router_account(router: *mut Handle, place: usize, account: *mut Account) -> u32;
+    fn clk_router_sender_name(router: *mut Handle, place: usize, buffer: *mut u8, buffer_length: usize, needed: *mut usize) -> u32;
     fn clk_router_queues(router: *mut Handle) -> usize;
     fn clk_router_queue(router: *mut Handle, number: u16, queue: *mut RawQueue) -> u32;
     fn clk_router_devices(router: *mut Handle) -> usize;
@@ -215,6 +224,20 @@ router_handle! {
     clk_raw_live_queues, clk_raw_live_queue, clk_raw_live_devices
 }
 
+/// The explanation of a fault of a text.
+pub(crate) fn explain(text: &str, fault: &Fault) -> String {
+    let mut needed = 0;
+    let mut fill = |buffer: &mut [u8]| {
+        // SAFETY: the pointers and lengths are of the text and the buffer, which don't overlap, and the call keeps none. It returns that the
+        // buffer is full, or that it has all.
+        unsafe { clk_router_explain(text.as_ptr(), text.len(), fault, buffer.as_mut_ptr(), buffer.len(), &mut needed) };
+        needed
+    };
+    let mut lines = vec![0; fill(&mut [])];
+    fill(&mut lines);
+    String::from_utf8(lines).expect("an explanation is ASCII")
+}
+
 impl Router {
     pub(crate) fn open(text: &str) -> Result<Self, Error> {
         let (mut at, mut fault) = (Handle(std::ptr::null_mut()), Fault::default());
@@ -261,6 +284,17 @@ impl Router {
         // SAFETY: the handle is open, and the call fills at most one departure, which is laid out as C has it.
         let status = unsafe { clk_router_drain(&mut self.0, device, &mut departure, 1, pulls, &mut given) };
         done(status).map(|is_all| ((given == 1).then_some(departure), is_all))
+    }
+
+    /// The name of the sender at this place, if there is one.
+    pub(crate) fn sender_name(&self, place: usize) -> Option<String> {
+        let (mut needed, mut unused) = (0, 0);
+        // SAFETY: the handle is open, and the call fills one number: a name has no room in no bytes.
+        unsafe { clk_router_sender_name(&mut { self.0 }, place, &mut unused, 0, &mut needed) };
+        let mut name = vec![0; needed];
+        // SAFETY: the handle is open, and the call fills one number and at most as many bytes as the vector has.
+        let status = unsafe { clk_router_sender_name(&mut { self.0 }, place, name.as_mut_ptr(), name.len(), &mut needed) };
+        (status == OK).then(|| String::from_utf8(name).expect("names are ASCII"))
     }
 }
 

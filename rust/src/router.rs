@@ -122,6 +122,19 @@ impl Router {
         let moment = self.moment(device)?;
         Ok(Drain { router: self, device, progress: Progress::at(moment) })
     }
+
+    /// The name of each sender's element in the tree, by rising numbers of senders.
+    ///
+    /// ```
+    /// use clickpull::Router;
+    ///
+    /// let router = Router::open("b :: Sender(7); a :: Sender(3); q :: Queue; d :: ToDevice(eth0); b -> q; a -> q -> d;")?;
+    /// assert!(router.sender_names().eq(["a", "b"]));
+    /// # Ok::<(), clickpull::Error>(())
+    /// ```
+    pub fn sender_names(&self) -> impl ExactSizeIterator<Item = String> + '_ {
+        (0..self.raw.senders()).map(|place| self.raw.sender_name(place).expect("each place has a sender"))
+    }
 }
 
 looks!(Router);

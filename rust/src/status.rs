@@ -48,7 +48,7 @@ fn error(status: u32) -> Error {
 pub(crate) fn opened<T>(status: u32, fault: &Fault, text: &str, opened: impl FnOnce() -> T) -> Result<T, Error> {
     match (status, fault.number) {
         (FAULT, MEMORY) => Err(Error::OutOfMemory),
-        (FAULT, number) => Err(Error::Text(TextFault::new(number, fault.offset, text))),
+        (FAULT, _) => Err(Error::Text(TextFault::new(fault, text))),
         _ => done(status).map(|_| opened()),
     }
 }

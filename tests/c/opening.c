@@ -31,6 +31,46 @@ static void faults_say_where(void) {
     }
 }
 
+/* An explanation is filled in as far as there is room, and its length is told. */
+static void faults_are_explained(void) {
+    static const char TEXT[] = "a :: Sender(0);\nq :: Heap(3);";
+    static const char LINES[] = "2:6: there is no class 'Heap'\n    q :: Heap(3);\n         ^\nexpected Sender, Queue, FrontDropQueue, PrioSched, "
+                                "RoundRobinSched, DRRSched, StrideSched, Shaper or ToDevice\n";
+    char buffer[CLK_MOST_EXPLANATION];
+    clk_router router;
+    clk_fault fault;
+    size_t needed = 0;
+    CHECK(clk_open(TEXT, strlen(TEXT), &router, &fault) == CLK_FAULT);
+    CHECK(clk_explain(TEXT, strlen(TEXT), &fault, buffer, sizeof buffer, &needed) == CLK_OK);
+    CHECK(needed == strlen(LINES) && memcmp(buffer, LINES, needed) == 0);
+    memset(buffer, '#', sizeof buffer);
+    CHECK(clk_explain(TEXT, strlen(TEXT), &fault, buffer, needed - 1, &needed) == CLK_FULL);
+    CHECK(needed == strlen(LINES) && memcmp(buffer, LINES, needed - 1) == 0 && buffer[needed - 1] == '#');
+    CHECK(clk_explain(TEXT, strlen(TEXT), &fault, buffer, needed, &needed) == CLK_OK);
+    CHECK(clk_explain(TEXT, strlen(TEXT), &fault, NULL, 0, &needed) == CLK_FULL && needed == strlen(LINES));
+}
+
+/* A fault without a place, numbers that no opening has, a place that the text doesn't have, and null pointers. */
+static void any_fault_is_explained(void) {
+    static const char NO_DEVICE[] = "no ToDevice is declared\nexpected a link, as in 'uplink :: ToDevice(eth0);'\n";
+    char buffer[CLK_MOST_EXPLANATION];
+    clk_fault fault = {11, 0};
+    size_t needed = 77;
+    CHECK(clk_explain(NULL, 0, &fault, buffer, sizeof buffer, &needed) == CLK_OK);
+    CHECK(needed == strlen(NO_DEVICE) && memcmp(buffer, NO_DEVICE, needed) == 0);
+    for (fault.number = 0; fault.number < 100; fault.number++) {
+        fault.offset = UINT32_MAX;
+        CHECK(clk_explain("a -> b\n", 7, &fault, buffer, sizeof buffer, &needed) == CLK_OK);
+        CHECK((needed != 0) == (clk_fault_name(fault.number)[0] != 0));
+        CHECK(needed == 0 || buffer[needed - 1] == '\n');
+    }
+    fault.number = 11;
+    CHECK(clk_explain(NULL, 1, &fault, buffer, sizeof buffer, &needed) == CLK_NULL && needed == 0);
+    CHECK(clk_explain("", 0, NULL, buffer, sizeof buffer, &needed) == CLK_NULL);
+    CHECK(clk_explain("", 0, &fault, NULL, 1, &needed) == CLK_NULL);
+    CHECK(clk_explain("", 0, &fault, buffer, sizeof buffer, NULL) == CLK_NULL);
+}
+
 /* A fault needn't be wanted. */
 static void a_fault_may_be_left_out(void) {
     clk_router router;
@@ -75,6 +115,8 @@ static void routers_stand_apart(void) {
 
 void test_opening(void) {
     faults_say_where();
+    faults_are_explained();
+    any_fault_is_explained();
     a_fault_may_be_left_out();
     a_text_needs_no_zero();
     closing_shuts();

@@ -27,6 +27,8 @@ static void a_shut_router_is_told(void) {
     count = 5;
     CHECK(clk_drain(&shut, 0, &departure, 1, 1, &count) == CLK_SHUT && count == 0);
     CHECK(clk_account_at(&shut, 0, &account) == CLK_SHUT);
+    count = 5;
+    CHECK(clk_sender_name(&shut, 0, NULL, 0, &count) == CLK_SHUT && count == 0);
     CHECK(clk_queue_at(&shut, 0, &queue) == CLK_SHUT);
     CHECK(clk_senders(&shut) == 0 && clk_queues(&shut) == 0 && clk_devices(&shut) == 0);
 }
@@ -42,6 +44,8 @@ static void no_router_is_told(void) {
     CHECK(clk_left(NULL, 0, &number) == CLK_NULL);
     CHECK(clk_drain(NULL, 0, &departure, 1, 1, &count) == CLK_NULL);
     CHECK(clk_account_at(NULL, 0, &account) == CLK_NULL);
+    count = 5;
+    CHECK(clk_sender_name(NULL, 0, NULL, 0, &count) == CLK_NULL && count == 0);
     CHECK(clk_queue_at(NULL, 0, &queue) == CLK_NULL);
     CHECK(clk_senders(NULL) == 0 && clk_queues(NULL) == 0 && clk_devices(NULL) == 0);
 }
@@ -60,6 +64,9 @@ static void nulls_are_told(clk_router *router) {
     CHECK(clk_drain(router, 0, NULL, 1, 1, &count) == CLK_NULL);
     CHECK(clk_drain(router, 0, &departure, 1, 1, NULL) == CLK_NULL);
     CHECK(clk_account_at(router, 0, NULL) == CLK_NULL);
+    CHECK(clk_sender_name(router, 0, NULL, 0, NULL) == CLK_NULL);
+    count = 5;
+    CHECK(clk_sender_name(router, 0, NULL, 1, &count) == CLK_NULL && count == 0);
     CHECK(clk_queue_at(router, 0, NULL) == CLK_NULL);
 }
 

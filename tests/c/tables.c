@@ -1,6 +1,8 @@
 /* Tests of what there is: accounts of senders, and queues. They stand outside what is proved. */
 #include "check.h"
 
+#include <string.h>
+
 static const char *const TREE = "late :: Sender(9); early :: Sender(2); p :: FrontDropQueue(2); q :: Queue; s :: RoundRobinSched;"
                                 "one, two :: ToDevice(link); early -> q -> two; late -> p -> s -> one;";
 
@@ -34,6 +36,19 @@ static void accounts_are_told(const clk_router *router) {
     CHECK(it.sender == 9);
 }
 
+static void names_are_told(const clk_router *router) {
+    char name[6] = "??????";
+    size_t needed = 9;
+    CHECK(clk_sender_name(router, 0, name, 6, &needed) == CLK_OK && needed == 5);
+    CHECK(memcmp(name, "early?", 6) == 0);
+    CHECK(clk_sender_name(router, 1, name, 4, &needed) == CLK_OK && needed == 4);
+    CHECK(memcmp(name, "latey?", 6) == 0);
+    CHECK(clk_sender_name(router, 0, name, 4, &needed) == CLK_FULL && needed == 5);
+    CHECK(clk_sender_name(router, 0, NULL, 0, &needed) == CLK_FULL && needed == 5);
+    CHECK(clk_sender_name(router, 2, name, 6, &needed) == CLK_UNKNOWN_SENDER && needed == 0);
+    CHECK(memcmp(name, "latey?", 6) == 0);
+}
+
 static void refused_ones_are_counted(void) {
     clk_router router = opened("a :: Sender(0); q :: Queue(1); d :: ToDevice(link); a -> q -> d;");
     clk_account it;
@@ -54,6 +69,7 @@ void test_tables(void) {
     offered(&router, 2, 40);
     queues_are_told(&router);
     accounts_are_told(&router);
+    names_are_told(&router);
     clk_close(&router);
     refused_ones_are_counted();
 }

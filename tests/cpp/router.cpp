@@ -22,6 +22,8 @@ static void a_fault_is_thrown() {
         CHECK(it.number() == 3 && it.offset() == 21 && it.line() == 2 && it.column() == 6);
         CHECK(std::strcmp(it.name(), "UnknownClass") == 0);
         CHECK(std::strcmp(it.what(), "fault 3: UnknownClass at line 2, column 6") == 0);
+        CHECK(it.explanation().find("2:6: there is no class 'Heap'\n    q :: Heap(3);\n         ^\nexpected Sender, ") == 0);
+        CHECK(it.explanation().back() == '\n');
     }
 }
 
@@ -106,7 +108,7 @@ static void a_router_moves() {
     Router other(std::move(one));
     CHECK(!one.is_open() && other.is_open());
     CHECK(thrown_by([&] { (void)one.offer(4, 1); }) == CLK_SHUT);
-    CHECK(one.devices() == 0 && one.accounts().empty() && one.queues().empty());
+    CHECK(one.devices() == 0 && one.accounts().empty() && one.sender_names().empty() && one.queues().empty());
     Router third("a :: Sender(1); q :: Queue; d :: ToDevice(link); a -> q -> d;");
     third = std::move(other);
     CHECK(third.left(0) == 1 && !other.is_open());
@@ -123,6 +125,7 @@ static void a_router_tells_what_there_is() {
     CHECK(router.offer(4, 9).accepted);
     const auto accounts = router.accounts();
     CHECK(accounts.size() == 1 && accounts[0].sender == 4 && accounts[0].accepted.bytes == 9);
+    CHECK(router.sender_names() == std::vector<std::string>{"a"});
     const auto queues = router.queues();
     CHECK(queues.size() == 1 && queues[0].capacity == 2 && queues[0].held == 1 && queues[0].front_drop == 1);
     CHECK(router.devices() == 1);

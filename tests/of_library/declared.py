@@ -81,6 +81,8 @@ def names_are_exported(setting: Setting) -> str:
 # What its code says.
 
 CODE = Path("crates/clickpull_c/src")
+# A struct that the exports take as another crate has it.
+ITEM = Path("crates/clk_inlet/src/item.rt")
 EXPORT = re.compile(r"pub (?:unsafe )?extern \"C\" fn (\w+)\((.*?)\)(?: -> ([\w&*: ]+?))?\s*(?:\n\s*(?:requires|ensures)|\{|where)", re.DOTALL)
 CONSTANT = re.compile(r"pub const (\w+): u32 = (\d+);")
 LAID_OUT = re.compile(r"((?:[ \t]*//[^\n]*\n)*)(?:#\[[^\n]*\]\n)*#\[repr\(C\)\]\n(?:#\[[^\n]*\]\n)*pub struct (\w+) \{(.*?)\n\}", re.DOTALL)
@@ -94,8 +96,8 @@ POINTERS = {"*mut u8": "void *", "*const u8": "const void *"}
 class Code:
     """What the code of the exports declares, in the words of C. A struct's comment says which of C's it is, and else its name does."""
 
-    def __init__(self, folder: Path) -> None:
-        text = "\n".join(it.read_text() for it in sorted(folder.rglob("*.rt")))
+    def __init__(self, root: Path) -> None:
+        text = "\n".join(it.read_text() for it in [*sorted((root / CODE).rglob("*.rt")), root / ITEM])
         laid_out = list(LAID_OUT.finditer(text))
         self.names = {it[2]: self.named(it[1], it[2]) for it in laid_out}
         self.structs: dict[str, tuple[tuple[str, str], ...]] = {}
@@ -151,10 +153,9 @@ class Code:
 
 def code_is_the_same(setting: Setting) -> str:
     """The code of the exports has the header's parameters, answers and structs."""
-    folder = setting.root / CODE
-    if not any(folder.rglob("*.rt")):
+    if not any((setting.root / CODE).rglob("*.rt")):
         raise LeftOut(f"{CODE} is missing")
-    code, header = Code(folder), header_of(setting)
+    code, header = Code(setting.root), header_of(setting)
     compare("the calls of the code", sorted(code.calls), sorted(header.calls))
     for name, wanted in header.calls.items():
         compare(f"{name} in the code", code.calls[name], wanted)

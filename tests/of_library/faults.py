@@ -43,4 +43,21 @@ def limits_are_the_same(setting: Setting) -> str:
     return ""
 
 
-CHECKS = [Check("the names of faults", faults_have_their_names), Check("the end of moments", limits_are_the_same)]
+def explanations_have_their_length(setting: Setting) -> str:
+    """The greatest length of an explanation is that of the code."""
+    path = setting.root / "crates" / "clk_explain" / "src" / "limits.rt"
+    if not path.exists():
+        raise LeftOut("the limits of explanations are missing")
+    found = re.search(r"MAX_EXPLANATION: usize = (\d+);", path.read_text())
+    declared = re.search(r"#define CLK_MOST_EXPLANATION (\d+)", (setting.include / "clickpull.h").read_text())
+    if found is None or declared is None:
+        raise Failed("the greatest length of an explanation isn't said")
+    compare("the header's greatest length of an explanation", int(declared[1]), int(found[1]))
+    return ""
+
+
+CHECKS = [
+    Check("the names of faults", faults_have_their_names),
+    Check("the end of moments", limits_are_the_same),
+    Check("the greatest length of an explanation", explanations_have_their_length),
+]

@@ -1,5 +1,6 @@
 -- What a call answers over a live router that is there.
-use Rattle.std.proofs.Common.{◌≡◌, ℕ, Some, refl, subst}
+use Rattle.std.proofs.Common.{◌≡◌, ℕ, List, Some, refl, subst}
+use Rattle.clk_live.specs.declared.taking.Taken.{Taken}
 use Rattle.clk_live.specs.State.{LiveState}
 use Rattle.clickpull_c.specs.declared.live.router.LiveRouter.{LiveRouter}
 use Rattle.clickpull_c.specs.live.State.{Goes, IsUnchanged, Answers, done, refused}
@@ -7,10 +8,14 @@ use Rattle.clickpull_c.specs.live.Tells.{AnswersTold}
 
 -- the router with another state
 abbrev pub with_state : LiveRouter → LiveState → LiveRouter
-with_state l s = record { live = Some s; inlets = l.inlets; reclaimed = l.reclaimed }
+with_state l s = record l { live = Some s }
 
 pub goes : (l : LiveRouter) (s next : LiveState) → l.live ≡ Some s → Goes l (with_state l next) s next
 goes l s next is = record { was = is; is = refl; inlets = refl; reclaimed = refl }
+
+-- with others in its slots too
+pub goes-taking : (l : LiveRouter) (slots : List Taken) (s next : LiveState) → l.live ≡ Some s → Goes l (record (with_state l next) { slots = slots }) s next
+goes-taking l slots s next is = record { was = is; is = refl; inlets = refl; reclaimed = refl }
 
 pub stays : (l : LiveRouter) → IsUnchanged l l
 stays l = record { live = refl; inlets = refl; reclaimed = refl }

@@ -1,6 +1,6 @@
 -- When calls are refused, and what they return then. The contract of a call that is refused says that nothing changed: neither the router
 -- nor what was to be filled in, except a count, which is 0.
-use Rattle.std.specs.Prelude.{◌≡◌, ℕ, ◌<◌, ◌≤◌, Some}
+use Rattle.std.specs.Prelude.{◌≡◌, ℕ, ◌<◌, ◌≤◌, Some, None, slice_get}
 use Rattle.clk_packet.specs.Limits.{most_length}
 use Rattle.clk_router.specs.Course.{Course, sender_at, CanOffer, CanPull}
 use Rattle.clickpull_c.specs.Counts.{device_count, sender_count, queue_count}
@@ -40,6 +40,11 @@ pub record HasNoDevice (c : Course) (device status : ℕ) : Type 0 where
 pub record HasNoPlace (c : Course) (place status : ℕ) : Type 0 where
   pub answers : status ≡ UNKNOWN_SENDER
   pub missing : sender_count c ≤ place
+
+-- A call is refused, since no sender at this place has a name.
+pub record HasNoName (c : Course) (place status : ℕ) : Type 0 where
+  pub answers : status ≡ UNKNOWN_SENDER
+  pub missing : slice_get c.setup.names place ≡ None
 
 -- A call is refused, since there is no such queue.
 pub record HasNoQueue (c : Course) (number status : ℕ) : Type 0 where

@@ -13,7 +13,7 @@ use Rattle.clk_router.specs.Events.{Setup, offered, pulled}
 use Rattle.clk_router.specs.Course.{Course, after}
 use Rattle.clickpull_c.specs.declared.values.CPacket.{CPacket}
 use Rattle.clickpull_c.specs.declared.values.CDeparture.{CDeparture}
-use Rattle.clickpull_c.specs.declared.values.CItem.{CItem}
+use Rattle.clk_inlet.specs.declared.item.Item.{Item}
 use Rattle.clickpull_c.specs.Values.{no_packet, packet_in_c}
 
 -- the first packet of sender 0
@@ -30,11 +30,12 @@ alone = record {
   trees = queue 0 ∷ [];
   queues = record { kind = TailDrop; capacity = 2; device = 0 } ∷ [];
   senders = record { number = 0; queue = 0 } ∷ [];
+  names = codes "s" ∷ [];
 }
 
 -- the device with a DRRSched of quantum 100 over its queue
 abbrev pub scheduled : Setup
-scheduled = record { trees = scheduler (drr (100 ∷ [])) (leaf 0 end) ∷ []; queues = alone.queues; senders = alone.senders }
+scheduled = record { trees = scheduler (drr (100 ∷ [])) (leaf 0 end) ∷ []; queues = alone.queues; senders = alone.senders; names = alone.names }
 
 -- a router before anything has happened
 abbrev pub fresh : Course
@@ -85,11 +86,11 @@ abbrev pub departure_filled : List CDeparture
 departure_filled = record { moment = 1; packet = packet_in_c p0_0 } ∷ []
 
 -- one item for an inlet, with a length in range
-abbrev pub one_item : List CItem
+abbrev pub one_item : List Item
 one_item = record { token = 7; length = 100 } ∷ []
 
 -- one item for an inlet, which is too long
-abbrev pub too_long : List CItem
+abbrev pub too_long : List Item
 too_long = record { token = 7; length = 65536 } ∷ []
 
 -- the line of a packet, room for it, and the room once the line stands in it

@@ -1,10 +1,9 @@
 -- What calls on an inlet do.
-use Rattle.std.specs.Prelude.{◌≡◌, ℕ, ◌≤◌, true, false, List, [], ◌∷◌, ◌++◌, length, map, take, Some, slice_get}
+use Rattle.std.specs.Prelude.{◌≡◌, ℕ, ◌≤◌, true, false, List, [], ◌∷◌, ◌++◌, length, take, Some, slice_get}
 use Rattle.clk_inlet.specs.declared.inlet.Inlet.{Inlet}
 use Rattle.clk_inlet.specs.declared.item.Item.{Item}
 use Rattle.clk_inlet.specs.Items.{packet_item}
 use Rattle.clk_inlet.specs.Halves.{pushed, offered, next_number, fits, at_end}
-use Rattle.clickpull_c.specs.declared.values.CItem.{CItem}
 use Rattle.clickpull_c.specs.declared.statuses.TheConstants.{OK, BAD_LENGTH, AT_END, FULL}
 use Rattle.clickpull_c.specs.Answers.{IsLength}
 
@@ -21,17 +20,13 @@ pub data RefusesPacket (i : Inlet) (length status : ℕ) : Type 0 where
   ended : status ≡ AT_END → IsLength length → at_end i ≡ true → RefusesPacket i length status
   full : status ≡ FULL → IsLength length → at_end i ≡ false → fits i ≡ 0 → RefusesPacket i length status
 
--- an item that C hands over, as it goes through the ring
-abbrev pub ring_item : CItem → Item
-ring_item i = packet_item i.length i.token
-
 -- The inlet accepted the first `done` of these items, in order.
-pub record AcceptsMany (old new : Inlet) (items : List CItem) (done : ℕ) : Type 0 where
+pub record AcceptsMany (old new : Inlet) (items : List Item) (done : ℕ) : Type 0 where
   pub within : done ≤ length items
-  pub pushes : pushed new ≡ pushed old ++ map ring_item (take done items)
-  pub offers : offered new ≡ offered old ++ map ring_item (take done items)
+  pub pushes : pushed new ≡ pushed old ++ take done items
+  pub offers : offered new ≡ offered old ++ take done items
 
 -- All of these items were accepted; or some were, and the next one is refused.
-pub data EndsBatch (now : Inlet) (items : List CItem) (done status : ℕ) : Type 0 where
+pub data EndsBatch (now : Inlet) (items : List Item) (done status : ℕ) : Type 0 where
   all : status ≡ OK → done ≡ length items → EndsBatch now items done status
-  refused : (item : CItem) → slice_get items done ≡ Some item → RefusesPacket now item.length status → EndsBatch now items done status
+  refused : (item : Item) → slice_get items done ≡ Some item → RefusesPacket now item.length status → EndsBatch now items done status

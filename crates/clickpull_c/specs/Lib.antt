@@ -2,6 +2,7 @@ pub mod Answers
 pub mod Calls
 pub mod Counts
 pub mod Examples
+pub mod Explains
 pub mod Filled
 pub mod Inlets
 pub mod Opens

@@ -1,5 +1,5 @@
 -- What calls tell of a router.
-use Rattle.std.specs.Prelude.{◌≡◌, ℕ, ◌+◌, ◌<◌, Option, Some, None, slice_get}
+use Rattle.std.specs.Prelude.{◌≡◌, ℕ, ◌+◌, ◌<◌, ◌≤◌, List, ◌++◌, length, drop, Option, Some, None, slice_get}
 use Rattle.clk_tree.specs.declared.plan.parts.SenderSpec.{SenderSpec}
 use Rattle.clk_router.specs.Accounts.{account_after}
 use Rattle.clk_router.specs.declared.queue_state.QueueState.{QueueState}
@@ -7,7 +7,7 @@ use Rattle.clk_router.specs.Course.{Course, moment_at, accepted_at, evicted_at, 
 use Rattle.clk_router.specs.Due.{IsDeviceDue, EmitsNoneBefore}
 use Rattle.clickpull_c.specs.declared.values.CAccount.{CAccount}
 use Rattle.clickpull_c.specs.declared.values.CQueue.{CQueue}
-use Rattle.clickpull_c.specs.declared.statuses.TheConstants.{OK, NONE}
+use Rattle.clickpull_c.specs.declared.statuses.TheConstants.{OK, NONE, FULL}
 use Rattle.clickpull_c.specs.Counts.{device_count}
 use Rattle.clickpull_c.specs.Values.{account_in_c, queue_in_c}
 
@@ -42,6 +42,18 @@ pub record TellsAccount (c : Course) (place : ℕ) (filled : CAccount) (status :
   pub sender : SenderSpec
   pub is : slice_get c.setup.senders place ≡ Some sender
   pub filled_is : filled ≡ account_in_c (account_after c.events sender)
+
+-- A name stands at the front of a buffer, whose other bytes are unchanged; or the buffer is too short, and is unchanged.
+pub data Names (name before filled : List ℕ) (status : ℕ) : Type 0 where
+  whole : status ≡ OK → length name ≤ length before → filled ≡ name ++ drop (length name) before → Names name before filled status
+  full : status ≡ FULL → length before < length name → filled ≡ before → Names name before filled status
+
+-- the name of the sender at a place was put into a buffer that has room for it, and its length was filled in
+pub record TellsName (c : Course) (place : ℕ) (before filled : List ℕ) (needed status : ℕ) : Type 0 where
+  pub name : List ℕ
+  pub is : slice_get c.setup.names place ≡ Some name
+  pub needed_is : needed ≡ length name
+  pub names : Names name before filled status
 
 -- the state of a queue was filled in
 pub record TellsQueue (c : Course) (number : ℕ) (filled : CQueue) (status : ℕ) : Type 0 where

@@ -1,11 +1,14 @@
 //! What the definitions of calls say of worked examples. The functions do nothing.
 
-ghost use Rattle.std.specs.Prelude.{[], Some, None};
+ghost use Rattle.std.specs.Prelude.{◌≡◌, ℕ, [], map, Some, None};
+ghost use Rattle.clk_packet.specs.declared.fault.Fault.TheVariants.{NoDevice};
 ghost use Rattle.clk_inlet.specs.Halves.{next_number};
 ghost use Rattle.clk_inlet.specs.declared.inlet.Inlet.{Inlet};
 ghost use Rattle.clickpull_c.specs.Answers.{RefusesOffer};
 ghost use Rattle.clickpull_c.specs.Calls.{IsDrained, IsPulledOften};
+ghost use Rattle.clickpull_c.specs.Explains.{TellsFault, opening_fault, opening_faults};
 ghost use Rattle.clickpull_c.specs.Recording.{AddsLines};
+ghost use Rattle.clickpull_c.specs.Values.{fault_in_c};
 ghost use Rattle.clickpull_c.specs.Inlets.{Accepts, AcceptsMany, EndsBatch, RefusesPacket};
 ghost use Rattle.clickpull_c.specs.Examples.{fresh, fresh_pulled, one_waits, one_out, one_out_pulled, two_wait, first_out, first_out_pulled, packet_before, packet_filled, departure_before, departure_filled, one_item, too_long, a_line, line_room, line_added};
 ghost use Rattle.clickpull_c.specs.declared.statuses.TheConstants.{OK, NONE, AT_END, BAD_LENGTH, UNKNOWN_SENDER, FULL};
@@ -62,4 +65,12 @@ pub fn record_examples()
     ensures long { AddsLines a_line 1 None line_room line_room 0 0 1000000 1000000 AT_END }
     ensures not_long { ¬ (AddsLines a_line 1 None line_room line_room 0 0 999999 999999 AT_END) }
     ensures not_full_first { ¬ (AddsLines a_line 1 (Some 1099511627776) line_room line_room 4 4 0 0 FULL) }
+{}
+
+/// Each fault that opening a router can have is known by what C sees of it, and a number that no opening has is none. An explanation has
+/// some bytes.
+pub fn explanation_examples()
+    ensures known { (offset : ℕ) → map (λ fault. opening_fault (fault_in_c fault)) (opening_faults offset) ≡ map Some (opening_faults offset) }
+    ensures unknown { (offset : ℕ) → opening_fault (record { number = 12; offset = offset }) ≡ None }
+    ensures not_empty { ¬ (TellsFault [] (Some NoDevice) [] [] 0 OK) }
 {}

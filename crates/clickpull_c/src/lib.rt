@@ -4,6 +4,7 @@
 
 mod draining;
 mod examples;
+mod explaining;
 mod handle;
 mod inlets;
 mod live;
@@ -16,8 +17,10 @@ mod statuses;
 mod telling;
 mod values;
 
-pub use examples::{call_examples, inlet_examples, record_examples, refusal_examples};
+pub use examples::{
+    call_examples, explanation_examples, inlet_examples, record_examples, refusal_examples,
+};
 pub use handle::{Handle, Place};
 pub use inlets::{InletHandle, InletPlace};
 pub use live::{CDeparted, CEmitted, CTaken, LiveHandle, LivePlace, LiveRouter, filled_examples};
-pub use values::{CAccount, CDeparture, CFault, CItem, COffer, COffered, CPacket, CQueue, CTotal};
+pub use values::{CAccount, CDeparture, CFault, COffer, COffered, CPacket, CQueue, CTotal};

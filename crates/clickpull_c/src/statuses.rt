@@ -28,7 +28,7 @@ pub const UNKNOWN_QUEUE: u32 = 8;
 /// The text makes no router, or an allocation failed.
 pub const FAULT: u32 = 9;
 
-/// The inlet has no room for the packet now, or the buffer of a record has none for its lines.
+/// The inlet has no room for the packet now, or a buffer has none for the lines of a record or for a name.
 pub const FULL: u32 = 10;
 
 /// The room of inlets is not from 1 to 16,777,216 packets.

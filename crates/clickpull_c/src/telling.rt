@@ -1,13 +1,13 @@
 //! Calls that tell the state of a router and change nothing.
 
 ghost use Rattle.std.specs.Prelude.{◌≡◌, ◌⊎◌};
-ghost use Rattle.clickpull_c.specs.Answers.{HasNoDevice, HasNoPlace, HasNoQueue};
+ghost use Rattle.clickpull_c.specs.Answers.{HasNoDevice, HasNoName, HasNoPlace, HasNoQueue};
 ghost use Rattle.clickpull_c.specs.Counts.{device_count, queue_count, sender_count};
-ghost use Rattle.clickpull_c.specs.Tells.{TellsAccount, TellsDue, TellsLeft, TellsMoment, TellsQueue};
+ghost use Rattle.clickpull_c.specs.Tells.{TellsAccount, TellsDue, TellsLeft, TellsMoment, TellsName, TellsQueue};
 
 // These calls take a router mutably too, since no export takes a struct that lends what it owns.
 use crate::handle::Handle;
-use crate::statuses::{NONE, OK, UNKNOWN_DEVICE, UNKNOWN_QUEUE, UNKNOWN_SENDER};
+use crate::statuses::{FULL, NONE, OK, UNKNOWN_DEVICE, UNKNOWN_QUEUE, UNKNOWN_SENDER};
 use crate::values::{CAccount, CQueue, account_for_c, queue_for_c};
 
 /// How many senders the router has.
@@ -102,6 +102,31 @@ pub extern "C" fn clk_router_account(
         }
         None => UNKNOWN_SENDER,
     }
+}
+
+/// Puts the name of the sender at this place to the front of a buffer, if it has room, and fills in how many bytes the name has. Places go
+/// from 0 on, in the order of the senders' numbers. The name is that of the sender's element in the text.
+#[unsafe(no_mangle)]
+pub extern "C" fn clk_router_sender_name(
+    router: &mut Handle,
+    place: usize,
+    buffer: &mut [u8],
+    needed: &mut usize,
+) -> u32
+    ensures answer { TellsName router.old.router place buffer.old buffer.new needed.new result
+        ⊎ (HasNoName router.old.router place result × (buffer.new ≡ buffer.old) × (needed.new ≡ 0)) }
+    ensures unchanged { router.new.router ≡ router.old.router }
+{
+    let Some(name) = router.get_mut().sender_name(place) else {
+        *needed = 0;
+        return UNKNOWN_SENDER;
+    };
+    *needed = name.len();
+    if name.len() > buffer.len() {
+        return FULL;
+    }
+    buffer[..name.len()].copy_from_slice(name);
+    OK
 }
 
 /// Fills in the state of the queue with this number.

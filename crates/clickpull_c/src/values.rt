@@ -42,16 +42,6 @@ pub struct COffer {
     pub length: u32,
 }
 
-/// A packet that a sender offers to its inlet. In C it is the struct `clk_item`.
-#[repr(C)]
-#[derive(Clone, Copy)]
-pub struct CItem {
-    /// A value of the caller's, which goes with the packet.
-    pub token: u64,
-    /// The packet's length in bytes, from 1 to 65,535.
-    pub length: u32,
-}
-
 /// A packet that a drain emitted. In C it is the struct `clk_departure`.
 #[repr(C)]
 #[derive(Clone, Copy)]

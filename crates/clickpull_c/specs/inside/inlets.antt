@@ -1,5 +1,4 @@
--- The handle of an inlet, and where a batch stops.
+-- The handle of an inlet.
 pub mod Follows
 pub mod Handle
 pub mod Place
-pub mod Stops

@@ -5,18 +5,14 @@ ghost use Rattle.clk_inlet.specs.Items.{has_end};
 ghost use Rattle.clk_inlet.specs.Halves.{pushed, fits, AreHalves};
 ghost use Rattle.clk_inlet.specs.declared.outlet.Outlet.{Outlet};
 ghost use Rattle.clickpull_c.specs.Answers.{IsLength};
-ghost use Rattle.clickpull_c.specs.inside.inlets.Stops.{HasBadLength, MayStop};
-ghost use Rattle.clickpull_c.specs.Inlets.{Accepts, AcceptsMany, EndsBatch, RefusesPacket, ring_item};
+ghost use Rattle.clickpull_c.specs.Inlets.{Accepts, AcceptsMany, EndsBatch, RefusesPacket};
 ghost use Rattle.clickpull_c.specs.declared.statuses.TheConstants.{OK};
 
 use super::handle::InletHandle;
 use crate::handle::demand_send;
 use crate::statuses::{AT_END, BAD_LENGTH, FULL, OK};
-use crate::values::{CItem, length_of};
+use crate::values::length_of;
 use clk_inlet::{Inlet, Item, Refusal};
-
-// How many packets of a batch are converted at a time.
-const PIECE: usize = 64;
 
 /// Offers a packet of this length in bytes, with a token of the caller's. Fills in the packet's number: how many packets the inlet accepted
 /// before it.
@@ -41,11 +37,12 @@ pub extern "C" fn clk_raw_inlet_offer(
     }
 }
 
-/// Offers a batch of packets, in order, up to the first that is refused. Fills in how many were accepted.
+/// Offers a batch of packets, in order, up to the first that is refused. Fills in how many were accepted. In C an item is the struct
+/// `clk_item`.
 #[unsafe(no_mangle)]
 pub extern "C" fn clk_raw_inlet_offer_many(
     inlet: &mut InletHandle,
-    items: &[CItem],
+    items: &[Item],
     done: &mut usize,
 ) -> u32
     ensures accepted { AcceptsMany inlet.old.inlet inlet.new.inlet items.now done.new }
@@ -105,20 +102,16 @@ fn offer(inlet: &mut Inlet, length: u32, token: u64) -> Result<u32, u32>
 }
 
 // Offers these items to this inlet, in order, up to the first that is refused. Returns how many were accepted, and the status.
-fn offer_each(inlet: &mut Inlet, items: &[CItem]) -> (usize, u32)
+fn offer_each(inlet: &mut Inlet, items: &[Item]) -> (usize, u32)
     ensures accepted { AcceptsMany inlet.old inlet.new items.now result.0 }
     ensures ends { EndsBatch inlet.new items.now result.0 result.1 }
     ensures fits { fits inlet.old ≤ fits inlet.new + result.0 }
     ensures halves { (o : Outlet) → AreHalves inlet.old o → AreHalves inlet.new o }
 {
-    let mut piece = [Item {
-        token: 0,
-        length: 0,
-    }; PIECE];
     let mut done = 0;
     while done < items.len() {
         let (_, rest) = items.split_at(done);
-        done += offer_piece(inlet, rest, &mut piece);
+        done += inlet.offer_many(rest);
         if done == items.len() {
             return (done, OK);
         }
@@ -129,40 +122,4 @@ fn offer_each(inlet: &mut Inlet, items: &[CItem]) -> (usize, u32)
         }
     }
     (done, OK)
-}
-
-// Offers the first of these items as one batch: at most as many as fit into `piece`, up to one whose length is out of range. Returns how
-// many were accepted.
-fn offer_piece(inlet: &mut Inlet, items: &[CItem], piece: &mut [Item]) -> usize
-    ensures accepted { AcceptsMany inlet.old inlet.new items.now result }
-    ensures stops { result < length piece.old → MayStop inlet.new items.now result }
-    ensures fits { fits inlet.old ≤ fits inlet.new + result }
-    ensures halves { (o : Outlet) → AreHalves inlet.old o → AreHalves inlet.new o }
-{
-    let count = convert(items, piece);
-    let (front, _) = piece.split_at(count);
-    inlet.offer_many(front)
-}
-
-// Converts the first of these items into `piece`: as many as fit, up to one whose length is out of range. Returns how many.
-fn convert(items: &[CItem], piece: &mut [Item]) -> usize
-    ensures count { (result ≤ length items.now) × (result ≤ length piece.new) }
-    ensures room { length piece.new ≡ length piece.old }
-    ensures converted { take result piece.new ≡ map ring_item (take result items.now) }
-    ensures packets { has_end (take result piece.new) ≡ false }
-    ensures stops { result < length piece.new → HasBadLength items.now result }
-{
-    let mut count = 0;
-    while count < items.len() && count < piece.len() {
-        let item = items[count];
-        let Some(length) = length_of(item.length) else {
-            return count;
-        };
-        piece[count] = Item {
-            token: item.token,
-            length,
-        };
-        count += 1;
-    }
-    count
 }

@@ -10,6 +10,7 @@ ghost use Rattle.clickpull_c.specs.live.Opens.{IsGivenLive, OpensLive, RefusesOp
 
 use super::handle::{LiveHandle, LivePlace};
 use super::router::LiveRouter;
+use super::taking::FREE_SLOTS;
 use crate::handle::demand_send;
 use crate::statuses::{BAD_ROOM, FAULT, OK};
 use crate::values::{CFault, fault_for_c};
@@ -60,6 +61,7 @@ fn open(alloc: Global, text: &[u8], room: u32) -> Result<LiveHandle, Fault>
         live: Some(live),
         inlets,
         reclaimed: Reclaimed::none(alloc),
+        slots: FREE_SLOTS,
     };
     Ok(LiveHandle::of(Box::new(alloc, router)?))
 }

@@ -1,5 +1,6 @@
 //! A live router with its inlets and tokens.
 
+use super::taking::Slots;
 use clk_inlet::Inlet;
 use clk_live::{Live, Reclaimed};
 
@@ -12,4 +13,6 @@ pub struct LiveRouter {
     pub inlets: Vec<Option<Box<Inlet>>>,
     /// The tokens that are left to reclaim, once there is no router.
     pub reclaimed: Reclaimed,
+    /// Where packets are put as they are taken. Only the call that takes them reads them.
+    pub slots: Slots,
 }

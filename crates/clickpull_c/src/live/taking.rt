@@ -18,6 +18,12 @@ use clk_packet::Packet;
 /// How many packets one call takes at most.
 pub const MOST_TAKEN: usize = 64;
 
+/// Places for as many packets as one call takes.
+pub type Slots = [Taken; MOST_TAKEN];
+
+/// Slots before the first packet is taken.
+pub const FREE_SLOTS: Slots = [FREE; MOST_TAKEN];
+
 // The value of a slot that no packet was taken into.
 const FREE: Taken = Taken {
     packet: Packet {
@@ -89,7 +95,7 @@ fn take(router: &mut LiveRouter, sender: u32, taken: &mut [CTaken]) -> (usize, u
         return (0, UNKNOWN_SENDER);
     };
     let places = taken.len();
-    let count = take_at(live, place, sender, taken);
+    let count = take_at(live, &mut router.slots, place, sender, taken);
     (count, given_status(count, places))
 }
 
@@ -101,7 +107,7 @@ fn take_in(router: &mut LiveRouter, each: usize, taken: &mut [CTaken]) -> (usize
         return (0, RECLAIMED);
     };
     let places = taken.len();
-    let count = take_round(live, each, taken);
+    let count = take_round(live, &mut router.slots, each, taken);
     (count, given_status(count, places))
 }
 
@@ -113,17 +119,22 @@ fn take_what_fits(router: &mut LiveRouter, each: usize, taken: &mut [CTaken]) ->
         return (0, RECLAIMED);
     };
     let places = taken.len();
-    let count = take_fitting_round(live, each, taken);
+    let count = take_fitting_round(live, &mut router.slots, each, taken);
     (count, given_status(count, places))
 }
 
 // Takes packets of the sender at a place. Returns how many.
-fn take_at(live: &mut Live, place: usize, sender: u32, taken: &mut [CTaken]) -> usize
+fn take_at(
+    live: &mut Live,
+    slots: &mut Slots,
+    place: usize,
+    sender: u32,
+    taken: &mut [CTaken],
+) -> usize
     requires sender { sender_at live.old.course.setup place ≡ Some sender }
     ensures { TakesOf sender live.old live.new taken.old taken.new result }
 {
     let most = taken.len().min(MOST_TAKEN);
-    let mut slots = [FREE; MOST_TAKEN];
     let (slots, _) = slots.split_at_mut(most);
     // There is an outlet for each sender, by this law, which does nothing.
     let _ = live.router();
@@ -133,11 +144,10 @@ fn take_at(live: &mut Live, place: usize, sender: u32, taken: &mut [CTaken]) -> 
 }
 
 // Takes packets in one round. Returns how many.
-fn take_round(live: &mut Live, each: usize, taken: &mut [CTaken]) -> usize
+fn take_round(live: &mut Live, slots: &mut Slots, each: usize, taken: &mut [CTaken]) -> usize
     ensures { TakesIn each live.old live.new taken.old taken.new result }
 {
     let most = taken.len().min(MOST_TAKEN);
-    let mut slots = [FREE; MOST_TAKEN];
     let (slots, _) = slots.split_at_mut(most);
     let count = live.take_in(each, slots);
     fill_in(slots, count, taken);
@@ -145,11 +155,15 @@ fn take_round(live: &mut Live, each: usize, taken: &mut [CTaken]) -> usize
 }
 
 // Takes packets that fit, in one round. Returns how many.
-fn take_fitting_round(live: &mut Live, each: usize, taken: &mut [CTaken]) -> usize
+fn take_fitting_round(
+    live: &mut Live,
+    slots: &mut Slots,
+    each: usize,
+    taken: &mut [CTaken],
+) -> usize
     ensures { TakesWhatFits each live.old live.new taken.old taken.new result }
 {
     let most = taken.len().min(MOST_TAKEN);
-    let mut slots = [FREE; MOST_TAKEN];
     let (slots, _) = slots.split_at_mut(most);
     let count = live.take_in_fitting(each, slots);
     fill_in(slots, count, taken);

@@ -4,7 +4,6 @@ use Rattle.clk_inlet.specs.declared.inlet.Inlet.{Inlet}
 use Rattle.clk_inlet.specs.declared.item.Item.{Item}
 use Rattle.clk_inlet.specs.Items.{packet_item}
 use Rattle.clk_inlet.specs.Halves.{pushed, offered}
-use Rattle.clickpull_c.specs.declared.values.CItem.{CItem}
 use Rattle.clickpull_c.specs.Answers.{IsLength}
 use Rattle.clickpull_c.specs.Inlets.{RefusesPacket, bad_length, ended, full, EndsBatch, all, refused}
 use Rattle.clickpull_c.specs.Examples.{one_item}
@@ -68,9 +67,9 @@ returns-clause-ended_by_length c = λ i. refused (record { token = 7; length = 6
 pub returns-clause-not_ended_by_good_length : goal.returns-clause-not_ended_by_good_length
 returns-clause-not_ended_by_good_length c = none
   where
-    the_item : CItem
+    the_item : Item
     the_item = record { token = 7; length = 100 }
 
     none : (i : Inlet) → EndsBatch i one_item 0 BAD_LENGTH → ⊥
     none i (all e n) = omega (arith, n)
-    none i (refused item is r) = let same : the_item ≡ item = cc in right i item.length (subst (λ (x : CItem). IsLength x.length) same (lit≤ tt, lit≤ tt)) r
+    none i (refused item is r) = let same : the_item ≡ item = cc in right i item.length (subst (λ (x : Item). IsLength x.length) same (lit≤ tt, lit≤ tt)) r
