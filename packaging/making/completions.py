@@ -68,7 +68,7 @@ def option(it: Entry) -> list[str]:
 def command(name: str, told: Help) -> str:
     """How zsh completes what follows a command."""
     taken = [it for that in told.options for it in option(that)]
-    taken += [quoted(f"{place}:{it.value or it.word}:_files") for place, it in enumerate(told.arguments, 1)]
+    taken += [quoted(f"{place}:{':' * it.is_optional}{it.value or it.word}:_files") for place, it in enumerate(told.arguments, 1)]
     lines = " \\\n                ".join(taken)
     return f"            {name})\n                _arguments \\\n                {lines}\n                ;;\n"
 

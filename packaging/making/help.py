@@ -27,8 +27,13 @@ class Entry:
     @property
     def value(self) -> str | None:
         """What stands for an option's value, or an argument's name, as FILE."""
-        found = re.search(r"<([^>]+)>", self.word)
-        return found[1] if found else None
+        found = re.search(r"<([^>]+)>|^\[([^\]]+)\]$", self.word)
+        return found[1] or found[2] if found else None
+
+    @property
+    def is_optional(self) -> bool:
+        """Whether it is an argument that may be left out, as [TRACE]."""
+        return self.word.startswith("[")
 
 
 @dataclass

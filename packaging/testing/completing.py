@@ -36,14 +36,15 @@ def completed(root: Path, *words: str) -> list[str]:
 def bash_completes(root: Path) -> None:
     """Bash completes commands, options and files."""
     need("bash")
-    compare("commands", completed(root, "clickpull", ""), sorted(["--help", "--version", "-V", "-h", "check", "help", "live", "run", "script"]))
+    compare("commands", completed(root, "clickpull", ""), sorted(["--help", "--version", "-V", "-h", "check", "help", "lint", "live", "run", "script"]))
     compare("a command", completed(root, "clickpull", "sc"), ["script"])
     compare("options", completed(root, "clickpull", "run", "--"), ["--help", "--limit", "--step", "--visits"])
     compare("options of a run through inlets", completed(root, "clickpull", "live", "--"), ["--help", "--limit", "--record", "--step", "--visits"])
-    compare("what help tells of", completed(root, "clickpull", "help", ""), ["check", "live", "run", "script"])
+    compare("what help tells of", completed(root, "clickpull", "help", ""), ["check", "lint", "live", "run", "script"])
     compare("a number", completed(root, "clickpull", "run", "--step", ""), [])
     file = str(root / "usr/include/clickpull.hp")
     compare("a tree", completed(root, "clickpull", "check", file), [file + "p"])
+    compare("a trace", completed(root, "clickpull", "lint", "uplink.click", file), [file + "p"])
     compare("a file of visits", completed(root, "clickpull", "script", "--visits", file), [file + "p"])
 
 

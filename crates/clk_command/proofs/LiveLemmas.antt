@@ -1,12 +1,14 @@
 -- What a run through inlets writes, and what its record means.
-use Rattle.std.proofs.Common.{◌≡◌, ◌≢◌, ◌++◌, ℕ, Bool, true, false, List, [], append-nil, append_assoc, map, Option, Some, None, Result, Ok, Err, IfSome, OnOk, refl, sym, ap, subst, ◌∙◌, inl, inr}
+use Rattle.std.proofs.Common.{◌≡◌, ◌≢◌, ◌++◌, ℕ, Bool, true, false, List, [], append-nil, append_assoc, map, Option, Some, None, Result, Ok, Err, IfOk, IfSome, OnOk, refl, sym, ap, subst, ◌∙◌, inl, inr}
 use Rattle.std.specs.Io.KnownBytes.{Appends}
 use Rattle.std.specs.List.{flat_map}
-use Rattle.std.proofs.KnownBytes.{Appends-nil, Keeps-refl}
+use Rattle.std.proofs.KnownBytes.{Appends-nil, Appends-trans, Keeps-refl}
 use Rattle.clk_packet.specs.declared.fault.Fault.{Fault}
 use Rattle.clk_packet.specs.declared.fault.Fault.TheVariants.{Write}
 use Rattle.clk_packet.specs.declared.packet.Packet.{Packet}
+use Rattle.clk_packet.proofs.Callers.Written.{wrote-whole, wrote-front}
 use Rattle.clk_packet.specs.Bytes.{AppendsFront, Wrote}
+use Rattle.clk_packet.specs.Written.{WroteWhat}
 use Rattle.clk_sched.specs.Tree.{Tree}
 use Rattle.clk_sched.specs.declared.visit.Visit.{Visit}
 use Rattle.clk_tree.specs.Plan.{Planned}
@@ -18,7 +20,8 @@ use Rattle.clk_script.specs.Record.{FitsLimits, PlanRecordsMeanTheirCourse}
 use Rattle.clk_live_run.specs.Recorded.{IsRecorded, run_record}
 use Rattle.clk_live_run.specs.Run.{LiveRunOf}
 use Rattle.clk_command.specs.Running.{EndsIn, HasRecord, LiveWrites, Tells}
-use Rattle.clk_command.specs.Tasks.{IsPlanIn, LivesWithVisits, WroteBoth}
+use Rattle.clk_command.proofs.TaskLemmas.{front-later}
+use Rattle.clk_command.specs.Tasks.{AreTogether, IsPlanIn, LivesWithVisits, WroteBoth}
 use Rattle.clk_report.specs.VisitCsv.{visits_text}
 use Rattle.clk_command.specs.declared.pace.Pace.{Pace}
 
@@ -115,3 +118,19 @@ kept-writes plan pace known traces course failed start now empty sound records t
 pub lives-with-visits : (tree trace : Option (List ℕ)) (pace : Pace) (text script : List ℕ) (logs : List (List Visit)) (plan : List Planned)
     → IsPlanIn tree plan → LiveWrites plan pace trace true text script → EndsIn plan script text logs → LivesWithVisits tree trace pace text script (visits_text logs)
 lives-with-visits tree trace pace text script logs plan is_plan writes ends = record { plan = plan; is_plan = is_plan; writes = writes; logs = logs; ends = ends; csv = refl }
+
+-- what two facts of a success say together
+pub if-both : {T : Type 0} (result : Result T Fault) (P Q R : T → Type 0) → ((x : T) → P x → Q x → R x) → IfOk result P → IfOk result Q → IfOk result R
+if-both (Ok x) P Q R both p q = both x p q
+if-both (Err fault) P Q R both p q = tt
+
+-- the report was written, its record, and then the visits to the sink of the report as far as it took them
+pub follow-last : (Q : List ℕ → List ℕ → List ℕ → Type 0) (result : Result (Unit {0}) Fault) (old mid new script_old script_new : Option (List ℕ)) (before after : ℕ) (lines text visits : List ℕ)
+    → Q lines text visits → Appends script_old script_new lines → Appends old mid text → Wrote mid new before after result visits
+    → WroteWhat (λ all. (l : List ℕ) × AreTogether (λ t rows. Q l t rows) all × OnOk result (Appends script_old script_new l) × AppendsFront script_old script_new l) result old new
+follow-last Q (Ok x) old mid new script_old script_new before after lines text visits means script all wrote =
+    let both : AreTogether (λ t rows. Q lines t rows) (text ++ visits) = record { answer = text; visits = visits; means = means; together = refl } in
+    wrote-whole _ _ _ _ (text ++ visits) (lines, both, script, front-whole _ _ _ script) (Appends-trans old mid new text visits all wrote.whole)
+follow-last Q (Err fault) old mid new script_old script_new before after lines text visits means script all wrote =
+    let both : AreTogether (λ t rows. Q lines t rows) (text ++ visits) = record { answer = text; visits = visits; means = means; together = refl } in
+    wrote-front _ _ _ _ (text ++ visits) wrote.fault (lines, both, tt, front-whole _ _ _ script) (front-later old mid new text visits all wrote.front)

@@ -1,6 +1,7 @@
 -- What is read of a tree's text, and what follows for what is done over it.
-use Rattle.std.proofs.Common.{◌+◌, ◌≡◌, ℕ, Bool, true, false, nat_lt, List, [], length, take, option_map, Option, Some, None, Result, Ok, Err, IfSome, refl, sym, subst, ◌∙◌, inl, inr, arith}
-use Rattle.std.proofs.KnownBytes.{Keeps-refl}
+use Rattle.std.proofs.Common.{◌+◌, ◌≡◌, ℕ, Bool, true, false, nat_lt, List, [], ◌++◌, append_assoc, length, take, option_map, Option, Some, None, Result, Ok, Err, IfSome, OnOk, refl, sym, ap, subst, ◌∙◌, inl, inr, arith}
+use Rattle.std.specs.Io.KnownBytes.{Appends}
+use Rattle.std.proofs.KnownBytes.{Appends-trans, Keeps-refl}
 use Rattle.std.proofs.lemmas.Bool.Decides.{nat_tests}
 use Rattle.std.proofs.lemmas.List.{take_all, length-take}
 use Rattle.clk_packet.specs.declared.fault.Fault.{Fault}
@@ -9,10 +10,11 @@ use Rattle.clk_syntax.specs.Faults.{text_fault}
 use Rattle.clk_syntax.specs.Limits.{most_tree_bytes}
 use Rattle.clk_tree.specs.Plan.{Planned, Denotes}
 use Rattle.clk_syntax.specs.Reading.{HasFault}
-use Rattle.clk_packet.specs.Bytes.{OfBytes, Takes, Wrote}
+use Rattle.clk_packet.proofs.Callers.Written.{of-weaker, wrote-whole, wrote-front}
+use Rattle.clk_packet.specs.Bytes.{AppendsFront, OfBytes, Takes, Wrote}
 use Rattle.clk_packet.specs.Written.{WroteWhat}
-use Rattle.clk_command.specs.Tasks.{DoesWork, IsPlanIn, LivesOver, ReportsOver, WroteBoth}
-use Rattle.clk_command.specs.Words.{is_recorded, text_of, work}
+use Rattle.clk_command.specs.Tasks.{AreTogether, DoesWork, GoesOut, IsPlanIn, LivesOver, LivesWithVisits, ReportsOver, ReportsWithVisits, WritesOver, WritesWithVisits, WroteBoth}
+use Rattle.clk_command.specs.Words.{is_recorded, text_of, visits_follow, work}
 use Rattle.clk_command.specs.declared.pace.Pace.{Pace}
 use Rattle.clk_command.specs.declared.words.Job.{Job}
 use Rattle.clk_command.specs.declared.words.Job.TheVariants.{Run, Live}
@@ -69,34 +71,98 @@ pub takes-none : (most : ℕ) (known : Option (List ℕ)) → Takes most known k
 takes-none most None = tt
 takes-none most (Some all) = ([], refl, omega arith)
 
--- writing the text failed
-pub both-first : {T U : Type 0} (P : List ℕ → Type 0) (Q : List ℕ → List ℕ → Type 0) (fault : Fault) (old new visits_old : Option (List ℕ)) → ((text : List ℕ) → P text → (visits : List ℕ) × Q text visits)
-    → WroteWhat {T = T} P (Err fault) old new → WroteBoth {T = U} Q old new (Err fault) visits_old visits_old
-both-first P Q fault old new visits_old means w =
+-- writing the text failed; `R` is what else is known of the visits
+pub both-first : {T U : Type 0} (R : List ℕ → Type 0) (Q : List ℕ → List ℕ → Type 0) (fault : Fault) (old new visits_old : Option (List ℕ))
+    → WroteWhat {T = T} (λ text. (visits : List ℕ) × R visits × Q text visits) (Err fault) old new → WroteBoth {T = U} Q old new (Err fault) visits_old visits_old
+both-first R Q fault old new visits_old w =
     record {
       whole = tt;
-      front = λ failed. let front = w.front (cc) in let both = means front.0 front.1 in (front.0, both.0, both.1, inl (front.2, Keeps-refl visits_old));
+      front = λ failed. let front = w.front (cc) in (front.0, front.1.0, front.1.2, inl (front.2, Keeps-refl visits_old));
       nothing = λ other. (w.nothing other, Keeps-refl visits_old);
     }
 
 -- the text was written, and then the visits as far as their sink took them
-pub both-second : {T : Type 0} (P : List ℕ → Type 0) (Q : List ℕ → List ℕ → Type 0) (x : T) (result : Result (Unit {0}) Fault) (old new visits_old visits_new : Option (List ℕ)) (before after : ℕ) (visits : List ℕ)
-    → ((text : List ℕ) → P text → Q text visits) → WroteWhat P (Ok x) old new → Wrote visits_old visits_new before after result visits → WroteBoth Q old new result visits_old visits_new
-both-second P Q x (Ok y) old new visits_old visits_new before after visits means w wrote =
-    record { whole = (w.whole.0, visits, means w.whole.0 w.whole.1, w.whole.2, wrote.whole); front = λ failed. absurd (cc); nothing = tt }
-both-second P Q x (Err fault) old new visits_old visits_new before after visits means w wrote =
+pub both-second : {T : Type 0} (Q : List ℕ → List ℕ → Type 0) (x : T) (result : Result (Unit {0}) Fault) (old new visits_old visits_new : Option (List ℕ)) (before after : ℕ) (visits : List ℕ)
+    → WroteWhat (λ text. (rows : List ℕ) × (visits ≡ rows) × Q text rows) (Ok x) old new → Wrote visits_old visits_new before after result visits → WroteBoth Q old new result visits_old visits_new
+both-second Q x (Ok y) old new visits_old visits_new before after visits w wrote =
+    let all = w.whole in
+    record { whole = (all.0, visits, subst (Q all.0) (sym all.1.1) all.1.2, all.2, wrote.whole); front = λ failed. absurd (cc); nothing = tt }
+both-second Q x (Err fault) old new visits_old visits_new before after visits w wrote =
+    let all = w.whole in
     record {
       whole = tt;
-      front = λ _. (w.whole.0, visits, means w.whole.0 w.whole.1, inr (w.whole.2, wrote.front));
+      front = λ _. (all.0, visits, subst (Q all.0) (sym all.1.1) all.1.2, inr (all.2, wrote.front));
       nothing = λ other. absurd (other wrote.fault);
     }
 
+-- a front of a text is one of the text with visits after it
+pub front-longer : (old new : Option (List ℕ)) (text visits : List ℕ) → AppendsFront old new text → AppendsFront old new (text ++ visits)
+front-longer old new text visits front = (front.0, front.1 ++ visits, ap (λ l. l ++ visits) front.2 ∙ append_assoc front.0 front.1 visits, front.3)
+
+-- the visits followed a text in one sink, as far as it took them
+pub front-later : (old mid new : Option (List ℕ)) (text visits : List ℕ) → Appends old mid text → AppendsFront mid new visits → AppendsFront old new (text ++ visits)
+front-later old mid new text visits all front =
+    (text ++ front.0, front.1, ap (λ l. text ++ l) front.2 ∙ sym (append_assoc text front.0 front.1), Appends-trans old mid new text front.0 all front.3)
+
+-- writing the text failed, where the visits would have followed it
+pub follow-first : {T U : Type 0} (R : List ℕ → Type 0) (Q : List ℕ → List ℕ → Type 0) (fault : Fault) (old new : Option (List ℕ))
+    → WroteWhat {T = T} (λ text. (visits : List ℕ) × R visits × Q text visits) (Err fault) old new → WroteWhat {T = U} (AreTogether Q) (Err fault) old new
+follow-first R Q fault old new w =
+    record {
+      whole = tt;
+      front = λ failed. let front = w.front (cc) in (
+        front.0 ++ front.1.0,
+        record { answer = front.0; visits = front.1.0; means = front.1.2; together = refl },
+        front-longer old new front.0 front.1.0 front.2,
+      );
+      nothing = w.nothing;
+    }
+
+-- the text was written, and then the visits to the same sink as far as it took them
+pub follow-second : {T : Type 0} (Q : List ℕ → List ℕ → Type 0) (x : T) (result : Result (Unit {0}) Fault) (old mid new : Option (List ℕ)) (before after : ℕ) (visits : List ℕ)
+    → WroteWhat (λ text. (rows : List ℕ) × (visits ≡ rows) × Q text rows) (Ok x) old mid → Wrote mid new before after result visits → WroteWhat (AreTogether Q) result old new
+follow-second Q x (Ok y) old mid new before after visits w wrote =
+    let all = w.whole in
+    let means : AreTogether Q (all.0 ++ visits) = record { answer = all.0; visits = visits; means = subst (Q all.0) (sym all.1.1) all.1.2; together = refl } in
+    wrote-whole _ _ _ _ (all.0 ++ visits) means (Appends-trans old mid new all.0 visits all.2 wrote.whole)
+follow-second Q x (Err fault) old mid new before after visits w wrote =
+    let all = w.whole in
+    let means : AreTogether Q (all.0 ++ visits) = record { answer = all.0; visits = visits; means = subst (Q all.0) (sym all.1.1) all.1.2; together = refl } in
+    wrote-front _ _ _ _ (all.0 ++ visits) wrote.fault means (front-later old mid new all.0 visits all.2 wrote.front)
+
+-- an answer alone goes out, and an answer with the visits after it
+pub goes-alone : (follows : Bool) (P : List ℕ → Type 0) (Q : List ℕ → List ℕ → Type 0) (all : List ℕ) → follows ≡ false → P all → GoesOut follows P Q all
+goes-alone follows P Q all is h = subst (λ (b : Bool). GoesOut b P Q all) (sym is) h
+
+pub goes-followed : (follows : Bool) (P : List ℕ → Type 0) (Q : List ℕ → List ℕ → Type 0) (all : List ℕ) → follows ≡ true → AreTogether Q all → GoesOut follows P Q all
+goes-followed follows P Q all is h = subst (λ (b : Bool). GoesOut b P Q all) (sym is) h
+
+-- so it is of what a call did
+pub out-alone : {T : Type 0} (result : Result T Fault) (follows : Bool) (P R : List ℕ → Type 0) (Q : List ℕ → List ℕ → Type 0) → follows ≡ false → OnOk result ((all : List ℕ) × P all × R all)
+    → OnOk result ((all : List ℕ) × GoesOut follows P Q all × R all)
+out-alone (Ok x) follows P R Q is h = (h.0, goes-alone follows P Q h.0 is h.1, h.2)
+out-alone (Err fault) follows P R Q is h = tt
+
+pub out-followed : {T : Type 0} (result : Result T Fault) (follows : Bool) (P R : List ℕ → Type 0) (Q : List ℕ → List ℕ → Type 0) → follows ≡ true → OnOk result ((all : List ℕ) × AreTogether Q all × R all)
+    → OnOk result ((all : List ℕ) × GoesOut follows P Q all × R all)
+out-followed (Ok x) follows P R Q is h = (h.0, goes-followed follows P Q h.0 is h.1, h.2)
+out-followed (Err fault) follows P R Q is h = tt
+
+-- what is written with visits is written without them too
+pub writes-over : (tree input : Option (List ℕ)) (text visits : List ℕ) → WritesWithVisits tree input text visits → WritesOver tree input text
+writes-over tree input text visits w = record { plan = w.plan; is_plan = w.is_plan; means = of-weaker input _ _ (λ script means. (w.logs, means)) w.means }
+
+pub lives-over : (tree trace : Option (List ℕ)) (pace : Pace) (text script visits : List ℕ) → LivesWithVisits tree trace pace text script visits → LivesOver tree trace pace true text script
+lives-over tree trace pace text script visits w = record { plan = w.plan; is_plan = w.is_plan; writes = w.writes }
+
 -- a run was done, as it was asked for
 pub does-run : (job : Job) (pace : Pace) (visits : Option (Bor (List ℕ))) (tree trace : Option (List ℕ)) (P : List ℕ → Type 0) → job ≡ Run pace visits
-    → (text : List ℕ) × ReportsOver tree trace pace text × P text → DoesWork (work job) tree trace P
+    → (all : List ℕ) × GoesOut (visits_follow (option_map text_of visits)) (ReportsOver tree trace pace) (ReportsWithVisits tree trace pace) all × P all → DoesWork (work job) tree trace P
 does-run job pace visits tree trace P is h = subst (λ (j : Job). DoesWork (work j) tree trace P) (sym is) (h.0, pace, refl, refl, h.1, h.2)
 
 -- so was a run through inlets
 pub does-live : (job : Job) (pace : Pace) (script visits : Option (Bor (List ℕ))) (tree trace : Option (List ℕ)) (P : List ℕ → Type 0) → job ≡ Live pace script visits
-    → (text : List ℕ) × (lines : List ℕ) × LivesOver tree trace pace (is_recorded (option_map text_of script) (option_map text_of visits)) text lines × P text → DoesWork (work job) tree trace P
+    → (all : List ℕ) × (lines : List ℕ) × GoesOut (visits_follow (option_map text_of visits)) (λ text. LivesOver tree trace pace (is_recorded (option_map text_of script) (option_map text_of visits)) text lines)
+    (λ text rows. LivesWithVisits tree trace pace text lines rows) all × P all
+    → DoesWork (work job) tree trace P
 does-live job pace script visits tree trace P is h = subst (λ (j : Job). DoesWork (work j) tree trace P) (sym is) (h.0, h.1, pace, refl, refl, h.2, h.3)

@@ -1,5 +1,5 @@
 -- What is done for each task, by the bytes of its files, if these are known.
-use Rattle.std.specs.Prelude.{◌≡◌, ◌≢◌, ◌⊎◌, ℕ, Bool, true, List, Option, None, Some, if◌then◌else◌, Result, OnOk, IfErr, IsErrOf}
+use Rattle.std.specs.Prelude.{◌≡◌, ◌≢◌, ◌⊎◌, ◌++◌, ℕ, Bool, true, false, List, Option, None, Some, if◌then◌else◌, Result, OnOk, IfErr, IsErrOf}
 use Rattle.std.specs.Io.KnownBytes.{Appends, Keeps}
 use Rattle.std.specs.Str.{bytes_eq}
 use Rattle.clap.specs.Kinds.{Kinds, IsAmong}
@@ -11,12 +11,14 @@ use Rattle.clk_packet.specs.declared.fault.Fault.TheVariants.{Memory, Read, Writ
 use Rattle.clk_sched.specs.declared.visit.Visit.{Visit}
 use Rattle.clk_tree.specs.Plan.{Planned, Denotes}
 use Rattle.clk_tree.specs.Canonical.{canonical_text}
+use Rattle.clk_lint.specs.Lines.{lint_text}
 use Rattle.clk_syntax.specs.Reading.{HasFault}
 use Rattle.clk_report.specs.VisitCsv.{visits_text}
 use Rattle.clk_packet.specs.Bytes.{AppendsFront, OfBytes}
 use Rattle.clk_script.specs.Meaning.{MeansOver, MeansOverWith, ExplainsPlan}
 use Rattle.clk_command.specs.Running.{RunWrites, ExplainsRun, EndsIn, ExplainsLive, LiveWrites}
-use Rattle.clk_command.specs.Words.{Task, builtin, check, over, Work, script, run, live, dash, is_recorded}
+use Rattle.clk_command.specs.Linting.{ExplainsLint, LintWrites}
+use Rattle.clk_command.specs.Words.{Task, builtin, check, lint, over, Work, lint_trace, script, run, live, dash, is_recorded, visits_follow}
 use Rattle.clk_command.specs.declared.pace.Pace.{Pace}
 use Rattle.clk_command.specs.declared.builtin.TheConstants.{TEXT}
 
@@ -29,6 +31,18 @@ pub record IsCanonicalOf (tree : Option (List ℕ)) (text : List ℕ) : Type 0 w
   pub plan : List Planned
   pub is_plan : IsPlanIn tree plan
   pub canonical : text ≡ canonical_text plan
+
+-- The text has the warnings of the plan that the text of a tree denotes.
+pub record IsLintOf (tree : Option (List ℕ)) (text : List ℕ) : Type 0 where
+  pub plan : List Planned
+  pub is_plan : IsPlanIn tree plan
+  pub lines : text ≡ lint_text plan None
+
+-- The text has the warnings of a tree and a trace.
+pub record LintsOver (tree trace : Option (List ℕ)) (text : List ℕ) : Type 0 where
+  pub plan : List Planned
+  pub is_plan : IsPlanIn tree plan
+  pub writes : LintWrites plan trace text
 
 -- A tree was read: its source did not fail, and its text denotes this plan; if its bytes aren't known, some text does. A task reads its
 -- second source only then.
@@ -98,18 +112,37 @@ builtin_text = TEXT.now
 abbrev pub bytes_at : Text → Option (List ℕ) → Option (List ℕ)
 bytes_at path input = if bytes_eq path dash then input else None
 
+-- An answer and its visits, one after the other.
+pub record AreTogether (Means : List ℕ → List ℕ → Type 0) (all : List ℕ) : Type 0 where
+  pub answer : List ℕ
+  pub visits : List ℕ
+  pub means : Means answer visits
+  pub together : all ≡ answer ++ visits
+
+-- What goes to standard output: an answer, and then its visits if they follow it there.
+abbrev pub GoesOut : Bool → (List ℕ → Type 0) → (List ℕ → List ℕ → Type 0) → List ℕ → Type 0
+GoesOut false IsAnswer Means all = IsAnswer all
+GoesOut true IsAnswer Means all = AreTogether Means all
+
 -- This was done over a tree and a second input with these bytes, as far as they are known: one of the work's texts was written.
 abbrev pub DoesWork : Work → (tree input : Option (List ℕ)) → (List ℕ → Type 0) → Type 0
-DoesWork (script visits) tree input Written = (text : List ℕ) × WritesOver tree input text × Written text
+DoesWork lint_trace tree input Written = (text : List ℕ) × LintsOver tree input text × Written text
+DoesWork (script visits) tree input Written =
+    (all : List ℕ) × GoesOut (visits_follow visits) (WritesOver tree input) (WritesWithVisits tree input) all × Written all
 DoesWork (run step limit visits) tree input Written =
-    (text : List ℕ) × (pace : Pace) × (pace.step ≡ step) × (pace.limit ≡ limit) × ReportsOver tree input pace text × Written text
+    (all : List ℕ) × (pace : Pace) × (pace.step ≡ step) × (pace.limit ≡ limit)
+    × GoesOut (visits_follow visits) (ReportsOver tree input pace) (ReportsWithVisits tree input pace) all × Written all
 DoesWork (live step limit record_file visits) tree input Written =
-    (text : List ℕ) × (script_text : List ℕ) × (pace : Pace) × (pace.step ≡ step) × (pace.limit ≡ limit) × LivesOver tree input pace (is_recorded record_file visits) text script_text × Written text
+    (all : List ℕ) × (lines : List ℕ) × (pace : Pace) × (pace.step ≡ step) × (pace.limit ≡ limit)
+    × GoesOut (visits_follow visits) (λ text. LivesOver tree input pace (is_recorded record_file visits) text lines)
+    (λ text rows. LivesWithVisits tree input pace text lines rows) all
+    × Written all
 
 -- This was done for a task, if standard input held these bytes: one of the task's texts was written.
 abbrev pub Does : Task → Option (List ℕ) → (List ℕ → Type 0) → Type 0
 Does builtin input Written = (text : List ℕ) × WritesOver (Some builtin_text) input text × Written text
 Does (check tree) input Written = (text : List ℕ) × IsCanonicalOf (bytes_at tree input) text × Written text
+Does (lint tree) input Written = (text : List ℕ) × IsLintOf (bytes_at tree input) text × Written text
 Does (over tree path job) input Written = DoesWork job (bytes_at tree input) (bytes_at path input) Written
 
 -- Help or the version was asked for: clap may return an error of that kind.
@@ -119,6 +152,10 @@ IsQuestion kinds = IsAmong DisplayHelp kinds ⊎ IsAmong DisplayVersion kinds
 -- The words are wrong: clap may return an error that is no question for help or the version.
 abbrev pub IsMistake : Kinds → Type 0
 IsMistake kinds = (kind : ErrorKind) × IsAmong kind kinds × (kind ≢ DisplayHelp) × (kind ≢ DisplayVersion)
+
+-- Why the warnings of a tree and a trace fail with a fault: a writer failed, or the tree has it, or the trace over its plan.
+abbrev pub ExplainsLintOver : Option (List ℕ) → Option (List ℕ) → Fault → Type 0
+ExplainsLintOver tree trace fault = ((fault ≡ Write) ⊎ ExplainsTree tree fault) ⊎ ((plan : List Planned) × IsPlanIn tree plan × ExplainsLint plan trace fault)
 
 -- Why a script over a tree fails with a fault: a writer failed, or the tree has it, or the script over its plan.
 abbrev pub ExplainsScriptOver : Option (List ℕ) → Option (List ℕ) → Fault → Type 0
@@ -135,6 +172,7 @@ ExplainsLiveOver tree trace limit recording fault =
 
 -- Why some work over a tree and a second input with these bytes fails with a fault.
 abbrev pub ExplainsWork : Work → (tree input : Option (List ℕ)) → Fault → Type 0
+ExplainsWork lint_trace tree input fault = ExplainsLintOver tree input fault
 ExplainsWork (script visits) tree input fault = ExplainsScriptOver tree input fault
 ExplainsWork (run step limit visits) tree input fault = ExplainsRunOver tree input fault
 ExplainsWork (live step limit record_file visits) tree input fault = ExplainsLiveOver tree input limit (is_recorded record_file visits) fault
@@ -143,4 +181,5 @@ ExplainsWork (live step limit record_file visits) tree input fault = ExplainsLiv
 abbrev pub ExplainsTask : Task → Option (List ℕ) → Fault → Type 0
 ExplainsTask builtin input fault = ExplainsScriptOver (Some builtin_text) input fault
 ExplainsTask (check tree) input fault = (fault ≡ Write) ⊎ ExplainsTree (bytes_at tree input) fault
+ExplainsTask (lint tree) input fault = (fault ≡ Write) ⊎ ExplainsTree (bytes_at tree input) fault
 ExplainsTask (over tree path job) input fault = ExplainsWork job (bytes_at tree input) (bytes_at path input) fault

@@ -1,6 +1,6 @@
 -- What the words after the program's name ask for. How a grammar reads words is clap's own definition (`matches_of`, `subcommand_of`), and
 -- so is which kind of error it returns for words that it doesn't accept (`fault_of`).
-use Rattle.std.specs.Prelude.{⊤, ◌≡◌, ◌≢◌, ◌⊎◌, ◌^◌, ◌&&◌, ◌||◌, ℕ, Bool, true, false, is_some, IfSome, List, [], ◌∷◌, length, nat_lt, if◌then◌else◌, Option, Some, None, codes, unwrap_or, option_map, pos}
+use Rattle.std.specs.Prelude.{⊤, ◌≡◌, ◌≢◌, ◌⊎◌, ◌^◌, ◌&&◌, ◌||◌, ℕ, Bool, true, false, not, is_some, IfSome, List, [], ◌∷◌, length, nat_lt, if◌then◌else◌, Option, Some, None, codes, unwrap_or, option_map, pos}
 use Rattle.std.specs.Option.{option_map_or}
 use Rattle.std.specs.List.{AllByRecursion, list_all}
 use Rattle.std.specs.Str.{bytes_eq}
@@ -18,13 +18,17 @@ use Rattle.clk_syntax.specs.Limits.{most_tree_bytes}
 use Rattle.clk_script.specs.Script.{most_script_bytes}
 use Rattle.clk_gate.specs.Limits.{most_step, most_limit}
 use Rattle.clk_command.specs.declared.words.Asked.{Asked}
-use Rattle.clk_command.specs.declared.words.Asked.TheVariants.{Builtin, Check, Over}
+use Rattle.clk_command.specs.declared.words.Asked.TheVariants.{Builtin, Check, Lint, Over}
 use Rattle.clk_command.specs.declared.words.Job.{Job}
-use Rattle.clk_command.specs.declared.words.Job.TheVariants.{Script, Run, Live}
+use Rattle.clk_command.specs.declared.words.Job.TheVariants.{LintTrace, Script, Run, Live}
 
 -- a word that names a file, and is required
 abbrev pub file_word : Text → Rule
 file_word name = record (new_rule name) { required = true }
+
+-- a word that names a file, and may be left out
+abbrev pub optional_word : Text → Rule
+optional_word name = new_rule name
 
 -- `--name FILE`
 abbrev pub file_option : Text → Rule
@@ -42,6 +46,10 @@ number_option name most default = record (new_rule name) {
 -- `check TREE`
 abbrev pub check_words : App
 check_words = with_rule (new_app (codes "check")) (file_word (codes "TREE"))
+
+-- `lint TREE [TRACE]`
+abbrev pub lint_words : App
+lint_words = with_rule (with_rule (new_app (codes "lint")) (file_word (codes "TREE"))) (optional_word (codes "TRACE"))
 
 -- `script TREE SCRIPT [--visits FILE]`
 abbrev pub script_words : App
@@ -65,9 +73,9 @@ live_words = with_rule (with_rule (traced_words (codes "live")) (file_option (co
 abbrev pub top_words : App
 top_words = on_top (λ s. record s { no_binary_name = true; has_version = true }) (new_app (codes "clickpull"))
 
--- the words of the program: one of four commands, no words at all, or a question for help or the version
+-- the words of the program: one of five commands, no words at all, or a question for help or the version
 abbrev pub program_words : App
-program_words = with_subcommand (with_subcommand (with_subcommand (with_subcommand top_words check_words.top) script_words.top) run_words.top) live_words.top
+program_words = with_subcommand (with_subcommand (with_subcommand (with_subcommand (with_subcommand top_words check_words.top) lint_words.top) script_words.top) run_words.top) live_words.top
 
 -- An argument reads words by this rule.
 pub record IsWord (arg : Arg) (rule : Rule) : Type 0 where
@@ -81,6 +89,7 @@ pub record Reads (command : Command) (app : App) : Type 0 where
 
 -- what is done over a tree and a second input; files are named by their paths
 pub data Work : Type 0 where
+  lint_trace : Work
   script : Option Text → Work
   run : (step limit : ℕ) (visits : Option Text) → Work
   live : (step limit : ℕ) (record_file visits : Option Text) → Work
@@ -89,6 +98,7 @@ pub data Work : Type 0 where
 pub data Task : Type 0 where
   builtin : Task
   check : Text → Task
+  lint : Text → Task
   over : (tree input : Text) → Work → Task
 
 -- whether a run is recorded: a file is named for its record or for its visits
@@ -97,7 +107,7 @@ is_recorded None None = false
 is_recorded None (Some visits) = true
 is_recorded (Some record_file) visits = true
 
--- the path that stands for standard input
+-- the path that stands for standard input, and for standard output as the path of visits
 abbrev pub dash : Text
 dash = codes "-"
 
@@ -105,10 +115,12 @@ dash = codes "-"
 abbrev pub reads_input : Task → Bool
 reads_input builtin = true
 reads_input (check tree) = bytes_eq tree dash
+reads_input (lint tree) = bytes_eq tree dash
 reads_input (over tree input job) = bytes_eq tree dash || bytes_eq input dash
 
 -- how many bytes some work reads of its second input at most
 abbrev pub most_of_work : Work → ℕ
+most_of_work lint_trace = most_trace_bytes
 most_of_work (script visits) = most_script_bytes
 most_of_work (run step limit visits) = most_trace_bytes
 most_of_work (live step limit record_file visits) = most_trace_bytes
@@ -117,35 +129,54 @@ most_of_work (live step limit record_file visits) = most_trace_bytes
 abbrev pub most_of_input : Task → ℕ
 most_of_input builtin = most_script_bytes
 most_of_input (check tree) = most_tree_bytes
+most_of_input (lint tree) = most_tree_bytes
 most_of_input (over tree input job) = if bytes_eq tree dash then most_tree_bytes else most_of_work job
+
+-- whether visits go to standard output, where they follow the answer
+abbrev pub visits_follow : Option Text → Bool
+visits_follow None = false
+visits_follow (Some path) = bytes_eq path dash
+
+-- whether visits go to a file
+abbrev pub go_to_file : Option Text → Bool
+go_to_file None = false
+go_to_file (Some path) = not (bytes_eq path dash)
 
 -- whether some work writes a file
 abbrev pub writes_file : Work → Bool
-writes_file (script visits) = is_some visits
-writes_file (run step limit visits) = is_some visits
-writes_file (live step limit record_file visits) = is_recorded record_file visits
+writes_file lint_trace = false
+writes_file (script visits) = go_to_file visits
+writes_file (run step limit visits) = go_to_file visits
+writes_file (live step limit record_file visits) = is_some record_file || go_to_file visits
 
--- a file that is to be written, if there is one, has another path than these, and than what stands for standard input
-abbrev pub IsApartFrom : Option Text → List Text → Type 0
-IsApartFrom file others = IfSome file (λ (path : Text). AllByRecursion (λ (other : Text). path ≢ other) (dash ∷ others))
+-- a file that is to be written has another path than these
+abbrev pub IsApartFrom : Text → List Text → Type 0
+IsApartFrom path others = AllByRecursion (λ (other : Text). path ≢ other) others
 
--- no file that some work writes has the path of another of its files
+-- visits, if they are asked for, go to standard output, or to a file that has another path than these
+abbrev pub GoApartFrom : Option Text → List Text → Type 0
+GoApartFrom visits others = IfSome visits (λ (path : Text). (path ≡ dash) ⊎ IsApartFrom path others)
+
+-- no file that some work writes has the path of another of its files, and no record goes to the path that stands for standard input
 abbrev pub WritesApart : Work → List Text → Type 0
-WritesApart (script visits) inputs = IsApartFrom visits inputs
-WritesApart (run step limit visits) inputs = IsApartFrom visits inputs
-WritesApart (live step limit None visits) inputs = IsApartFrom visits inputs
-WritesApart (live step limit (Some record_file) visits) inputs = IsApartFrom (Some record_file) inputs × IsApartFrom visits (record_file ∷ inputs)
+WritesApart lint_trace inputs = ⊤
+WritesApart (script visits) inputs = GoApartFrom visits inputs
+WritesApart (run step limit visits) inputs = GoApartFrom visits inputs
+WritesApart (live step limit None visits) inputs = GoApartFrom visits inputs
+WritesApart (live step limit (Some record_file) visits) inputs = IsApartFrom record_file (dash ∷ inputs) × GoApartFrom visits (record_file ∷ inputs)
 
 -- At most one input of a task is standard input, and no file that it writes has the path of another of its files.
 abbrev pub AreApart : Task → Type 0
 AreApart builtin = ⊤
 AreApart (check tree) = ⊤
+AreApart (lint tree) = ⊤
 AreApart (over tree input job) = (tree ≡ dash → input ≢ dash) × WritesApart job (tree ∷ input ∷ [])
 
 -- A task may be one whose files are not apart: it writes a file, or both its inputs are standard input.
 abbrev pub MayClash : Task → Type 0
 MayClash builtin = ⊥
 MayClash (check tree) = ⊥
+MayClash (lint tree) = ⊥
 MayClash (over tree input job) = ((tree ≡ dash) × (input ≡ dash)) ⊎ (writes_file job ≡ true)
 
 -- whether these are the digits of a number of 32 bits
@@ -174,6 +205,7 @@ text_of t = t.now
 
 -- what is to be done over a tree and a second input, with the texts of the paths
 abbrev pub work : Job → Work
+work LintTrace = lint_trace
 work (Script visits) = script (option_map text_of visits)
 work (Run pace visits) = run pace.step pace.limit (option_map text_of visits)
 work (Live pace record_file visits) = live pace.step pace.limit (option_map text_of record_file) (option_map text_of visits)
@@ -182,12 +214,19 @@ work (Live pace record_file visits) = live pace.step pace.limit (option_map text
 abbrev pub task : Asked → Task
 task Builtin = builtin
 task (Check tree) = check tree.now
+task (Lint tree) = lint tree.now
 task (Over tree input job) = over tree.now input.now (work job)
+
+-- what `lint` asks for: the warnings of a tree, or those of a tree and a trace if one is named
+abbrev pub lint_task : Text → Option Text → Task
+lint_task tree None = lint tree
+lint_task tree (Some trace) = over tree trace lint_trace
 
 -- what a command asks for, by its name and what was found of its words
 abbrev pub task_by : Text → List Row → Task
 task_by name rows =
     if bytes_eq name (codes "check") then check (path_of rows (codes "TREE"))
+    else if bytes_eq name (codes "lint") then lint_task (path_of rows (codes "TREE")) (first_of (codes "TRACE") rows)
     else if bytes_eq name (codes "script") then over (path_of rows (codes "TREE")) (path_of rows (codes "SCRIPT")) (script (first_of (codes "visits") rows))
     else if bytes_eq name (codes "run") then over (path_of rows (codes "TREE")) (path_of rows (codes "TRACE")) (run (number_of rows (codes "step") most_step) (number_of rows (codes "limit") most_limit) (first_of (codes "visits") rows))
     else if bytes_eq name (codes "live") then over (path_of rows (codes "TREE")) (path_of rows (codes "TRACE")) (live (number_of rows (codes "step") most_step) (number_of rows (codes "limit") most_limit) (first_of (codes "record") rows) (first_of (codes "visits") rows))

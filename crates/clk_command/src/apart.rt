@@ -1,16 +1,17 @@
-//! Which files a task may have: at most one input is standard input, and files that are written are others than those that are read.
+//! Which files a task may have: at most one input is standard input, and files that are written are others than those that are read. Visits
+//! may go to standard output.
 
 ghost use Rattle.std.specs.Prelude.{◌≡◌, ◌≢◌, ◌∷◌, [], ℕ, List, None, Some, true, false, map, option_map, IfSome, IsSome};
 ghost use Rattle.std.specs.List.{AllByRecursion};
 ghost use Rattle.std.specs.Str.{bytes_eq};
-ghost use Rattle.clk_command.specs.Words.{dash, task, work, text_of, writes_file, AreApart, IsApartFrom, MayClash, WritesApart};
+ghost use Rattle.clk_command.specs.Words.{dash, go_to_file, task, work, text_of, writes_file, AreApart, GoApartFrom, IsApartFrom, MayClash, WritesApart};
 
 use crate::words::{Asked, Job};
 use std::fs;
 use std::os::unix::fs::MetadataExt;
 use std::rt::Files;
 
-/// The path that stands for standard input.
+/// The path that stands for standard input, and for standard output as the path of visits.
 const DASH: &str = "-";
 
 /// Why no task can have the files that the words name.
@@ -18,13 +19,14 @@ const DASH: &str = "-";
 pub enum Clash<'a> {
     /// Both inputs are standard input.
     TwoInputs,
-    /// The file at this path would be overwritten, though another of the words names it too, or it stands for standard input.
+    /// The file at this path would be overwritten, though another of the words names it too, or the path stands for standard input.
     Overwritten(&'a str),
 }
 
-/// Whether a path stands for standard input.
+/// Whether a path stands for standard input, or for standard output if it is the path of visits.
 pub fn is_standard(path: &str) -> bool
-    ensures { result ≡ bytes_eq path.now dash }
+    ensures tested { result ≡ bytes_eq path.now dash }
+    ensures dash { result ≡ true → path.now ≡ dash }
 {
     path == DASH
 }
@@ -52,31 +54,34 @@ fn overwritten<'a, H: Files>(rt: &H, tree: &str, input: &str, job: Job<'a>) -> O
     ensures writes { IsSome result → writes_file (work job.entry) ≡ true }
 {
     match job {
-        Job::Script { visits } => found_among(rt, visits, &[DASH, tree, input]),
-        Job::Run { visits, .. } => found_among(rt, visits, &[DASH, tree, input]),
+        Job::LintTrace => None,
+        Job::Script { visits } => visits_among(rt, visits, &[tree, input]),
+        Job::Run { visits, .. } => visits_among(rt, visits, &[tree, input]),
         Job::Live {
             record: None,
             visits,
             ..
-        } => found_among(rt, visits, &[DASH, tree, input]),
+        } => visits_among(rt, visits, &[tree, input]),
         Job::Live {
             record: Some(record),
             visits,
             ..
-        } => match found_among(rt, Some(record), &[DASH, tree, input]) {
-            Some(path) => Some(path),
-            None => found_among(rt, visits, &[DASH, record, tree, input]),
-        },
+        } => {
+            if is_among(rt, record, &[DASH, tree, input]) {
+                return Some(record);
+            }
+            visits_among(rt, visits, &[record, tree, input])
+        }
     }
 }
 
-/// The path of a file, if it is one of the files at other paths.
-fn found_among<'a, H: Files>(rt: &H, path: Option<&'a str>, others: &[&str]) -> Option<&'a str>
-    ensures apart { result ≡ None → IfSome (option_map text_of path.entry) (λ p. AllByRecursion (λ (other : List ℕ). p ≢ other) (map text_of others.now)) }
-    ensures some { IsSome result → IsSome path.entry }
+/// The path of visits, if it is asked for and that of a file which is one of the files at other paths.
+fn visits_among<'a, H: Files>(rt: &H, visits: Option<&'a str>, others: &[&str]) -> Option<&'a str>
+    ensures apart { result ≡ None → GoApartFrom (option_map text_of visits.entry) (map text_of others.now) }
+    ensures writes { IsSome result → go_to_file (option_map text_of visits.entry) ≡ true }
 {
-    let path = path?;
-    if is_among(rt, path, others) {
+    let path = visits?;
+    if !is_standard(path) && is_among(rt, path, others) {
         return Some(path);
     }
     None
@@ -84,7 +89,7 @@ fn found_among<'a, H: Files>(rt: &H, path: Option<&'a str>, others: &[&str]) -> 
 
 /// Whether a file is one of the files at other paths.
 fn is_among<H: Files>(rt: &H, path: &str, others: &[&str]) -> bool
-    ensures apart { result ≡ false → AllByRecursion (λ (other : List ℕ). path.now ≢ other) (map text_of others.now) }
+    ensures apart { result ≡ false → IsApartFrom path.now (map text_of others.now) }
 {
     let [first, rest @ ..] = others else {
         return false;

@@ -13,17 +13,19 @@ ghost use Rattle.clk_script.specs.Script.{most_script_bytes};
 ghost use Rattle.clk_syntax.specs.Limits.{most_tree_bytes};
 ghost use Rattle.clk_tree.specs.Plan.{Denotes};
 ghost use Rattle.clk_packet.specs.Written.{WroteWhat};
-ghost use Rattle.clk_command.specs.Tasks.{Does, DoesWork, ExplainsWork, ExplainsRunOver, ExplainsScriptOver, ExplainsTask, ExplainsTree, IsQuestion, IsMistake, ExplainsLiveOver, LivesOver, WritesOver, ReportsOver, builtin_text};
-ghost use Rattle.clk_command.specs.Words.{builtin, is_recorded, most_of_input, most_of_work, program_words, reads_input, task, task_in, text_of, work, AreApart, MayClash};
+ghost use Rattle.clk_command.specs.Tasks.{Does, DoesWork, ExplainsWork, ExplainsRunOver, ExplainsScriptOver, ExplainsTask, ExplainsTree, GoesOut, IsQuestion, IsMistake, ExplainsLiveOver, LivesOver, LivesWithVisits, WritesOver, WritesWithVisits, ReportsOver, ReportsWithVisits, builtin_text};
+ghost use Rattle.clk_command.specs.Words.{builtin, is_recorded, most_of_input, most_of_work, program_words, reads_input, task, task_in, text_of, visits_follow, work, AreApart, MayClash};
 
 use crate::apart::{Clash, clash_of, is_standard};
 use crate::builtin;
 use crate::files::{FileToRead, FileToWrite};
+use crate::linting::{lint_over, lint_tree};
 use crate::over::{
     check_tree, live_over, live_with_visits, run_over, run_with_visits, script_over,
     script_with_visits,
 };
 use crate::pace::Pace;
+use crate::together::{live_then_visits, run_then_visits, script_then_visits};
 use crate::words::{Asked, Job, asked_by};
 use clap::Error;
 use clap::error::ErrorKind;
@@ -42,6 +44,8 @@ use std::thread::Threads;
 ///
 /// - No words: runs the script on `reader` over the built-in tree.
 /// - `check TREE`: writes the canonical text of the tree in the file TREE to `writer`.
+/// - `lint TREE [TRACE]`: writes a line to `writer` for each warning of the tree in the file TREE, and of the trace in the file TRACE if one
+///   is named. The tree is read and checked before TRACE is opened.
 /// - `script TREE SCRIPT [--visits FILE]`: runs the script in the file SCRIPT over the tree in the file TREE. The tree is read and checked
 ///   before SCRIPT is opened. After the answer its visits are written to FILE, as CSV, if a FILE is named.
 /// - `run TREE TRACE [--step N] [--limit N] [--visits FILE]`: runs the trace in the file TRACE over the tree in the file TREE, and writes
@@ -52,8 +56,9 @@ use std::thread::Threads;
 ///   offers to an inlet of its own, and one consumer takes packets from all inlets and pulls the devices. The FILE of `--record` gets the
 ///   record of the run, as a script that ends in the same report. The FILE of `--visits` gets the visits of that script.
 ///
-/// One of TREE, SCRIPT and TRACE may be `-`, which stands for `reader`. A FILE can't be another of the files that the words name: it has
-/// another path, and if it exists, it is another file.
+/// One of TREE, SCRIPT and TRACE may be `-`, which stands for `reader`. The FILE of `--visits` may be `-`: the visits are then written to
+/// `writer`, after the answer or the report. Any other FILE can't be another of the files that the words name: it has another path, and if
+/// it exists, it is another file.
 ///
 /// `rt` has the files and starts the threads, and `wait` waits for queues.
 ///
@@ -61,7 +66,7 @@ use std::thread::Threads;
 ///
 /// Fault 1 if an allocation fails or a thread can't be started. Fault 19 if a file can't be opened, or if it or `reader` can't be read.
 /// Fault 20 if `writer` or `errors` fails or, after the whole answer, FILE can't be created or written. Otherwise the faults of the tree,
-/// and then those of the script, or of the trace and its run. With `live`, the FILE of `--record` may have a front of the record at any
+/// and then those of the script, or of the trace and its run or its senders. With `live`, the FILE of `--record` may have a front of the record at any
 /// fault.
 pub fn command<
     H: Files + AllocGlobal + Threads + Wait,
@@ -166,6 +171,12 @@ fn perform<H: Files + AllocGlobal + Threads + Wait, P: Wait + Sync, R: Source, W
             }
             check_tree(rt.alloc(), &mut source(rt, tree), writer)
         }
+        Asked::Lint { tree } => {
+            if is_standard(tree) {
+                return lint_tree(rt.alloc(), reader, writer);
+            }
+            lint_tree(rt.alloc(), &mut source(rt, tree), writer)
+        }
         Asked::Over { tree, input, job } => {
             if is_standard(tree) {
                 return do_job(rt, wait, job, reader, &mut source(rt, input), writer);
@@ -203,6 +214,7 @@ fn do_job<H: Files + AllocGlobal + Threads + Wait, P: Wait + Sync, T: Source, S:
     ensures input_limit { Takes (most_of_work (work job.entry) + 1) (S.Source.remaining input.old) (S.Source.remaining input.new) }
 {
     match job {
+        Job::LintTrace => lint_over(rt.alloc(), tree, input, writer),
         Job::Script { visits } => script_job(rt, tree, input, visits, writer),
         Job::Run { pace, visits } => run_job(rt, wait, tree, input, pace, visits, writer),
         Job::Live {
@@ -229,7 +241,7 @@ fn script_builtin<R: Source, W: Sink>(
     run_script(alloc, reader, writer, &plan)
 }
 
-/// Runs a script over a tree, and writes its visits to a file, if one is named.
+/// Runs a script over a tree. If its visits are asked for, they go to a file, or follow the answer.
 fn script_job<H: Files + AllocGlobal, T: Source, S: Source, W: Sink>(
     rt: &H,
     tree: &mut T,
@@ -237,7 +249,8 @@ fn script_job<H: Files + AllocGlobal, T: Source, S: Source, W: Sink>(
     visits: Option<&str>,
     writer: &mut W,
 ) -> Result<(), Fault>
-    ensures written { OnOk result ((text : _) × WritesOver (T.Source.remaining tree.old) (S.Source.remaining script.old) text × Appends (W.Sink.taken writer.old) (W.Sink.taken writer.new) text) }
+    ensures written { OnOk result ((all : _) × GoesOut (visits_follow (option_map text_of visits.entry)) (WritesOver (T.Source.remaining tree.old) (S.Source.remaining script.old))
+        (WritesWithVisits (T.Source.remaining tree.old) (S.Source.remaining script.old)) all × Appends (W.Sink.taken writer.old) (W.Sink.taken writer.new) all) }
     ensures fault { IfErr result (ExplainsScriptOver (T.Source.remaining tree.old) (S.Source.remaining script.old)) }
     ensures nothing { IfErr result (λ fault. fault ≢ Write → Keeps (W.Sink.taken writer.old) (W.Sink.taken writer.new)) }
     ensures write_failures { (W.Sink.failures writer.new ≡ W.Sink.failures writer.old)
@@ -245,13 +258,17 @@ fn script_job<H: Files + AllocGlobal, T: Source, S: Source, W: Sink>(
     ensures tree_limit { Takes (most_tree_bytes + 1) (T.Source.remaining tree.old) (T.Source.remaining tree.new) }
     ensures script_limit { Takes (most_script_bytes + 1) (S.Source.remaining script.old) (S.Source.remaining script.new) }
 {
-    match visits {
-        None => script_over(rt.alloc(), tree, script, writer),
-        Some(path) => script_with_visits(rt.alloc(), tree, script, writer, &mut sink(rt, path)),
+    let alloc = rt.alloc();
+    let Some(path) = visits else {
+        return script_over(alloc, tree, script, writer);
+    };
+    if is_standard(path) {
+        return script_then_visits(alloc, tree, script, writer);
     }
+    script_with_visits(alloc, tree, script, writer, &mut sink(rt, path))
 }
 
-/// Runs a trace over a tree, and writes its visits to a file, if one is named.
+/// Runs a trace over a tree. If its visits are asked for, they go to a file, or follow the report.
 fn run_job<H: Files + AllocGlobal + Threads + Wait, P: Wait + Sync, T: Source, S: Source, W: Sink>(
     rt: &H,
     wait: &P,
@@ -261,7 +278,8 @@ fn run_job<H: Files + AllocGlobal + Threads + Wait, P: Wait + Sync, T: Source, S
     visits: Option<&str>,
     writer: &mut W,
 ) -> Result<(), Fault>
-    ensures written { OnOk result ((text : _) × ReportsOver (T.Source.remaining tree.old) (S.Source.remaining trace.old) pace text × Appends (W.Sink.taken writer.old) (W.Sink.taken writer.new) text) }
+    ensures written { OnOk result ((all : _) × GoesOut (visits_follow (option_map text_of visits.entry)) (ReportsOver (T.Source.remaining tree.old) (S.Source.remaining trace.old) pace)
+        (ReportsWithVisits (T.Source.remaining tree.old) (S.Source.remaining trace.old) pace) all × Appends (W.Sink.taken writer.old) (W.Sink.taken writer.new) all) }
     ensures fault { IfErr result (ExplainsRunOver (T.Source.remaining tree.old) (S.Source.remaining trace.old)) }
     ensures nothing { IfErr result (λ fault. fault ≢ Write → Keeps (W.Sink.taken writer.old) (W.Sink.taken writer.new)) }
     ensures write_failures { (W.Sink.failures writer.new ≡ W.Sink.failures writer.old)
@@ -270,16 +288,18 @@ fn run_job<H: Files + AllocGlobal + Threads + Wait, P: Wait + Sync, T: Source, S
     ensures trace_limit { Takes (most_trace_bytes + 1) (S.Source.remaining trace.old) (S.Source.remaining trace.new) }
 {
     let alloc = rt.alloc();
-    match visits {
-        None => run_over(rt, alloc, wait, tree, trace, writer, pace),
-        Some(path) => {
-            let mut visits = sink(rt, path);
-            run_with_visits(rt, alloc, wait, tree, trace, writer, pace, &mut visits)
-        }
+    let Some(path) = visits else {
+        return run_over(rt, alloc, wait, tree, trace, writer, pace);
+    };
+    if is_standard(path) {
+        return run_then_visits(rt, alloc, wait, tree, trace, writer, pace);
     }
+    let mut visits = sink(rt, path);
+    run_with_visits(rt, alloc, wait, tree, trace, writer, pace, &mut visits)
 }
 
-/// Runs a trace through inlets over a tree, and writes its record and its visits to files, if these are named.
+/// Runs a trace through inlets over a tree, and writes its record to a file, if one is named. If its visits are asked for, they go to a
+/// file, or follow the report.
 fn live_job<H: Files + AllocGlobal + Threads + Wait, P: Wait + Sync, T: Source, S: Source, W: Sink>(
     rt: &H,
     wait: &P,
@@ -290,7 +310,10 @@ fn live_job<H: Files + AllocGlobal + Threads + Wait, P: Wait + Sync, T: Source, 
     visits: Option<&str>,
     writer: &mut W,
 ) -> Result<(), Fault>
-    ensures written { OnOk result ((text : _) × (lines : _) × LivesOver (T.Source.remaining tree.old) (S.Source.remaining trace.old) pace (is_recorded (option_map text_of script.entry) (option_map text_of visits.entry)) text lines × Appends (W.Sink.taken writer.old) (W.Sink.taken writer.new) text) }
+    ensures written { OnOk result ((all : _) × (lines : _) × GoesOut (visits_follow (option_map text_of visits.entry))
+        (λ text. LivesOver (T.Source.remaining tree.old) (S.Source.remaining trace.old) pace (is_recorded (option_map text_of script.entry) (option_map text_of visits.entry)) text lines)
+        (λ text rows. LivesWithVisits (T.Source.remaining tree.old) (S.Source.remaining trace.old) pace text lines rows) all
+        × Appends (W.Sink.taken writer.old) (W.Sink.taken writer.new) all) }
     ensures fault { IfErr result (ExplainsLiveOver (T.Source.remaining tree.old) (S.Source.remaining trace.old) pace.limit (is_recorded (option_map text_of script.entry) (option_map text_of visits.entry))) }
     ensures nothing { IfErr result (λ fault. fault ≢ Write → Keeps (W.Sink.taken writer.old) (W.Sink.taken writer.new)) }
     ensures write_failures { (W.Sink.failures writer.new ≡ W.Sink.failures writer.old)
@@ -341,7 +364,7 @@ fn live_to<
     Ok(())
 }
 
-/// Runs a trace through inlets over a tree. Writes the record to a sink, and the visits of the record to a file.
+/// Runs a trace through inlets over a tree. Writes the record to a sink, and the visits of the record to a file or after the report.
 fn live_visits_to<
     H: Files + AllocGlobal + Threads + Wait,
     P: Wait + Sync,
@@ -359,7 +382,10 @@ fn live_visits_to<
     visits: &str,
     writer: &mut W,
 ) -> Result<(), Fault>
-    ensures written { OnOk result ((text : _) × (lines : _) × LivesOver (T.Source.remaining tree.old) (S.Source.remaining trace.old) pace true text lines × Appends (W.Sink.taken writer.old) (W.Sink.taken writer.new) text) }
+    ensures written { OnOk result ((all : _) × (lines : _) × GoesOut (visits_follow (Some visits.now))
+        (λ text. LivesOver (T.Source.remaining tree.old) (S.Source.remaining trace.old) pace true text lines)
+        (λ text rows. LivesWithVisits (T.Source.remaining tree.old) (S.Source.remaining trace.old) pace text lines rows) all
+        × Appends (W.Sink.taken writer.old) (W.Sink.taken writer.new) all) }
     ensures fault { IfErr result (ExplainsLiveOver (T.Source.remaining tree.old) (S.Source.remaining trace.old) pace.limit true) }
     ensures nothing { IfErr result (λ fault. fault ≢ Write → Keeps (W.Sink.taken writer.old) (W.Sink.taken writer.new)) }
     ensures write_failures { (W.Sink.failures writer.new ≡ W.Sink.failures writer.old)
@@ -367,8 +393,11 @@ fn live_visits_to<
     ensures tree_limit { Takes (most_tree_bytes + 1) (T.Source.remaining tree.old) (T.Source.remaining tree.new) }
     ensures trace_limit { Takes (most_trace_bytes + 1) (S.Source.remaining trace.old) (S.Source.remaining trace.new) }
 {
-    let (mut script, mut visits) = (script, sink(rt, visits));
-    let alloc = rt.alloc();
+    let (alloc, mut script) = (rt.alloc(), script);
+    if is_standard(visits) {
+        return live_then_visits(rt, alloc, wait, tree, trace, writer, pace, &mut script);
+    }
+    let mut visits = sink(rt, visits);
     live_with_visits(
         rt,
         alloc,

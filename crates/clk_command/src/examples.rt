@@ -1,7 +1,7 @@
 //! Examples of what words ask for, of trees that were read, and of what is written with visits. The functions do nothing; their contracts
 //! are the examples.
 
-ghost use Rattle.std.specs.Prelude.{◌≡◌, ◌∷◌, [], List, None, Some, codes};
+ghost use Rattle.std.specs.Prelude.{◌≡◌, ◌∷◌, [], List, None, Some, true, false, codes};
 ghost use Rattle.clap.specs.Faults.{fault_of};
 ghost use Rattle.clap.specs.declared.error.kind.ErrorKind.TheVariants.{DisplayHelp, DisplayVersion, MissingRequiredArgument, ValueValidation, UnknownArgument, InvalidSubcommand};
 ghost use Rattle.clk_packet.specs.declared.fault.Fault.TheVariants.{Memory, Read, Write};
@@ -9,14 +9,17 @@ ghost use Rattle.clk_packet.specs.Examples.{success};
 ghost use Rattle.clk_script.specs.Examples.{failed};
 ghost use Rattle.clk_command.specs.Examples.{IsOneByteEach};
 ghost use Rattle.clk_tree.specs.Plan.{Planned};
-ghost use Rattle.clk_command.specs.Tasks.{IsPlanIn, WasTreeRead, WroteBoth, builtin_text};
-ghost use Rattle.clk_command.specs.Words.{program_words, task_in, builtin, check, over, script, run, live, AreApart};
+ghost use Rattle.clk_command.specs.Tasks.{GoesOut, IsPlanIn, WasTreeRead, WroteBoth, builtin_text};
+ghost use Rattle.clk_command.specs.Words.{program_words, task_in, builtin, check, lint, over, lint_trace, script, run, live, AreApart, MayClash};
 
 /// What some words ask for, which kinds of error some wrong words cause, and which tasks would overwrite a file of theirs.
 pub fn word_examples()
     ensures none { (fault_of program_words [] ≡ []) × (task_in [] ≡ builtin) }
     ensures checks { (fault_of program_words (codes "check" ∷ codes "T" ∷ []) ≡ []) × (task_in (codes "check" ∷ codes "T" ∷ []) ≡ check (codes "T")) }
+    ensures lints { task_in (codes "lint" ∷ codes "T" ∷ []) ≡ lint (codes "T") }
+    ensures lints_traces { task_in (codes "lint" ∷ codes "T" ∷ codes "R" ∷ []) ≡ over (codes "T") (codes "R") lint_trace }
     ensures scripts { task_in (codes "script" ∷ codes "T" ∷ codes "S" ∷ []) ≡ over (codes "T") (codes "S") (script None) }
+    ensures follows { task_in (codes "script" ∷ codes "T" ∷ codes "S" ∷ codes "--visits" ∷ codes "-" ∷ []) ≡ over (codes "T") (codes "S") (script (Some (codes "-"))) }
     ensures visits { task_in (codes "script" ∷ codes "--visits" ∷ codes "V" ∷ codes "T" ∷ codes "S" ∷ []) ≡ over (codes "T") (codes "S") (script (Some (codes "V"))) }
     ensures runs { task_in (codes "run" ∷ codes "T" ∷ codes "R" ∷ []) ≡ over (codes "T") (codes "R") (run 1 1000 None) }
     ensures paces { task_in (codes "run" ∷ codes "T" ∷ codes "--step=10" ∷ codes "R" ∷ codes "--limit" ∷ codes "7" ∷ []) ≡ over (codes "T") (codes "R") (run 10 7 None) }
@@ -27,7 +30,9 @@ pub fn word_examples()
     ensures not_over_the_tree { ¬ (AreApart (over (codes "T") (codes "R") (run 1 1 (Some (codes "T"))))) }
     ensures not_over_the_trace { ¬ (AreApart (over (codes "T") (codes "R") (live 1 1 (Some (codes "R")) None))) }
     ensures not_over_the_record { ¬ (AreApart (over (codes "T") (codes "R") (live 1 1 (Some (codes "V")) (Some (codes "V"))))) }
-    ensures not_over_standard_input { ¬ (AreApart (over (codes "T") (codes "S") (script (Some (codes "-"))))) }
+    ensures not_over_standard_input { ¬ (AreApart (over (codes "T") (codes "R") (live 1 1 (Some (codes "-")) None))) }
+    ensures follows_apart { AreApart (over (codes "-") (codes "R") (live 1 1 (Some (codes "S")) (Some (codes "-")))) }
+    ensures follows_without_a_clash { ¬ (MayClash (over (codes "T") (codes "S") (script (Some (codes "-"))))) }
     ensures not_two_inputs { ¬ (AreApart (over (codes "-") (codes "-") (script None))) }
     ensures no_trace { fault_of program_words (codes "run" ∷ codes "T" ∷ []) ≡ MissingRequiredArgument ∷ [] }
     ensures no_step { fault_of program_words (codes "run" ∷ codes "T" ∷ codes "R" ∷ codes "--step" ∷ codes "0" ∷ []) ≡ ValueValidation ∷ [] }
@@ -47,8 +52,12 @@ pub fn tree_examples()
 
 /// How no task with visits ends, whose text and visit file have one byte each. It doesn't succeed without its visits. It doesn't write the
 /// visits without the text, whether a sink or an allocation failed. It doesn't write the text without them if an allocation failed or at
-/// another fault.
+/// another fault. On standard output visits follow the text exactly if they go there.
 pub fn visits_examples()
+    ensures follow { GoesOut true (λ text. text ≡ 65 ∷ []) IsOneByteEach (65 ∷ 66 ∷ []) }
+    ensures not_left_out { ¬ (GoesOut true (λ text. text ≡ 65 ∷ []) IsOneByteEach (65 ∷ [])) }
+    ensures not_first { ¬ (GoesOut true (λ text. text ≡ 65 ∷ []) IsOneByteEach (66 ∷ 65 ∷ [])) }
+    ensures not_uncalled { ¬ (GoesOut false (λ text. text ≡ 65 ∷ []) IsOneByteEach (65 ∷ 66 ∷ [])) }
     ensures not_without_visits { ¬ (WroteBoth IsOneByteEach (Some []) (Some (65 ∷ [])) success (Some []) (Some [])) }
     ensures not_visits_alone { ¬ (WroteBoth IsOneByteEach (Some []) (Some []) (failed Write) (Some []) (Some (66 ∷ []))) }
     ensures not_visits_alone_without_memory { ¬ (WroteBoth IsOneByteEach (Some []) (Some []) (failed Memory) (Some []) (Some (66 ∷ []))) }

@@ -9,16 +9,19 @@ mod examples;
 mod faults;
 mod files;
 mod kept;
+mod linting;
 mod live;
 mod over;
 mod pace;
 mod running;
+mod together;
 mod words;
 
 pub use clk_script::run_script;
 pub use commands::command;
 pub use examples::{tree_examples, visits_examples, word_examples};
 pub use faults::fault_line;
+pub use linting::{lint_over, lint_trace, lint_tree};
 pub use live::live_trace;
 pub use over::{
     check_tree, live_over, live_with_visits, read_plan, run_over, run_with_visits, script_over,
@@ -26,3 +29,4 @@ pub use over::{
 };
 pub use pace::Pace;
 pub use running::run_trace;
+pub use together::{live_then_visits, run_then_visits, script_then_visits};

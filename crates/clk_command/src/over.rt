@@ -1,10 +1,14 @@
 //! What each command does, over values that stand for its files: sources of a tree, and of a script or a trace, and a sink for the visits.
 
-ghost use Rattle.std.specs.Prelude.{◌≡◌, ◌≢◌, ◌+◌, ◌⊎◌, true, false, IfOk, IfErr, OnOk};
+ghost use Rattle.std.specs.Prelude.{◌≡◌, ◌≢◌, ◌+◌, ◌⊎◌, true, false, map, Some, IfOk, IfErr, OnOk};
 ghost use Rattle.std.specs.Io.KnownBytes.{Appends};
 ghost use Rattle.clk_packet.specs.Bytes.{AppendsFront, Takes, read_failures, write_failures};
 ghost use Rattle.clk_packet.specs.Trace.{most_trace_bytes};
 ghost use Rattle.clk_packet.specs.declared.fault.Fault.TheVariants.{Write};
+ghost use Rattle.clk_report.specs.Devices.{lists_of};
+ghost use Rattle.clk_report.specs.VisitCsv.{visits_text};
+ghost use Rattle.clk_sched.specs.Packed.{logged};
+ghost use Rattle.clk_script.specs.Meaning.{ending_text};
 ghost use Rattle.clk_script.specs.Script.{most_script_bytes};
 ghost use Rattle.clk_syntax.specs.Limits.{most_tree_bytes};
 ghost use Rattle.clk_packet.specs.Written.{WroteWhat};
@@ -17,6 +21,7 @@ use crate::running::run_trace;
 use clk_live_run::report_accounts;
 use clk_packet::{Fault, Sink, Source, read_up_to, write_all};
 use clk_report::visits_csv;
+use clk_sched::{PackedLog, Visit};
 use clk_script::{run_script, run_script_logged};
 use clk_syntax::MAX_TREE_BYTES;
 use clk_tree::Plan;
@@ -115,9 +120,33 @@ pub fn script_with_visits<T: Source, S: Source, W: Sink, V: Sink>(
     // The script is unchanged, unless the tree was read.
     ensures script_unread { (script.new ≡ script.old) ⊎ WasTreeRead (T.Source.remaining tree.old) (T.Source.failures tree.old) (T.Source.failures tree.new) }
 {
-    let plan = read_plan(alloc, tree)?;
-    let logs = run_script_logged(alloc, script, writer, &plan)?;
+    let logs = script_logged(alloc, tree, script, writer)?;
     visits_csv(&logs, visits)
+}
+
+/// Runs a script over a tree as `script_over` does, with its faults. Returns the log of each device.
+pub fn script_logged<T: Source, S: Source, W: Sink>(
+    alloc: Global,
+    tree: &mut T,
+    script: &mut S,
+    writer: &mut W,
+) -> Result<Vec<Vec<Visit>>, Fault>
+    ensures wrote { WroteWhat (λ text. (visits : _) × IfOk result (λ logs. visits_text (lists_of logs.items) ≡ visits)
+        × WritesWithVisits (T.Source.remaining tree.old) (S.Source.remaining script.old) text visits)
+        result (W.Sink.taken writer.old) (W.Sink.taken writer.new) }
+    ensures fault { IfErr result (ExplainsScriptOver (T.Source.remaining tree.old) (S.Source.remaining script.old)) }
+    // A read of one of the two failed exactly if the fault is 19.
+    ensures read_failures { T.Source.failures tree.new + S.Source.failures script.new
+        ≡ read_failures result (T.Source.failures tree.old + S.Source.failures script.old) }
+    ensures write_failures { W.Sink.failures writer.new ≡ write_failures result (W.Sink.failures writer.old) }
+    // At most one byte past its limit is read from each source.
+    ensures tree_limit { Takes (most_tree_bytes + 1) (T.Source.remaining tree.old) (T.Source.remaining tree.new) }
+    ensures script_limit { Takes (most_script_bytes + 1) (S.Source.remaining script.old) (S.Source.remaining script.new) }
+    // The script is unchanged, unless the tree was read.
+    ensures script_unread { (script.new ≡ script.old) ⊎ WasTreeRead (T.Source.remaining tree.old) (T.Source.failures tree.old) (T.Source.failures tree.new) }
+{
+    let plan = read_plan(alloc, tree)?;
+    run_script_logged(alloc, script, writer, &plan)
 }
 
 /// Runs a trace over a tree, and writes the report. Reads and checks the tree before it reads any byte of the trace.
@@ -182,9 +211,36 @@ pub fn run_with_visits<H: Threads + Wait, P: Wait + Sync, T: Source, S: Source, 
     // The trace is unchanged, unless the tree was read.
     ensures trace_unread { (trace.new ≡ trace.old) ⊎ WasTreeRead (T.Source.remaining tree.old) (T.Source.failures tree.old) (T.Source.failures tree.new) }
 {
-    let plan = read_plan(alloc, tree)?;
-    let logs = run_trace(rt, alloc, wait, &plan, trace, writer, pace, true)?;
+    let logs = run_logged(rt, alloc, wait, tree, trace, writer, pace)?;
     visits_csv(&logs, visits)
+}
+
+/// Runs a trace over a tree as `run_over` does, with its faults. Returns the log of each device, packed.
+pub fn run_logged<H: Threads + Wait, P: Wait + Sync, T: Source, S: Source, W: Sink>(
+    rt: &H,
+    alloc: Global,
+    wait: &P,
+    tree: &mut T,
+    trace: &mut S,
+    writer: &mut W,
+    pace: Pace,
+) -> Result<Vec<PackedLog>, Fault>
+    ensures wrote { WroteWhat (λ text. (visits : _) × IfOk result (λ logs. visits_text (map logged logs.items) ≡ visits)
+        × ReportsWithVisits (T.Source.remaining tree.old) (S.Source.remaining trace.old) pace text visits)
+        result (W.Sink.taken writer.old) (W.Sink.taken writer.new) }
+    ensures fault { IfErr result (ExplainsRunOver (T.Source.remaining tree.old) (S.Source.remaining trace.old)) }
+    // A read of one of the two failed exactly if the fault is 19.
+    ensures read_failures { T.Source.failures tree.new + S.Source.failures trace.new
+        ≡ read_failures result (T.Source.failures tree.old + S.Source.failures trace.old) }
+    ensures write_failures { W.Sink.failures writer.new ≡ write_failures result (W.Sink.failures writer.old) }
+    // At most one byte past its limit is read from each source.
+    ensures tree_limit { Takes (most_tree_bytes + 1) (T.Source.remaining tree.old) (T.Source.remaining tree.new) }
+    ensures trace_limit { Takes (most_trace_bytes + 1) (S.Source.remaining trace.old) (S.Source.remaining trace.new) }
+    // The trace is unchanged, unless the tree was read.
+    ensures trace_unread { (trace.new ≡ trace.old) ⊎ WasTreeRead (T.Source.remaining tree.old) (T.Source.failures tree.old) (T.Source.failures tree.new) }
+{
+    let plan = read_plan(alloc, tree)?;
+    run_trace(rt, alloc, wait, &plan, trace, writer, pace, true)
 }
 
 /// Runs a trace through inlets over a tree, and writes the report. Reads and checks the tree before it reads any byte of the trace. If the
@@ -275,10 +331,39 @@ pub fn live_with_visits<
     // The trace is unchanged, unless the tree was read.
     ensures trace_unread { (trace.new ≡ trace.old) ⊎ WasTreeRead (T.Source.remaining tree.old) (T.Source.failures tree.old) (T.Source.failures tree.new) }
 {
-    let plan = read_plan(alloc, tree)?;
-    let run = replayed_trace(rt, alloc, wait, &plan, trace, pace)?;
+    let run = live_replayed(rt, alloc, wait, tree, trace, pace)?;
     let Replayed { live, kept, logs } = run;
     report_accounts(live.router(), writer)?;
     write_all(script, &kept.bytes)?;
     visits_csv(&logs, visits)
+}
+
+/// Runs a trace through inlets over a tree, and replays the record of the run. Writes nothing.
+///
+/// # Errors
+///
+/// Those of `live_over` for a run that is recorded, except 20.
+pub fn live_replayed<H: Threads + Wait, P: Wait + Sync, T: Source, S: Source>(
+    rt: &H,
+    alloc: Global,
+    wait: &P,
+    tree: &mut T,
+    trace: &mut S,
+    pace: Pace,
+) -> Result<Replayed, Fault>
+    ensures lives { IfOk result (λ run. LivesWithVisits (T.Source.remaining tree.old) (S.Source.remaining trace.old) pace
+        (ending_text run.live.course.setup (Some 0) run.live.course.events) run.kept.bytes.items (visits_text (lists_of run.logs.items))) }
+    ensures fault { IfErr result (ExplainsLiveOver (T.Source.remaining tree.old) (S.Source.remaining trace.old) pace.limit true) }
+    ensures not_write { IfErr result (λ fault. fault ≢ Write) }
+    // A read of one of the two failed exactly if the fault is 19.
+    ensures read_failures { T.Source.failures tree.new + S.Source.failures trace.new
+        ≡ read_failures result (T.Source.failures tree.old + S.Source.failures trace.old) }
+    // At most one byte past its limit is read from each source.
+    ensures tree_limit { Takes (most_tree_bytes + 1) (T.Source.remaining tree.old) (T.Source.remaining tree.new) }
+    ensures trace_limit { Takes (most_trace_bytes + 1) (S.Source.remaining trace.old) (S.Source.remaining trace.new) }
+    // The trace is unchanged, unless the tree was read.
+    ensures trace_unread { (trace.new ≡ trace.old) ⊎ WasTreeRead (T.Source.remaining tree.old) (T.Source.failures tree.old) (T.Source.failures tree.new) }
+{
+    let plan = read_plan(alloc, tree)?;
+    replayed_trace(rt, alloc, wait, &plan, trace, pace)
 }

@@ -8,20 +8,25 @@ ghost use Rattle.clap.specs.Matches.{found_of};
 ghost use Rattle.clap.specs.Simple.{new_app, subcommand_rows_of};
 ghost use Rattle.clap.specs.Walk.{first_of, rows_of};
 ghost use Rattle.clk_gate.specs.Limits.{most_step, most_limit};
-ghost use Rattle.clk_command.specs.Words.{file_word, file_option, number_option, top_words, check_words, script_words, traced_words, run_words, live_words, program_words, number_of, path_of, within_one_and, task, task_of, text_of, task_in, Reads, IsWord};
+ghost use Rattle.clk_command.specs.Words.{file_word, file_option, optional_word, number_option, top_words, check_words, lint_task, lint_words, script_words, traced_words, run_words, live_words, program_words, number_of, path_of, within_one_and, task, task_of, text_of, task_in, Reads, IsWord};
 
 use crate::pace::Pace;
 use clap::{Arg, ArgMatches, Command, Error, value_parser};
 use clk_drain::{MAX_LIMIT, MAX_STEP};
 use std::alloc::{AllocError, Global};
 
-/// What the words ask for. A file is named by its path, and `-` stands for standard input.
+/// What the words ask for. A file is named by its path, and `-` stands for standard input, or for standard output as the path of visits.
 #[derive(Clone, Copy)]
 pub enum Asked<'a> {
     /// The script on standard input, over the built-in tree.
     Builtin,
     /// The canonical text of a tree.
     Check {
+        /// The file of the tree.
+        tree: &'a str,
+    },
+    /// The warnings of a tree.
+    Lint {
         /// The file of the tree.
         tree: &'a str,
     },
@@ -39,16 +44,18 @@ pub enum Asked<'a> {
 /// What is done over a tree and a second input.
 #[derive(Clone, Copy)]
 pub enum Job<'a> {
+    /// The warnings of the tree and the trace are written.
+    LintTrace,
     /// The script is run.
     Script {
-        /// The file that its visits are written to, if one is named.
+        /// The file that its visits are written to, if they are asked for.
         visits: Option<&'a str>,
     },
     /// The trace is run.
     Run {
         /// How devices are pulled while the producers run.
         pace: Pace,
-        /// The file that its visits are written to, if one is named.
+        /// The file that its visits are written to, if they are asked for.
         visits: Option<&'a str>,
     },
     /// The trace is run through inlets.
@@ -57,7 +64,7 @@ pub enum Job<'a> {
         pace: Pace,
         /// The file that the record of the run is written to, if one is named.
         record: Option<&'a str>,
-        /// The file that its visits are written to, if one is named.
+        /// The file that its visits are written to, if they are asked for.
         visits: Option<&'a str>,
     },
 }
@@ -82,6 +89,7 @@ fn asked_of<'a>(matches: &ArgMatches<'a>) -> Asked<'a>
         Some(("check", found)) => Asked::Check {
             tree: path_of(found, TREE),
         },
+        Some(("lint", found)) => lint_of(path_of(found, TREE), option_of(found, TRACE)),
         Some(("script", found)) => Asked::Over {
             tree: path_of(found, TREE),
             input: path_of(found, SCRIPT),
@@ -110,6 +118,20 @@ fn asked_of<'a>(matches: &ArgMatches<'a>) -> Asked<'a>
     }
 }
 
+/// What `lint` asks for, by its words.
+fn lint_of<'a>(tree: &'a str, trace: Option<&'a str>) -> Asked<'a>
+    ensures { task result ≡ lint_task tree.now (option_map text_of trace.entry) }
+{
+    match trace {
+        None => Asked::Lint { tree },
+        Some(input) => Asked::Over {
+            tree,
+            input,
+            job: Job::LintTrace,
+        },
+    }
+}
+
 /// The path that a required word has.
 fn path_of<'a>(matches: &ArgMatches<'a>, name: &str) -> &'a str
     ensures { result.now ≡ path_of (rows_of (found_of matches.now)) name.now }
@@ -120,7 +142,7 @@ fn path_of<'a>(matches: &ArgMatches<'a>, name: &str) -> &'a str
     }
 }
 
-/// The path that an option has, if it is there.
+/// The path that an option or a word has, if it is there.
 fn option_of<'a>(matches: &ArgMatches<'a>, name: &str) -> Option<&'a str>
     ensures { option_map text_of result ≡ first_of name.now (rows_of (found_of matches.now)) }
 {
@@ -185,12 +207,14 @@ const MORE: &str = "\
 Without a command, the script on standard input runs over a built-in tree: senders 0 and 1, each with a
 queue of two packets, and a PrioSched that asks the queue of sender 0 first.
 
-One of the files to read may be '-', which is standard input; a file of that name is './-'. A file whose name
-isn't UTF-8 can't be named: standard input can be that file.
+One of the files to read may be '-', which is standard input. The file of --visits may be '-', which is standard
+output: the visits follow the answer. A file of that name is './-'. A file whose name isn't UTF-8 can't be named:
+standard input can be that file.
 
 Examples:
   printf 'send 0 100\\npull 0\\n' | clickpull
   clickpull check uplink.click
+  clickpull lint uplink.click
   clickpull script uplink.click morning.script
   clickpull run uplink.click morning.trace
   clickpull live --record morning.script uplink.click morning.trace
@@ -209,6 +233,7 @@ fn program<'a>(alloc: Global) -> Result<Command<'a>, AllocError>
 {
     top(alloc)?
         .subcommand(check(alloc)?)?
+        .subcommand(lint(alloc)?)?
         .subcommand(script(alloc)?)?
         .subcommand(run(alloc)?)?
         .subcommand(live(alloc)?)
@@ -249,6 +274,33 @@ fn check<'a>(alloc: Global) -> Result<Command<'a>, AllocError>
     titled(alloc, "check", CHECK_DOES, CHECK_MORE).arg(file(alloc, TREE, TREE_MEANS))
 }
 
+const LINT_DOES: &str = "Warns of what a tree, or a tree and a trace, may say by mistake";
+
+const LINT_MORE: &str = "\
+A line for each warning, by its element:
+  a quantum of a DRRSched below the longest packet, of TRACE, or 1500 bytes without one; below a PrioSched that
+    prefers it to another input, the DRRSched loses its priority, since it returns nothing while it saves up
+  a burst of a Shaper below its rate
+  a queue that nobody sends to
+  different tickets of a StrideSched with the same stride, 65536 divided by the tickets and rounded down
+  a scheduler with one input
+  a queue that holds fewer packets than one of its senders has in TRACE
+
+The status is 0 with warnings too. A tree that is wrong has a fault, as 'check' tells it, and so has a TRACE that is
+wrong or names a sender that the tree doesn't have, as 'run' tells it.
+
+Examples:
+  clickpull lint uplink.click
+  clickpull lint uplink.click morning.trace";
+
+fn lint<'a>(alloc: Global) -> Result<Command<'a>, AllocError>
+    ensures { IfOk result (λ c. Reads c lint_words) }
+{
+    titled(alloc, "lint", LINT_DOES, LINT_MORE)
+        .arg(file(alloc, TREE, TREE_MEANS))?
+        .arg(optional_file(alloc, TRACE, TRACE_MEANS))
+}
+
 const SCRIPT_MEANS: &str =
     "A file with a command a line: 'send S L', 'pull M' or 'pull M D', or at the end 'drain M'";
 
@@ -275,7 +327,8 @@ Examples:
   clickpull script uplink.click morning.script
   clickpull script --visits morning.csv uplink.click morning.script";
 
-const VISITS_MEANS: &str = "Writes the log of the visits to FILE, as CSV";
+const VISITS_MEANS: &str =
+    "Writes the log of the visits to FILE, as CSV; '-' is standard output, after the answer";
 
 fn script<'a>(alloc: Global) -> Result<Command<'a>, AllocError>
     ensures { IfOk result (λ c. Reads c script_words) }
@@ -398,4 +451,11 @@ fn file<'a>(alloc: Global, name: &'a str, help: &'a str) -> Arg<'a>
     ensures { IsWord result (file_word name.now) }
 {
     Arg::new(alloc, name).required(true).help(help)
+}
+
+/// A word that names a file, and may be left out.
+fn optional_file<'a>(alloc: Global, name: &'a str, help: &'a str) -> Arg<'a>
+    ensures { IsWord result (optional_word name.now) }
+{
+    Arg::new(alloc, name).help(help)
 }

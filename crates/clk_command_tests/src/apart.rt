@@ -1,4 +1,5 @@
 //! Which files a task may have: standard input stands for one input, and no file is overwritten that is read, or written for something else.
+//! Visits may go to standard output.
 
 use crate::answer::{AMPLE, answer, input};
 use crate::command::assert_said;
@@ -70,7 +71,10 @@ const TWICE: [(&str, &str); 11] = [
         "script none.click none.script --visits none.script",
         "none.script",
     ),
-    ("script out/kept.click out/kept.script --visits -", ": -\n"),
+    (
+        "live out/kept.click out/kept.trace --record - --visits -",
+        ": -\n",
+    ),
 ];
 
 #[test]
@@ -116,7 +120,22 @@ fn what_takes_the_message_may_fail(rt: HostRuntime) {
 
 const ANSWER: &str = "0#0 10 accepted\npull 0: 0#0 10\n";
 
+/// The answer, and the visits after it.
+const FOLLOWED: &str = "\
+0#0 10 accepted
+pull 0: 0#0 10
+pull,node,input,fresh,sender,number,length,passed,moment
+0,0,0,1,0,0,10,1,0
+";
+
 const REPORT: &str = "sender 0: sent 1 10, accepted 1 10, refused 0 0, evicted 0 0, emitted 1 10\n";
+
+const HALTING: &str =
+    "s :: Sender(0); q :: Queue(2); h :: Shaper(2, 1); d :: ToDevice(link); s -> q -> h -> d;";
+
+const WARNINGS: &str = "warning: h: burst 1 is below the rate, 2\n";
+
+const SMALL: &str = "warning: q: capacity 2 is below the packets of sender 0, 3\n";
 
 const CANONICAL: &str = "\
 s :: Sender(0);
@@ -132,8 +151,17 @@ fn standard_input_stands_for_one_input(rt: HostRuntime) {
     write_all(&rt, &FILES).expect(&rt, "files");
     for (words, input, outcome, written) in [
         ("check -", TREE, Ok(0), CANONICAL),
+        ("lint -", HALTING, Ok(0), WARNINGS),
+        ("lint - out/kept.trace", HALTING, Ok(0), WARNINGS),
+        ("lint out/kept.click -", "0,1\n0,1\n0,1\n", Ok(0), SMALL),
         ("script - out/kept.script", TREE, Ok(0), ANSWER),
         ("script out/kept.click -", SCRIPT, Ok(0), ANSWER),
+        (
+            "script out/kept.click - --visits -",
+            SCRIPT,
+            Ok(0),
+            FOLLOWED,
+        ),
         ("run - out/kept.trace", TREE, Ok(0), REPORT),
         ("run out/kept.click -", TRACE, Ok(0), REPORT),
         ("live - out/kept.trace", TREE, Ok(0), REPORT),
@@ -170,6 +198,7 @@ fn standard_input_stands_for_one_input(rt: HostRuntime) {
 #[test]
 fn standard_input_is_not_two_inputs(rt: HostRuntime) {
     for words in [
+        "lint - -",
         "script - -",
         "run - -",
         "live --record out/unmade.script - -",

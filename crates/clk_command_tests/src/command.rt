@@ -2,7 +2,7 @@
 
 use crate::answer::{AMPLE, Row, answer, assert_rows, assert_writes, input};
 use crate::files::{write, write_all};
-use crate::{examples, living, running, visits};
+use crate::{examples, linting, living, running, visits};
 use clk_packet::Fault;
 use std::process::Abort;
 use std::rt::Files;
@@ -83,6 +83,7 @@ fn words_are_answered(rt: HostRuntime) {
     fs::create_dir_all(&rt, "out/folder").expect(&rt, "a folder");
     for rows in [
         &ROWS[..],
+        &linting::ROWS,
         &running::ROWS,
         &living::ROWS,
         &visits::ROWS,
@@ -102,7 +103,7 @@ fn words_are_answered(rt: HostRuntime) {
 /// error, and with 0 to standard output.
 pub type Said = (&'static str, u8, &'static str, &'static str);
 
-const SAID: [Said; 32] = [
+const SAID: [Said; 38] = [
     ("frob", 2, "error: ", "unrecognized subcommand 'frob'"),
     ("check", 2, "error: ", "<TREE>"),
     ("check a b", 2, "error: ", "unexpected argument 'b' found"),
@@ -111,6 +112,19 @@ const SAID: [Said; 32] = [
         2,
         "error: ",
         "unexpected argument '--quick' found",
+    ),
+    ("lint", 2, "error: ", "<TREE>"),
+    (
+        "lint a b c",
+        2,
+        "error: ",
+        "Usage: clickpull lint <TREE> [TRACE]",
+    ),
+    (
+        "lint a --visits b",
+        2,
+        "error: ",
+        "unexpected argument '--visits' found",
     ),
     ("script", 2, "error: ", "<TREE>"),
     ("script a", 2, "error: ", "<SCRIPT>"),
@@ -170,6 +184,14 @@ const SAID: [Said; 32] = [
         "clickpull check uplink.click > uplink.canonical.click",
     ),
     ("check -h", 0, "", "Usage: clickpull check <TREE>"),
+    (
+        "lint --help",
+        0,
+        "",
+        "clickpull lint uplink.click morning.trace",
+    ),
+    ("lint -h", 0, "", "Usage: clickpull lint <TREE> [TRACE]"),
+    ("help lint", 0, "", "a queue that nobody sends to"),
     (
         "script --help",
         0,

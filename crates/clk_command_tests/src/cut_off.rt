@@ -12,6 +12,19 @@ use std::thread::Threads;
 
 const REPORT: &str = "sender 0: sent 2 30, accepted 2 30, refused 0 0, evicted 0 0, emitted 2 30\n";
 
+/// A tree of a sender and a queue.
+const ALONE: &str = "s :: Sender(0); q :: Queue; d :: ToDevice(link); s -> q -> d;";
+
+/// An answer over the tree `ALONE`, and the visits that follow it.
+const FOLLOWED: &str = "\
+0#0 10 accepted
+pull 0: 0#0 10
+pull 0: none
+pull,node,input,fresh,sender,number,length,passed,moment
+0,0,0,1,0,0,10,1,0
+1,0,0,1,,,,0,0
+";
+
 // What words return and write.
 fn answered<H: Files + AllocGlobal + Threads + Wait + Sync + Abort>(
     rt: &H,
@@ -46,6 +59,13 @@ fn standard_output_may_fail_after_any_byte(rt: HostRuntime) -> Result<(), Fail> 
     write(&rt, "out/cut.trace", "0,10\n0,20\n")?;
     assert_written_so_far(&rt, "check out/cut.click", row.canonical.as_bytes());
     assert_written_so_far(&rt, "run out/cut.click out/cut.trace", REPORT.as_bytes());
+    write(&rt, "out/cut.alone.click", ALONE)?;
+    write(&rt, "out/cut.script", "send 0 10\npull 0\npull 0\n")?;
+    assert_written_so_far(
+        &rt,
+        "script out/cut.alone.click out/cut.script --visits -",
+        FOLLOWED.as_bytes(),
+    );
     for words in ["--help", "script --help"] {
         let help = answered(&rt, words, AMPLE, AMPLE).written;
         assert!(rt; !help.is_empty());

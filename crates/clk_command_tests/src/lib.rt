@@ -20,6 +20,8 @@ mod files;
 #[cfg(test)]
 mod fronts;
 #[cfg(test)]
+mod linting;
+#[cfg(test)]
 mod living;
 #[cfg(test)]
 mod over;

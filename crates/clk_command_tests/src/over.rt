@@ -1,7 +1,10 @@
 //! Tasks over sources and sinks that fail in mid-stream: what was written then, and what wasn't.
 
 use crate::answer::AMPLE;
-use clk_command::{Pace, check_tree, run_over, run_with_visits, script_over, script_with_visits};
+use clk_command::{
+    Pace, check_tree, run_over, run_then_visits, run_with_visits, script_over, script_then_visits,
+    script_with_visits,
+};
 use clk_packet::{FailingSink, FailingSource, Fault, read_up_to};
 use clk_rows::PRIO_TWO_QUEUES;
 use std::alloc::{AllocError, Global};
@@ -48,21 +51,25 @@ fn a_tree_may_fail_after_any_byte(rt: HostRuntime) -> Result<(), Fail> {
 enum Task {
     Script,
     ScriptWithVisits,
+    ScriptThenVisits,
     Run,
     RunWithVisits,
+    RunThenVisits,
 }
 
 impl Task {
     /// What it reads after the tree.
     fn input(self) -> &'static str {
         match self {
-            Task::Script | Task::ScriptWithVisits => PRIO_TWO_QUEUES.script,
-            Task::Run | Task::RunWithVisits => TRACE,
+            Task::Script | Task::ScriptWithVisits | Task::ScriptThenVisits => {
+                PRIO_TWO_QUEUES.script
+            }
+            Task::Run | Task::RunWithVisits | Task::RunThenVisits => TRACE,
         }
     }
 }
 
-/// The sources and sinks of a task. A task without visits doesn't use the last.
+/// The sources and sinks of a task. A task without visits, or whose visits follow the answer, doesn't use the last.
 #[derive(Drop)]
 struct Files {
     tree: FailingSource,
@@ -105,10 +112,12 @@ impl Files {
         match task {
             Task::Script => script_over(alloc, tree, input, writer),
             Task::ScriptWithVisits => script_with_visits(alloc, tree, input, writer, visits),
+            Task::ScriptThenVisits => script_then_visits(alloc, tree, input, writer),
             Task::Run => run_over(rt, alloc, rt, tree, input, writer, PACE),
             Task::RunWithVisits => {
                 run_with_visits(rt, alloc, rt, tree, input, writer, PACE, visits)
             }
+            Task::RunThenVisits => run_then_visits(rt, alloc, rt, tree, input, writer, PACE),
         }
     }
 }
@@ -146,8 +155,10 @@ fn either_source_may_fail_after_any_byte(rt: HostRuntime) {
     for task in [
         Task::Script,
         Task::ScriptWithVisits,
+        Task::ScriptThenVisits,
         Task::Run,
         Task::RunWithVisits,
+        Task::RunThenVisits,
     ] {
         for limit in 0..=task.input().len() {
             assert_not_read(&rt, task, usize::MAX, limit);

@@ -224,6 +224,32 @@ fn visits_go_at_the_pace_of_the_run(rt: HostRuntime) {
     assert_eq!(rt; lengths.as_slice(), &[10, 20, 30][..]);
 }
 
+// With `-` the visits follow the report, and a record is written between them.
+#[test]
+fn visits_follow_the_report(rt: HostRuntime) {
+    write_all(&rt, &[TREE, SENT]).expect(&rt, "files");
+    for words in [
+        "run --visits -",
+        "live --visits -",
+        "live --visits - --record out/followed.script",
+    ] {
+        let words = format!(in rt.alloc();
+            "{words} --step 7 --limit 9 out/sound.click out/sent.trace"
+        ).expect(&rt, "ample memory");
+        let answered = answer(&rt, &words, input(), AMPLE, AMPLE).expect(&rt, "ample memory");
+        assert_eq!(rt; answered.outcome, Ok(0), "at {words}");
+        let visits = answered
+            .written
+            .strip_prefix(REPORT.as_bytes())
+            .expect(&rt, "the report");
+        write(&rt, "out/followed.csv", visits).expect(&rt, "a file");
+        let rows = read_back(&rt, "out/followed.csv");
+        assert_paced(&rt, &rows);
+        let lengths = lengths_of(rt.alloc(), &rows).expect(&rt, "ample memory");
+        assert_eq!(rt; lengths.as_slice(), &[10, 20][..]);
+    }
+}
+
 // Fails unless pulls are seven ticks apart, and one tick once the drain has begun, and each packet passes.
 fn assert_paced(rt: &impl Abort, rows: &[Numbers]) {
     let (mut last, mut ticks) = (0, 7);

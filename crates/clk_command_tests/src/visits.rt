@@ -1,4 +1,4 @@
-//! The visits of a script, in a file.
+//! The visits of a script, in a file or after the answer.
 
 use crate::answer::{AMPLE, Row, answer};
 use crate::files::write_all;
@@ -42,8 +42,8 @@ const CLOSING: &str = "3#0 10 accepted\npull 1: 3#0 10\n\
 const LONG: &str =
     "xxxxxxxxxxxxxxxxxxxxxxxxxxxxxxxxxxxxxxxxxxxxxxxxxxxxxxxxxxxxxxxxxxxxxxxxxxxxxxxxxxxxxxxxxxxxxxxxxxxxxxxxxxxxxxxxxxxxxxxxxxxxxxxx";
 
-/// Scripts with visit files.
-pub const ROWS: [Row; 5] = [
+/// Scripts with visits.
+pub const ROWS: [Row; 6] = [
     // Visits don't change the answer.
     (
         &[ALONE, SAME],
@@ -64,6 +64,16 @@ pub const ROWS: [Row; 5] = [
                 "pull,node,input,fresh,sender,number,length,passed,moment\n0,0,0,1,3,0,10,1,5\n1,0,0,1,,,,0,5\n",
             ),
         )],
+    ),
+    // Visits follow the answer, and a drain's follow the report. No file is created.
+    (
+        &[ALONE, CLOSED],
+        "script out/same.click out/closed.script --visits -",
+        Ok(0),
+        "3#0 10 accepted\npull 1: 3#0 10\n\
+        sender 3: sent 1 10, accepted 1 10, refused 0 0, evicted 0 0, emitted 1 10\n\
+        pull,node,input,fresh,sender,number,length,passed,moment\n0,0,0,1,3,0,10,1,1\n",
+        &[("-", None)],
     ),
     // A visit file that can't be created is reported after the answer.
     (

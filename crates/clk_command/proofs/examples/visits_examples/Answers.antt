@@ -1,5 +1,18 @@
-use Rattle.std.proofs.Common.{refl, inl, inr}
+use Rattle.std.proofs.Common.{◌≡◌, ℕ, List, ◌∷◌, [], refl, ap, inl, inr, arith}
 use Rattle.clk_command.proofs.examples.visits_examples.Goals as goal
+
+abbrev first_of : List ℕ → ℕ
+first_of [] = 0
+first_of (x ∷ xs) = x
+
+pub returns-clause-follow : goal.returns-clause-follow
+returns-clause-follow c = record { answer = 65 ∷ []; visits = 66 ∷ []; means = (refl, refl); together = refl }
+
+pub returns-clause-not_left_out : goal.returns-clause-not_left_out
+returns-clause-not_left_out c = λ w. let all = rw (w.means.0, w.means.1) at w.together in absurd (cc)
+
+pub returns-clause-not_first : goal.returns-clause-not_first
+returns-clause-not_first c = λ w. let all = rw (w.means.0, w.means.1) at w.together in let first : 66 ≡ 65 = ap first_of all in absurd (omega (arith, first))
 
 pub returns-clause-not_without_visits : goal.returns-clause-not_without_visits
 returns-clause-not_without_visits c = λ w. let whole = w.whole in absurd (cc)

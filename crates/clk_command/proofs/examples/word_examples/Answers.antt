@@ -10,9 +10,21 @@ pub returns-clause-checks : goal.returns-clause-checks
 unfolding clap_on_literals
 returns-clause-checks c = (refl, refl)
 
+pub returns-clause-lints : goal.returns-clause-lints
+unfolding clap_on_literals
+returns-clause-lints c = refl
+
+pub returns-clause-lints_traces : goal.returns-clause-lints_traces
+unfolding clap_on_literals
+returns-clause-lints_traces c = refl
+
 pub returns-clause-scripts : goal.returns-clause-scripts
 unfolding clap_on_literals
 returns-clause-scripts c = refl
+
+pub returns-clause-follows : goal.returns-clause-follows
+unfolding clap_on_literals
+returns-clause-follows c = refl
 
 pub returns-clause-visits : goal.returns-clause-visits
 unfolding clap_on_literals
