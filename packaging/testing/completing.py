@@ -36,10 +36,10 @@ def completed(root: Path, *words: str) -> list[str]:
 def bash_completes(root: Path) -> None:
     """Bash completes commands, options and files."""
     need("bash")
-    compare("commands", completed(root, "clickpull", ""), sorted(["--help", "--version", "-V", "-h", "check", "help", "lint", "live", "run", "script"]))
+    compare("commands", completed(root, "clickpull", ""), sorted(["--explain", "--help", "--version", "-V", "-h", "check", "help", "lint", "live", "run", "script"]))
     compare("a command", completed(root, "clickpull", "sc"), ["script"])
-    compare("options", completed(root, "clickpull", "run", "--"), ["--help", "--limit", "--step", "--visits"])
-    compare("options of a run through inlets", completed(root, "clickpull", "live", "--"), ["--help", "--limit", "--record", "--step", "--visits"])
+    compare("options", completed(root, "clickpull", "run", "--"), ["--explain", "--help", "--limit", "--step", "--visits"])
+    compare("options of a run through inlets", completed(root, "clickpull", "live", "--"), ["--explain", "--help", "--limit", "--record", "--step", "--visits"])
     compare("what help tells of", completed(root, "clickpull", "help", ""), ["check", "lint", "live", "run", "script"])
     compare("a number", completed(root, "clickpull", "run", "--step", ""), [])
     file = str(root / "usr/include/clickpull.hp")

@@ -1,7 +1,7 @@
 //! Runs scripts of sends and pulls, and traces from producers on threads, over queues and pull schedulers.
 #![tactic(auto)]
 
-use clk_command::{command, fault_line};
+use clk_command::{Heard, Recalled, command, fault_line};
 use clk_packet::{Fault, FromRead, Sink, ToWrite, write_all};
 use std::process::ExitCode;
 use std::rt::{Env, Runtime};
@@ -29,7 +29,8 @@ fn run_words<H: Runtime + AllocGlobal + Threads + Wait + Sync, E: Sink>(
         write_all(errors, b"error: a word is not UTF-8\n")?;
         return Ok(2);
     };
-    let mut reader = FromRead::new(rt.reader());
+    let heard = Heard::nothing(rt.alloc());
+    let mut reader = Recalled::new(FromRead::new(rt.reader()), &heard);
     let mut writer = ToWrite::new(io::writer(rt));
     command(rt, rt, words, &mut reader, &mut writer, errors)
 }

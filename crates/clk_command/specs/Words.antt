@@ -7,7 +7,8 @@ use Rattle.std.specs.Str.{bytes_eq}
 use Rattle.std.specs.Str.Parse.{digits_value, without_leading_plus}
 use Rattle.std.specs.Char.{digit_value}
 use Rattle.clap.specs.Walk.{Row, Rule, Text, first_of, one_of, rule_of}
-use Rattle.clap.specs.Simple.{App, app_of, new_app, new_rule, on_top, with_rule, with_subcommand, subcommand_of}
+use Rattle.clap.specs.Simple.{App, app_of, matches_of, new_app, new_rule, on_top, with_rule, with_subcommand, subcommand_of}
+use Rattle.clap.specs.declared.builder.action.ArgAction.TheVariants.{SetTrue}
 use Rattle.clap.specs.declared.builder.arg.Arg.{Arg}
 use Rattle.clap.specs.declared.builder.command.Command.{Command}
 use Rattle.clap.specs.declared.builder.command.Command.TheViews.{out-Command as fields_of}
@@ -43,21 +44,29 @@ number_option name most default = record (new_rule name) {
   defaults = default ∷ [];
 }
 
+-- `--name`
+abbrev pub flag_option : Text → Rule
+flag_option name = record (new_rule name) { long = Some name; action = Some SetTrue }
+
+-- `NAME [--explain]`
+abbrev pub titled_words : Text → App
+titled_words name = with_rule (new_app name) (flag_option (codes "explain"))
+
 -- `check TREE`
 abbrev pub check_words : App
-check_words = with_rule (new_app (codes "check")) (file_word (codes "TREE"))
+check_words = with_rule (titled_words (codes "check")) (file_word (codes "TREE"))
 
 -- `lint TREE [TRACE]`
 abbrev pub lint_words : App
-lint_words = with_rule (with_rule (new_app (codes "lint")) (file_word (codes "TREE"))) (optional_word (codes "TRACE"))
+lint_words = with_rule (with_rule (titled_words (codes "lint")) (file_word (codes "TREE"))) (optional_word (codes "TRACE"))
 
 -- `script TREE SCRIPT [--visits FILE]`
 abbrev pub script_words : App
-script_words = with_rule (with_rule (with_rule (new_app (codes "script")) (file_word (codes "TREE"))) (file_word (codes "SCRIPT"))) (file_option (codes "visits"))
+script_words = with_rule (with_rule (with_rule (titled_words (codes "script")) (file_word (codes "TREE"))) (file_word (codes "SCRIPT"))) (file_option (codes "visits"))
 
 -- `NAME TREE TRACE [--step N] [--limit N]`
 abbrev pub traced_words : Text → App
-traced_words name = with_rule (with_rule (with_rule (with_rule (new_app name)
+traced_words name = with_rule (with_rule (with_rule (with_rule (titled_words name)
     (file_word (codes "TREE"))) (file_word (codes "TRACE")))
     (number_option (codes "step") most_step (codes "1"))) (number_option (codes "limit") most_limit (codes "1000"))
 
@@ -69,9 +78,9 @@ run_words = with_rule (traced_words (codes "run")) (file_option (codes "visits")
 abbrev pub live_words : App
 live_words = with_rule (with_rule (traced_words (codes "live")) (file_option (codes "record"))) (file_option (codes "visits"))
 
--- the program without its commands: the first word isn't the program's name
+-- `[--explain]`, the program without its commands: the first word isn't the program's name
 abbrev pub top_words : App
-top_words = on_top (λ s. record s { no_binary_name = true; has_version = true }) (new_app (codes "clickpull"))
+top_words = on_top (λ s. record s { no_binary_name = true; has_version = true }) (titled_words (codes "clickpull"))
 
 -- the words of the program: one of five commands, no words at all, or a question for help or the version
 abbrev pub program_words : App
@@ -240,3 +249,15 @@ task_of (Some found) = task_by found.0 found.1
 -- what the words ask for
 abbrev pub task_in : List Text → Task
 task_in words = task_of (subcommand_of program_words words)
+
+-- whether the words of the program or of a command have `--explain`
+abbrev pub explains : List Row → Bool
+explains rows = option_map_or (λ value. bytes_eq value (codes "true")) (first_of (codes "explain") rows) false
+
+-- whether those of the command have it, if there is a command
+abbrev pub explains_below : Option (Text × List Row) → Bool
+explains_below found = option_map_or (λ command. explains command.1) found false
+
+-- whether a fault is to be explained
+abbrev pub is_explained : List Text → Bool
+is_explained words = explains (matches_of program_words words) || explains_below (subcommand_of program_words words)

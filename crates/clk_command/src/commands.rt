@@ -1,6 +1,6 @@
 //! The whole program, over values that stand for standard input, output and error.
 
-ghost use Rattle.std.specs.Prelude.{◌≡◌, ◌≢◌, ◌+◌, ◌⊎◌, [], Ok, None, Some, true, false, map, option_map, IfOk, IfErr, OnOk};
+ghost use Rattle.std.specs.Prelude.{◌≡◌, ◌≢◌, ◌+◌, ◌⊎◌, [], Ok, None, Some, true, false, map, option_map, IfOk, IfErr, IsErr, OnOk};
 ghost use Rattle.std.specs.String.{string_bytes};
 ghost use Rattle.std.specs.Io.KnownBytes.{Appends, Keeps};
 ghost use Rattle.clap.specs.Faults.{fault_of};
@@ -14,11 +14,13 @@ ghost use Rattle.clk_syntax.specs.Limits.{most_tree_bytes};
 ghost use Rattle.clk_tree.specs.Plan.{Denotes};
 ghost use Rattle.clk_packet.specs.Written.{WroteWhat};
 ghost use Rattle.clk_command.specs.Tasks.{Does, DoesWork, ExplainsWork, ExplainsRunOver, ExplainsScriptOver, ExplainsTask, ExplainsTree, GoesOut, IsQuestion, IsMistake, ExplainsLiveOver, LivesOver, LivesWithVisits, WritesOver, WritesWithVisits, ReportsOver, ReportsWithVisits, builtin_text};
-ghost use Rattle.clk_command.specs.Words.{builtin, is_recorded, most_of_input, most_of_work, program_words, reads_input, task, task_in, text_of, visits_follow, work, AreApart, MayClash};
+ghost use Rattle.clk_command.specs.Words.{builtin, is_explained, is_recorded, most_of_input, most_of_work, program_words, reads_input, task, task_in, text_of, visits_follow, work, AreApart, MayClash};
 
 use crate::apart::{Clash, clash_of, is_standard};
 use crate::builtin;
-use crate::files::{FileToRead, FileToWrite};
+use crate::explaining::{Inputs, explain_fault, input_of, tree_of};
+use crate::files::Opener;
+use crate::heard::{Heard, Recalls};
 use crate::linting::{lint_over, lint_tree};
 use crate::over::{
     check_tree, live_over, live_with_visits, run_over, run_with_visits, script_over,
@@ -29,10 +31,11 @@ use crate::together::{live_then_visits, run_then_visits, script_then_visits};
 use crate::words::{Asked, Job, asked_by};
 use clap::Error;
 use clap::error::ErrorKind;
-use clk_packet::{Fault, FromRead, Sink, Source, ToWrite, write_all};
+use clk_packet::{Fault, Sink, Source, ToWrite, write_all};
 use clk_script::run_script;
 use clk_tree::Plan;
 use std::alloc::Global;
+use std::cell::Cell;
 use std::io;
 use std::rt::Files;
 use std::sync::Wait;
@@ -60,6 +63,10 @@ use std::thread::Threads;
 /// `writer`, after the answer or the report. Any other FILE can't be another of the files that the words name: it has another path, and if
 /// it exists, it is another file.
 ///
+/// With `--explain` a fault is explained on `errors`: in which file and where in it, the line with a caret, what is wrong, and what was
+/// expected. If `errors` fails then, the fault is returned as ever. A fault of a text on `reader` is explained only if `reader` is
+/// `Recalled`.
+///
 /// `rt` has the files and starts the threads, and `wait` waits for queues.
 ///
 /// # Errors
@@ -71,7 +78,7 @@ use std::thread::Threads;
 pub fn command<
     H: Files + AllocGlobal + Threads + Wait,
     P: Wait + Sync,
-    R: Source,
+    R: Source + Recalls,
     W: Sink,
     E: Sink,
 >(
@@ -99,9 +106,13 @@ pub fn command<
     // At a fault other than 1 and 20 the words are right, and what they ask for has the fault.
     ensures fault { IfErr result (λ fault. fault ≢ Write → fault ≢ Memory → (fault_of program_words (map string_bytes words.items) ≡ [])
         × AreApart (task_in (map string_bytes words.items)) × ExplainsTask (task_in (map string_bytes words.items)) (R.Source.remaining reader.old) fault) }
-    // If `writer` or `errors` failed, the fault is 20.
-    ensures write_failures { (W.Sink.failures writer.new + E.Sink.failures errors.new ≡ W.Sink.failures writer.old + E.Sink.failures errors.old)
-        ⊎ (W.Sink.failures writer.new + E.Sink.failures errors.new ≡ write_failures result (W.Sink.failures writer.old + E.Sink.failures errors.old)) }
+    // Without `--explain` nothing is written to `errors` at a fault, unless a write failed.
+    ensures unexplained { is_explained (map string_bytes words.items) ≡ false → IfErr result (λ fault. fault ≢ Write → errors.new ≡ errors.old) }
+    // If `writer` or `errors` failed, the fault is 20, unless `errors` failed once while a fault was explained.
+    ensures write_failures { ((W.Sink.failures writer.new + E.Sink.failures errors.new ≡ W.Sink.failures writer.old + E.Sink.failures errors.old)
+        ⊎ (W.Sink.failures writer.new + E.Sink.failures errors.new ≡ write_failures result (W.Sink.failures writer.old + E.Sink.failures errors.old)))
+        ⊎ ((is_explained (map string_bytes words.items) ≡ true) × IsErr result × (E.Sink.failures errors.new ≡ E.Sink.failures errors.old + 1)
+        × ((W.Sink.failures writer.new ≡ W.Sink.failures writer.old) ⊎ (W.Sink.failures writer.new ≡ write_failures result (W.Sink.failures writer.old)))) }
     // If there are no words, a read of `reader` failed exactly if the fault is 19. If `reader` is no input, it is unchanged.
     ensures read_failures { task_in (map string_bytes words.items) ≡ builtin → R.Source.failures reader.new ≡ read_failures result (R.Source.failures reader.old) }
     ensures unread { (reads_input (task_in (map string_bytes words.items)) ≡ true) ⊎ (reader.new ≡ reader.old) }
@@ -109,14 +120,56 @@ pub fn command<
     ensures limit { Takes (most_of_input (task_in (map string_bytes words.items)) + 1) (R.Source.remaining reader.old) (R.Source.remaining reader.new) }
 {
     match asked_by(rt.alloc(), &words) {
-        Ok(asked) => {
+        Ok((asked, explained)) => {
             if let Some(clash) = clash_of(rt, asked) {
                 return refuse(clash, errors);
             }
-            perform(rt, wait, asked, reader, writer)?;
-            Ok(0)
+            let (failure, tree, input) = (
+                Cell::new(None),
+                Heard::nothing(rt.alloc()),
+                Heard::nothing(rt.alloc()),
+            );
+            if explained {
+                keep_all(&tree, &input, reader.heard());
+            }
+            let opener = Opener {
+                rt,
+                failure: &failure,
+                tree: &tree,
+                input: &input,
+            };
+            let Err(fault) = perform(&opener, wait, asked, reader, writer) else {
+                return Ok(0);
+            };
+            if explained {
+                let inputs = Inputs {
+                    tree: heard_at(tree_of(asked), reader.heard(), &tree),
+                    input: heard_at(input_of(asked), reader.heard(), &input),
+                };
+                // A failed write changes nothing about the fault.
+                let _ = explain_fault(rt.alloc(), asked, inputs, failure.get(), fault, errors);
+            }
+            Err(fault)
         }
         Err(error) => tell(rt.alloc(), &error, writer, errors),
+    }
+}
+
+/// Keeps what is read from now on.
+fn keep_all(tree: &Heard, input: &Heard, reader: Option<&Heard>) {
+    tree.keep();
+    input.keep();
+    if let Some(heard) = reader {
+        heard.keep();
+    }
+}
+
+/// What was read of the input at a path: of `reader` if the path stands for standard input, otherwise of a file.
+fn heard_at<'a>(path: &str, reader: Option<&'a Heard>, file: &'a Heard) -> Option<&'a Heard> {
+    if is_standard(path) {
+        reader
+    } else {
+        Some(file)
     }
 }
 
@@ -146,10 +199,10 @@ fn refuse<E: Sink>(clash: Clash<'_>, errors: &mut E) -> Result<u8, Fault>
 }
 
 /// Does what the words ask for. Opens a file when it is first read or written.
-fn perform<H: Files + AllocGlobal + Threads + Wait, P: Wait + Sync, R: Source, W: Sink>(
-    rt: &H,
+fn perform<'a, H: Files + AllocGlobal + Threads + Wait, P: Wait + Sync, R: Source, W: Sink>(
+    opener: &Opener<'a, H>,
     wait: &P,
-    asked: Asked<'_>,
+    asked: Asked<'a>,
     reader: &mut R,
     writer: &mut W,
 ) -> Result<(), Fault>
@@ -163,44 +216,48 @@ fn perform<H: Files + AllocGlobal + Threads + Wait, P: Wait + Sync, R: Source, W
     ensures unread { (reads_input (task asked.entry) ≡ true) ⊎ (reader.new ≡ reader.old) }
     ensures limit { Takes (most_of_input (task asked.entry) + 1) (R.Source.remaining reader.old) (R.Source.remaining reader.new) }
 {
+    let alloc = opener.rt.alloc();
     match asked {
-        Asked::Builtin => script_builtin(rt.alloc(), reader, writer),
+        Asked::Builtin => script_builtin(alloc, reader, writer),
         Asked::Check { tree } => {
             if is_standard(tree) {
-                return check_tree(rt.alloc(), reader, writer);
+                return check_tree(alloc, reader, writer);
             }
-            check_tree(rt.alloc(), &mut source(rt, tree), writer)
+            check_tree(alloc, &mut opener.tree_at(tree), writer)
         }
         Asked::Lint { tree } => {
             if is_standard(tree) {
-                return lint_tree(rt.alloc(), reader, writer);
+                return lint_tree(alloc, reader, writer);
             }
-            lint_tree(rt.alloc(), &mut source(rt, tree), writer)
+            lint_tree(alloc, &mut opener.tree_at(tree), writer)
         }
         Asked::Over { tree, input, job } => {
             if is_standard(tree) {
-                return do_job(rt, wait, job, reader, &mut source(rt, input), writer);
+                let mut text = opener.input_at(input);
+                return do_job(opener, wait, job, reader, &mut text, writer);
             }
+            let mut first = opener.tree_at(tree);
             if is_standard(input) {
-                return do_job(rt, wait, job, &mut source(rt, tree), reader, writer);
+                return do_job(opener, wait, job, &mut first, reader, writer);
             }
-            do_job(
-                rt,
-                wait,
-                job,
-                &mut source(rt, tree),
-                &mut source(rt, input),
-                writer,
-            )
+            let mut second = opener.input_at(input);
+            do_job(opener, wait, job, &mut first, &mut second, writer)
         }
     }
 }
 
 /// Does what is asked for over a tree and a second input.
-fn do_job<H: Files + AllocGlobal + Threads + Wait, P: Wait + Sync, T: Source, S: Source, W: Sink>(
-    rt: &H,
+fn do_job<
+    'a,
+    H: Files + AllocGlobal + Threads + Wait,
+    P: Wait + Sync,
+    T: Source,
+    S: Source,
+    W: Sink,
+>(
+    opener: &Opener<'a, H>,
     wait: &P,
-    job: Job<'_>,
+    job: Job<'a>,
     tree: &mut T,
     input: &mut S,
     writer: &mut W,
@@ -214,14 +271,14 @@ fn do_job<H: Files + AllocGlobal + Threads + Wait, P: Wait + Sync, T: Source, S:
     ensures input_limit { Takes (most_of_work (work job.entry) + 1) (S.Source.remaining input.old) (S.Source.remaining input.new) }
 {
     match job {
-        Job::LintTrace => lint_over(rt.alloc(), tree, input, writer),
-        Job::Script { visits } => script_job(rt, tree, input, visits, writer),
-        Job::Run { pace, visits } => run_job(rt, wait, tree, input, pace, visits, writer),
+        Job::LintTrace => lint_over(opener.rt.alloc(), tree, input, writer),
+        Job::Script { visits } => script_job(opener, tree, input, visits, writer),
+        Job::Run { pace, visits } => run_job(opener, wait, tree, input, pace, visits, writer),
         Job::Live {
             pace,
             record,
             visits,
-        } => live_job(rt, wait, tree, input, pace, record, visits, writer),
+        } => live_job(opener, wait, tree, input, pace, record, visits, writer),
     }
 }
 
@@ -242,11 +299,11 @@ fn script_builtin<R: Source, W: Sink>(
 }
 
 /// Runs a script over a tree. If its visits are asked for, they go to a file, or follow the answer.
-fn script_job<H: Files + AllocGlobal, T: Source, S: Source, W: Sink>(
-    rt: &H,
+fn script_job<'a, H: Files + AllocGlobal, T: Source, S: Source, W: Sink>(
+    opener: &Opener<'a, H>,
     tree: &mut T,
     script: &mut S,
-    visits: Option<&str>,
+    visits: Option<&'a str>,
     writer: &mut W,
 ) -> Result<(), Fault>
     ensures written { OnOk result ((all : _) × GoesOut (visits_follow (option_map text_of visits.entry)) (WritesOver (T.Source.remaining tree.old) (S.Source.remaining script.old))
@@ -258,24 +315,31 @@ fn script_job<H: Files + AllocGlobal, T: Source, S: Source, W: Sink>(
     ensures tree_limit { Takes (most_tree_bytes + 1) (T.Source.remaining tree.old) (T.Source.remaining tree.new) }
     ensures script_limit { Takes (most_script_bytes + 1) (S.Source.remaining script.old) (S.Source.remaining script.new) }
 {
-    let alloc = rt.alloc();
+    let (rt, alloc) = (opener.rt, opener.rt.alloc());
     let Some(path) = visits else {
         return script_over(alloc, tree, script, writer);
     };
     if is_standard(path) {
         return script_then_visits(alloc, tree, script, writer);
     }
-    script_with_visits(alloc, tree, script, writer, &mut sink(rt, path))
+    script_with_visits(alloc, tree, script, writer, &mut opener.visits_at(path))
 }
 
 /// Runs a trace over a tree. If its visits are asked for, they go to a file, or follow the report.
-fn run_job<H: Files + AllocGlobal + Threads + Wait, P: Wait + Sync, T: Source, S: Source, W: Sink>(
-    rt: &H,
+fn run_job<
+    'a,
+    H: Files + AllocGlobal + Threads + Wait,
+    P: Wait + Sync,
+    T: Source,
+    S: Source,
+    W: Sink,
+>(
+    opener: &Opener<'a, H>,
     wait: &P,
     tree: &mut T,
     trace: &mut S,
     pace: Pace,
-    visits: Option<&str>,
+    visits: Option<&'a str>,
     writer: &mut W,
 ) -> Result<(), Fault>
     ensures written { OnOk result ((all : _) × GoesOut (visits_follow (option_map text_of visits.entry)) (ReportsOver (T.Source.remaining tree.old) (S.Source.remaining trace.old) pace)
@@ -287,27 +351,34 @@ fn run_job<H: Files + AllocGlobal + Threads + Wait, P: Wait + Sync, T: Source, S
     ensures tree_limit { Takes (most_tree_bytes + 1) (T.Source.remaining tree.old) (T.Source.remaining tree.new) }
     ensures trace_limit { Takes (most_trace_bytes + 1) (S.Source.remaining trace.old) (S.Source.remaining trace.new) }
 {
-    let alloc = rt.alloc();
+    let (rt, alloc) = (opener.rt, opener.rt.alloc());
     let Some(path) = visits else {
         return run_over(rt, alloc, wait, tree, trace, writer, pace);
     };
     if is_standard(path) {
         return run_then_visits(rt, alloc, wait, tree, trace, writer, pace);
     }
-    let mut visits = sink(rt, path);
+    let mut visits = opener.visits_at(path);
     run_with_visits(rt, alloc, wait, tree, trace, writer, pace, &mut visits)
 }
 
 /// Runs a trace through inlets over a tree, and writes its record to a file, if one is named. If its visits are asked for, they go to a
 /// file, or follow the report.
-fn live_job<H: Files + AllocGlobal + Threads + Wait, P: Wait + Sync, T: Source, S: Source, W: Sink>(
-    rt: &H,
+fn live_job<
+    'a,
+    H: Files + AllocGlobal + Threads + Wait,
+    P: Wait + Sync,
+    T: Source,
+    S: Source,
+    W: Sink,
+>(
+    opener: &Opener<'a, H>,
     wait: &P,
     tree: &mut T,
     trace: &mut S,
     pace: Pace,
-    script: Option<&str>,
-    visits: Option<&str>,
+    script: Option<&'a str>,
+    visits: Option<&'a str>,
     writer: &mut W,
 ) -> Result<(), Fault>
     ensures written { OnOk result ((all : _) × (lines : _) × GoesOut (visits_follow (option_map text_of visits.entry))
@@ -322,11 +393,38 @@ fn live_job<H: Files + AllocGlobal + Threads + Wait, P: Wait + Sync, T: Source, 
     ensures trace_limit { Takes (most_trace_bytes + 1) (S.Source.remaining trace.old) (S.Source.remaining trace.new) }
 {
     match (script, visits) {
-        (None, None) => live_to(rt, wait, tree, trace, pace, false, nowhere(), writer),
-        (Some(path), None) => live_to(rt, wait, tree, trace, pace, true, sink(rt, path), writer),
-        (None, Some(rows)) => live_visits_to(rt, wait, tree, trace, pace, nowhere(), rows, writer),
+        (None, None) => live_to(opener.rt, wait, tree, trace, pace, false, nowhere(), writer),
+        (Some(path), None) => live_to(
+            opener.rt,
+            wait,
+            tree,
+            trace,
+            pace,
+            true,
+            opener.record_at(path),
+            writer,
+        ),
+        (None, Some(rows)) => live_visits_to(
+            opener,
+            wait,
+            tree,
+            trace,
+            pace,
+            nowhere(),
+            rows,
+            writer,
+        ),
         (Some(path), Some(rows)) => {
-            live_visits_to(rt, wait, tree, trace, pace, sink(rt, path), rows, writer)
+            live_visits_to(
+                opener,
+                wait,
+                tree,
+                trace,
+                pace,
+                opener.record_at(path),
+                rows,
+                writer,
+            )
         }
     }
 }
@@ -366,6 +464,7 @@ fn live_to<
 
 /// Runs a trace through inlets over a tree. Writes the record to a sink, and the visits of the record to a file or after the report.
 fn live_visits_to<
+    'a,
     H: Files + AllocGlobal + Threads + Wait,
     P: Wait + Sync,
     T: Source,
@@ -373,13 +472,13 @@ fn live_visits_to<
     R: Sink + Drop,
     W: Sink,
 >(
-    rt: &H,
+    opener: &Opener<'a, H>,
     wait: &P,
     tree: &mut T,
     trace: &mut S,
     pace: Pace,
     script: R,
-    visits: &str,
+    visits: &'a str,
     writer: &mut W,
 ) -> Result<(), Fault>
     ensures written { OnOk result ((all : _) × (lines : _) × GoesOut (visits_follow (Some visits.now))
@@ -393,11 +492,12 @@ fn live_visits_to<
     ensures tree_limit { Takes (most_tree_bytes + 1) (T.Source.remaining tree.old) (T.Source.remaining tree.new) }
     ensures trace_limit { Takes (most_trace_bytes + 1) (S.Source.remaining trace.old) (S.Source.remaining trace.new) }
 {
-    let (alloc, mut script) = (rt.alloc(), script);
+    let (rt, alloc) = (opener.rt, opener.rt.alloc());
+    let mut script = script;
     if is_standard(visits) {
         return live_then_visits(rt, alloc, wait, tree, trace, writer, pace, &mut script);
     }
-    let mut visits = sink(rt, visits);
+    let mut visits = opener.visits_at(visits);
     live_with_visits(
         rt,
         alloc,
@@ -414,16 +514,6 @@ fn live_visits_to<
 /// A sink that takes everything and keeps nothing.
 fn nowhere() -> ToWrite<io::Sink> {
     ToWrite::new(io::sink())
-}
-
-/// A source of what the file at a path holds.
-fn source<'a, H: Files>(rt: &'a H, path: &'a str) -> FromRead<FileToRead<'a, H>> {
-    FromRead::new(FileToRead::at(rt, path))
-}
-
-/// A sink that writes to the file at a path.
-fn sink<'a, H: Files>(rt: &'a H, path: &'a str) -> ToWrite<FileToWrite<'a, H>> {
-    ToWrite::new(FileToWrite::at(rt, path))
 }
 
 fn builtin_plan(alloc: Global) -> Result<Plan, Fault>
@@ -448,6 +538,7 @@ fn tell<W: Sink, E: Sink>(
     ensures silent { result ≡ Ok 0 → errors.new ≡ errors.old }
     ensures refused { result ≡ Ok 2 → writer.new ≡ writer.old }
     ensures nothing { IfErr result (λ fault. fault ≢ Write → Keeps (W.Sink.taken writer.old) (W.Sink.taken writer.new)) }
+    ensures untold { IfErr result (λ fault. fault ≢ Write → errors.new ≡ errors.old) }
     ensures fault { IfErr result (λ fault. (fault ≡ Memory) ⊎ (fault ≡ Write)) }
     ensures write_failures { W.Sink.failures writer.new + E.Sink.failures errors.new ≡ write_failures result (W.Sink.failures writer.old + E.Sink.failures errors.old) }
 {

@@ -10,7 +10,7 @@ ghost use Rattle.clk_script.specs.Examples.{failed};
 ghost use Rattle.clk_command.specs.Examples.{IsOneByteEach};
 ghost use Rattle.clk_tree.specs.Plan.{Planned};
 ghost use Rattle.clk_command.specs.Tasks.{GoesOut, IsPlanIn, WasTreeRead, WroteBoth, builtin_text};
-ghost use Rattle.clk_command.specs.Words.{program_words, task_in, builtin, check, lint, over, lint_trace, script, run, live, AreApart, MayClash};
+ghost use Rattle.clk_command.specs.Words.{program_words, task_in, is_explained, builtin, check, lint, over, lint_trace, script, run, live, AreApart, MayClash};
 
 /// What some words ask for, which kinds of error some wrong words cause, and which tasks would overwrite a file of theirs.
 pub fn word_examples()
@@ -25,6 +25,9 @@ pub fn word_examples()
     ensures paces { task_in (codes "run" ∷ codes "T" ∷ codes "--step=10" ∷ codes "R" ∷ codes "--limit" ∷ codes "7" ∷ []) ≡ over (codes "T") (codes "R") (run 10 7 None) }
     ensures lives { task_in (codes "live" ∷ codes "T" ∷ codes "R" ∷ []) ≡ over (codes "T") (codes "R") (live 1 1000 None None) }
     ensures records { task_in (codes "live" ∷ codes "--record" ∷ codes "S" ∷ codes "T" ∷ codes "R" ∷ codes "--step" ∷ codes "3" ∷ codes "--limit=9" ∷ codes "--visits=V" ∷ []) ≡ over (codes "T") (codes "R") (live 3 9 (Some (codes "S")) (Some (codes "V"))) }
+    ensures explains { (is_explained (codes "check" ∷ codes "--explain" ∷ codes "T" ∷ []) ≡ true) × (task_in (codes "check" ∷ codes "--explain" ∷ codes "T" ∷ []) ≡ check (codes "T")) }
+    ensures explains_first { (is_explained (codes "--explain" ∷ codes "check" ∷ codes "T" ∷ []) ≡ true) × (is_explained (codes "--explain" ∷ []) ≡ true) }
+    ensures unexplained { (is_explained [] ≡ false) × (is_explained (codes "check" ∷ codes "T" ∷ []) ≡ false) }
     ensures apart { AreApart (over (codes "T") (codes "-") (live 1 1 (Some (codes "S")) (Some (codes "V")))) }
     ensures not_over_the_script { ¬ (AreApart (over (codes "T") (codes "S") (script (Some (codes "S"))))) }
     ensures not_over_the_tree { ¬ (AreApart (over (codes "T") (codes "R") (run 1 1 (Some (codes "T"))))) }

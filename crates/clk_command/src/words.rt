@@ -1,17 +1,17 @@
 //! The words of the program: its commands, what they ask for, and the help.
 
-ghost use Rattle.std.specs.Prelude.{◌≡◌, ◌≤◌, codes, map, option_map, IfOk};
+ghost use Rattle.std.specs.Prelude.{◌≡◌, ◌≤◌, ◌||◌, codes, map, option_map, IfOk};
 ghost use Rattle.std.specs.String.{string_bytes};
 ghost use Rattle.clap.specs.Faults.{fault_of};
 ghost use Rattle.clap.specs.Kinds.{FailsBy};
 ghost use Rattle.clap.specs.Matches.{found_of};
-ghost use Rattle.clap.specs.Simple.{new_app, subcommand_rows_of};
+ghost use Rattle.clap.specs.Simple.{subcommand_rows_of};
 ghost use Rattle.clap.specs.Walk.{first_of, rows_of};
 ghost use Rattle.clk_gate.specs.Limits.{most_step, most_limit};
-ghost use Rattle.clk_command.specs.Words.{file_word, file_option, optional_word, number_option, top_words, check_words, lint_task, lint_words, script_words, traced_words, run_words, live_words, program_words, number_of, path_of, within_one_and, task, task_of, text_of, task_in, Reads, IsWord};
+ghost use Rattle.clk_command.specs.Words.{file_word, file_option, flag_option, optional_word, number_option, titled_words, explains, explains_below, is_explained, top_words, check_words, lint_task, lint_words, script_words, traced_words, run_words, live_words, program_words, number_of, path_of, within_one_and, task, task_of, text_of, task_in, Reads, IsWord};
 
 use crate::pace::Pace;
-use clap::{Arg, ArgMatches, Command, Error, value_parser};
+use clap::{Arg, ArgAction, ArgMatches, Command, Error, value_parser};
 use clk_drain::{MAX_LIMIT, MAX_STEP};
 use std::alloc::{AllocError, Global};
 
@@ -69,17 +69,38 @@ pub enum Job<'a> {
     },
 }
 
-/// What the words after the program's name ask for.
+/// What the words after the program's name ask for, and whether a fault is to be explained.
 ///
 /// # Errors
 ///
 /// The error that clap returns: the words are wrong, help or the version is asked for, or an allocation failed.
-pub fn asked_by<'a>(alloc: Global, words: &'a [String]) -> Result<Asked<'a>, Error>
-    ensures asked { IfOk result (λ asked. task asked ≡ task_in (map string_bytes words.now)) }
+pub fn asked_by<'a>(alloc: Global, words: &'a [String]) -> Result<(Asked<'a>, bool), Error>
+    ensures asked { IfOk result (λ asked. task asked.0 ≡ task_in (map string_bytes words.now)) }
+    ensures explained { IfOk result (λ asked. asked.1 ≡ is_explained (map string_bytes words.now)) }
     ensures refused { FailsBy (fault_of program_words (map string_bytes words.now)) result }
 {
     let matches = program(alloc)?.try_get_matches_from(words)?;
-    Ok(asked_of(&matches))
+    Ok((asked_of(&matches), is_explained(&matches)))
+}
+
+/// Whether a fault is to be explained, by the words of the program or of its command.
+fn is_explained(matches: &ArgMatches<'_>) -> bool
+    ensures { result ≡ (explains (rows_of (found_of matches.now)) || explains_below (subcommand_rows_of matches.now)) }
+{
+    match matches.subcommand() {
+        Some((_, found)) => explains(matches) || explains(found),
+        None => explains(matches),
+    }
+}
+
+/// Whether a flag asks for an explanation.
+fn explains(matches: &ArgMatches<'_>) -> bool
+    ensures { result ≡ explains (rows_of (found_of matches.now)) }
+{
+    match option_of(matches, EXPLAIN) {
+        Some(value) => value == "true",
+        None => false,
+    }
 }
 
 fn asked_of<'a>(matches: &ArgMatches<'a>) -> Asked<'a>
@@ -186,6 +207,8 @@ fn clamped(number: u32, most: u32) -> u32
     }
 }
 
+const EXPLAIN: &str = "explain";
+
 const TREE: &str = "TREE";
 
 const SCRIPT: &str = "SCRIPT";
@@ -243,17 +266,37 @@ fn program<'a>(alloc: Global) -> Result<Command<'a>, AllocError>
 fn top<'a>(alloc: Global) -> Result<Command<'a>, AllocError>
     ensures { IfOk result (λ c. Reads c top_words) }
 {
-    titled(alloc, "clickpull", ABOUT, MORE)
+    titled(alloc, "clickpull", ABOUT, MORE)?
         .no_binary_name(true)
         .version("0.1.0")
         .bin_name("clickpull")
 }
 
-/// A command with this name, without words, and what help says of it.
-fn titled<'a>(alloc: Global, name: &'a str, about: &'a str, more: &'a str) -> Command<'a>
-    ensures { Reads result (new_app name.now) }
+/// A command with this name, whose only word is `--explain`, and what help says of it.
+fn titled<'a>(
+    alloc: Global,
+    name: &'a str,
+    about: &'a str,
+    more: &'a str,
+) -> Result<Command<'a>, AllocError>
+    ensures { IfOk result (λ c. Reads c (titled_words name.now)) }
 {
-    Command::new(alloc, name).about(about).after_help(more)
+    Command::new(alloc, name)
+        .about(about)
+        .after_help(more)
+        .arg(flag(alloc, EXPLAIN, EXPLAIN_MEANS))
+}
+
+const EXPLAIN_MEANS: &str = "Explain a fault: where it is, what is wrong, and what was expected";
+
+/// An option without a value.
+fn flag<'a>(alloc: Global, name: &'a str, help: &'a str) -> Arg<'a>
+    ensures { IsWord result (flag_option name.now) }
+{
+    Arg::new(alloc, name)
+        .long(name)
+        .action(ArgAction::SetTrue)
+        .help(help)
 }
 
 const TREE_MEANS: &str =
@@ -271,7 +314,7 @@ Example:
 fn check<'a>(alloc: Global) -> Result<Command<'a>, AllocError>
     ensures { IfOk result (λ c. Reads c check_words) }
 {
-    titled(alloc, "check", CHECK_DOES, CHECK_MORE).arg(file(alloc, TREE, TREE_MEANS))
+    titled(alloc, "check", CHECK_DOES, CHECK_MORE)?.arg(file(alloc, TREE, TREE_MEANS))
 }
 
 const LINT_DOES: &str = "Warns of what a tree, or a tree and a trace, may say by mistake";
@@ -296,7 +339,7 @@ Examples:
 fn lint<'a>(alloc: Global) -> Result<Command<'a>, AllocError>
     ensures { IfOk result (λ c. Reads c lint_words) }
 {
-    titled(alloc, "lint", LINT_DOES, LINT_MORE)
+    titled(alloc, "lint", LINT_DOES, LINT_MORE)?
         .arg(file(alloc, TREE, TREE_MEANS))?
         .arg(optional_file(alloc, TRACE, TRACE_MEANS))
 }
@@ -333,7 +376,7 @@ const VISITS_MEANS: &str =
 fn script<'a>(alloc: Global) -> Result<Command<'a>, AllocError>
     ensures { IfOk result (λ c. Reads c script_words) }
 {
-    titled(alloc, "script", SCRIPT_DOES, SCRIPT_MORE)
+    titled(alloc, "script", SCRIPT_DOES, SCRIPT_MORE)?
         .arg(file(alloc, TREE, TREE_MEANS))?
         .arg(file(alloc, SCRIPT, SCRIPT_MEANS))?
         .arg(file_option(alloc, VISITS, VISITS_MEANS))
@@ -417,7 +460,7 @@ fn traced<'a>(
 ) -> Result<Command<'a>, AllocError>
     ensures { IfOk result (λ c. Reads c (traced_words name.now)) }
 {
-    titled(alloc, name, about, more)
+    titled(alloc, name, about, more)?
         .arg(file(alloc, TREE, TREE_MEANS))?
         .arg(file(alloc, TRACE, TRACE_MEANS))?
         .arg(number(alloc, STEP, MAX_STEP, "1", STEP_MEANS))?

@@ -1,7 +1,7 @@
 //! What the program returns and writes for words, over memory in place of standard input, output and error, and over files of the tests.
 
 use crate::files::{assert_left, write_all};
-use clk_command::command;
+use clk_command::{Heard, Recalled, command};
 use clk_packet::{FailingSink, FailingSource, Fault};
 use clk_rows::PRIO_TWO_QUEUES;
 use std::alloc::{AllocError, Global};
@@ -46,7 +46,9 @@ pub fn answer(
     errors_room: usize,
 ) -> Result<Answered, Fault> {
     let alloc = rt.alloc();
-    let mut reader = FailingSource::new(script.to_vec(alloc)?, usize::MAX);
+    let heard = Heard::nothing(alloc);
+    let source = FailingSource::new(script.to_vec(alloc)?, usize::MAX);
+    let mut reader = Recalled::new(source, &heard);
     let mut writer = FailingSink::new(vec![in alloc; 0; room]?);
     let mut errors = FailingSink::new(vec![in alloc; 0; errors_room]?);
     let words = words_of(alloc, words)?;

@@ -81,16 +81,12 @@ const ROWS: [Row; 9] = [
 #[test]
 fn words_are_answered(rt: HostRuntime) {
     fs::create_dir_all(&rt, "out/folder").expect(&rt, "a folder");
-    for rows in [
-        &ROWS[..],
-        &linting::ROWS,
-        &running::ROWS,
-        &living::ROWS,
-        &visits::ROWS,
-        &examples::ROWS,
-    ] {
-        assert_rows(&rt, rows);
-    }
+    assert_rows(&rt, &ROWS);
+    assert_rows(&rt, &linting::ROWS);
+    assert_rows(&rt, &running::ROWS);
+    assert_rows(&rt, &living::ROWS);
+    assert_rows(&rt, &visits::ROWS);
+    assert_rows(&rt, &examples::ROWS);
     // Without its visits an example writes the same text.
     for (files, words, outcome, written, _) in examples::ROWS {
         write_all(&rt, files).expect(&rt, "files");
@@ -118,7 +114,7 @@ const SAID: [Said; 38] = [
         "lint a b c",
         2,
         "error: ",
-        "Usage: clickpull lint <TREE> [TRACE]",
+        "Usage: clickpull lint [OPTIONS] <TREE> [TRACE]",
     ),
     (
         "lint a --visits b",
@@ -171,26 +167,36 @@ const SAID: [Said; 38] = [
     ),
     ("run a b --limit", 2, "error: ", "--limit <N>"),
     ("help frob", 2, "error: ", "unrecognized subcommand 'frob'"),
-    ("--help", 0, "", "Usage: clickpull [COMMAND]"),
+    ("--help", 0, "", "Usage: clickpull [OPTIONS] [COMMAND]"),
     ("-h", 0, "", "clickpull script uplink.click morning.script"),
     ("help", 0, "", "Exit status:"),
     ("--version", 0, "", "clickpull 0.1.0\n"),
     ("-V", 0, "", "clickpull 0.1.0\n"),
-    ("help check", 0, "", "Usage: clickpull check <TREE>"),
+    (
+        "help check",
+        0,
+        "",
+        "Usage: clickpull check [OPTIONS] <TREE>",
+    ),
     (
         "check --help",
         0,
         "",
         "clickpull check uplink.click > uplink.canonical.click",
     ),
-    ("check -h", 0, "", "Usage: clickpull check <TREE>"),
+    ("check -h", 0, "", "Usage: clickpull check [OPTIONS] <TREE>"),
     (
         "lint --help",
         0,
         "",
         "clickpull lint uplink.click morning.trace",
     ),
-    ("lint -h", 0, "", "Usage: clickpull lint <TREE> [TRACE]"),
+    (
+        "lint -h",
+        0,
+        "",
+        "Usage: clickpull lint [OPTIONS] <TREE> [TRACE]",
+    ),
     ("help lint", 0, "", "a queue that nobody sends to"),
     (
         "script --help",

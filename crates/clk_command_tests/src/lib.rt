@@ -14,6 +14,8 @@ mod cut_off;
 #[cfg(test)]
 mod examples;
 #[cfg(test)]
+mod explaining;
+#[cfg(test)]
 mod fault_lines;
 #[cfg(test)]
 mod files;

@@ -1,6 +1,6 @@
 //! Explanations of faults.
 
-ghost use Rattle.std.specs.Prelude.{◌≡◌, ◌≤◌, ◌<◌, ◌+◌, ◌++◌, [], length, map, replicate, codes, decimal};
+ghost use Rattle.std.specs.Prelude.{◌≡◌, ◌≤◌, ◌<◌, ◌+◌, ◌++◌, Some, length, map, replicate};
 ghost use Rattle.arrayvec.specs.ArrayVec.{array_vec_len};
 ghost use Rattle.clk_explain.specs.Position.{line_at, column_at, shown_before, shown_after};
 ghost use Rattle.clk_explain.specs.Explanation.{Explains, wrong_at, heading, source, line_of, shown, filled, place_of};
@@ -8,6 +8,7 @@ ghost use Rattle.clk_explain.specs.Explanation.{Explains, wrong_at, heading, sou
 use crate::limits::{MAX_EXPLANATION, MAX_WORDS};
 use crate::position::{position_of, shown_at};
 use crate::wording::{expected, sentence};
+use crate::words::Words;
 use arrayvec::ArrayVec;
 use clk_packet::Fault;
 use itoa::Buffer;
@@ -58,11 +59,32 @@ impl Explanation {
 pub fn explain(text: &[u8], fault: Fault) -> Explanation
     ensures { Explains text.now fault result }
 {
-    let wrong = sentence(text, fault);
-    let wanted = expected(text, fault);
+    let (wrong, wanted) = (sentence(text, fault), expected(text, fault));
+    match place_of(fault) {
+        Some(offset) => point_out(text, offset as usize, &wrong, &wanted),
+        None => tell(&wrong, &wanted),
+    }
+}
+
+/// Explains what is wrong at an offset of any text: where it is, the line with a caret below the place, what is wrong, and what was expected.
+/// An offset beyond the text counts as its end.
+pub fn point_out(text: &[u8], offset: usize, wrong: &Words, expected: &Words) -> Explanation
+    ensures { result ≡ wrong_at text.now (Some offset) wrong.now ++ line_of expected.now }
+{
     let mut page = ArrayVec::new();
-    add_wrong(&mut page, text, place_of(fault), wrong.as_slice());
-    add_line(&mut page, wanted.as_slice());
+    add_heading(&mut page, text, offset, wrong.as_slice());
+    add_source(&mut page, text, offset);
+    add_line(&mut page, expected.as_slice());
+    Explanation { bytes: page }
+}
+
+/// Explains what is wrong at no place of a text: what is wrong, and what was expected.
+pub fn tell(wrong: &Words, expected: &Words) -> Explanation
+    ensures { result ≡ line_of wrong.now ++ line_of expected.now }
+{
+    let mut page = ArrayVec::new();
+    add_line(&mut page, wrong.as_slice());
+    add_line(&mut page, expected.as_slice());
     Explanation { bytes: page }
 }
 
@@ -88,22 +110,6 @@ fn place_of(fault: Fault) -> Option<u32>
 
 /// An explanation as far as it is written.
 type Page = ArrayVec<u8, MAX_EXPLANATION>;
-
-/// Begins an explanation: what is wrong, and at which byte of the text, if it is at one.
-fn add_wrong(page: &mut Page, text: &[u8], place: Option<u32>, sentence: &[u8])
-    requires none { page.old.items ≡ [] }
-    requires few { length sentence.now ≤ MAX_WORDS }
-    ensures wrong { page.new.items ≡ wrong_at text.now place sentence.now }
-    ensures room { array_vec_len page.new ≤ MAX_WORDS + 300 }
-{
-    match place {
-        None => add_line(page, sentence),
-        Some(offset) => {
-            add_heading(page, text, offset as usize, sentence);
-            add_source(page, text, offset as usize);
-        }
-    }
-}
 
 /// Adds a line with the position of an offset and a sentence.
 fn add_heading(page: &mut Page, text: &[u8], offset: usize, sentence: &[u8])

@@ -1,11 +1,10 @@
 //! A line of words that is put together without an allocation.
 
-ghost use Rattle.std.specs.Prelude.{◌≤◌, length};
-
 use crate::limits::MAX_WORDS;
 use crate::position::position_of;
 use arrayvec::ArrayVec;
 use itoa::Buffer;
+use std::marker::Model;
 
 /// How many bytes of a word are quoted at most.
 const MAX_QUOTED: usize = 40;
@@ -16,7 +15,17 @@ pub struct Words {
     bytes: ArrayVec<u8, MAX_WORDS>,
 }
 
+impl Model for Words {
+    ghost use Rattle.std.specs.Prelude.{List, ℕ};
+
+    ghost Value = { List ℕ };
+
+    ghost view = { λ words. words.bytes.items };
+}
+
 impl Words {
+    ghost use Rattle.std.specs.Prelude.{◌≡◌, ◌≤◌, length};
+
     /// A line of these words.
     pub fn of(text: &str) -> Words {
         Words {
@@ -25,9 +34,10 @@ impl Words {
         .and(text)
     }
 
-    /// What the line has.
+    /// The bytes of the line.
     pub fn as_slice(&self) -> &[u8]
-        ensures { length result.now ≤ MAX_WORDS }
+        ensures bytes { result.now ≡ self.now }
+        ensures few { length result.now ≤ MAX_WORDS }
     {
         self.bytes.as_slice()
     }

@@ -1,6 +1,6 @@
 //! Whole explanations of faults.
 
-use clk_explain::{MAX_EXPLANATION, explain};
+use clk_explain::{MAX_EXPLANATION, MAX_WORDS, Words, explain, point_out, tell};
 use clk_packet::Fault;
 use clk_tree::Plan;
 use std::alloc::Global;
@@ -523,6 +523,31 @@ fn assert_explanation(rt: &impl Abort, text: &[u8], fault: Fault, wanted: &str) 
     assert_eq!(rt; explanation.fill(&mut buffer[..7]), wanted.len());
     assert!(rt; wanted.as_bytes().starts_with(&buffer[..7]));
     assert_eq!(rt; buffer[7], 1);
+}
+
+// What is wrong in a text of another kind is told in words of the caller's. Words beyond the limit of a line are dropped.
+#[test]
+fn places_of_any_text_are_pointed_out(rt: HostRuntime) {
+    let text = b"a\nb\tc";
+    let wrong = Words::of("no ")
+        .and_quoted(b"tree")
+        .and(" as at ")
+        .and_position(text, 2);
+    let expected = Words::of("expected ").and_number(7);
+    assert_eq!(rt;
+        point_out(text, 4, &wrong, &expected).as_slice(),
+        b"2:3: no 'tree' as at 2:1\n    b c\n      ^\nexpected 7\n".as_slice()
+    );
+    assert_eq!(rt;
+        tell(&wrong, &expected).as_slice(),
+        b"no 'tree' as at 2:1\nexpected 7\n".as_slice()
+    );
+    let mut long = Words::of("");
+    for _ in 0..300 {
+        long = long.and("x");
+    }
+    assert_eq!(rt; long.as_slice().len(), MAX_WORDS);
+    assert_eq!(rt; tell(&long, &long).as_slice().len(), 2 * MAX_WORDS + 2);
 }
 
 #[test]

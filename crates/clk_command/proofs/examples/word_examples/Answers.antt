@@ -73,3 +73,15 @@ returns-clause-records c = refl
 pub returns-clause-no_record_of_a_run : goal.returns-clause-no_record_of_a_run
 unfolding clap_on_literals
 returns-clause-no_record_of_a_run c = refl
+
+pub returns-clause-explains : goal.returns-clause-explains
+unfolding clap_on_literals
+returns-clause-explains c = (refl, refl)
+
+pub returns-clause-explains_first : goal.returns-clause-explains_first
+unfolding clap_on_literals
+returns-clause-explains_first c = (refl, refl)
+
+pub returns-clause-unexplained : goal.returns-clause-unexplained
+unfolding clap_on_literals
+returns-clause-unexplained c = (refl, refl)

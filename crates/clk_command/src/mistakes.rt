@@ -1,0 +1,317 @@
+//! What is wrong with a line of a script or a record of a trace, for a person.
+
+use clk_explain::{Explanation, Words, point_out};
+use clk_packet::{MAX_LENGTH, MAX_SENDER, number_in};
+use clk_script::{MAX_DEVICE, MAX_MOMENT};
+
+/// What is wrong at a place of a line.
+#[derive(Drop)]
+struct Mistake {
+    place: usize,
+    wrong: Words,
+    expected: Words,
+}
+
+/// A word of a line, and where it begins.
+#[derive(Clone, Copy)]
+struct Word<'a> {
+    start: usize,
+    letters: &'a [u8],
+}
+
+/// A number that a line may have.
+#[derive(Clone, Copy)]
+struct Field {
+    name: &'static str,
+    least: u64,
+    most: u64,
+    is_optional: bool,
+}
+
+const SENDER: Field = Field {
+    name: "sender",
+    least: 0,
+    most: MAX_SENDER,
+    is_optional: false,
+};
+
+const LENGTH: Field = Field {
+    name: "length",
+    least: 1,
+    most: MAX_LENGTH,
+    is_optional: false,
+};
+
+const MOMENT: Field = Field {
+    name: "moment",
+    least: 0,
+    most: MAX_MOMENT,
+    is_optional: false,
+};
+
+const DEVICE: Field = Field {
+    name: "device",
+    least: 0,
+    most: MAX_DEVICE,
+    is_optional: true,
+};
+
+const COMMANDS: &str =
+    "expected 'send SENDER LENGTH', 'pull MOMENT', 'pull MOMENT DEVICE' or 'drain MOMENT'";
+
+/// The three bytes of a byte order mark.
+const MARK: &[u8] = b"\xef\xbb\xbf";
+
+/// Explains why a line of a script, counted from 1, is no command.
+pub fn explain_line(text: &[u8], line: u32) -> Explanation {
+    let start = line_start(text, line);
+    let (before, rest) = text.split_at(start.min(text.len()));
+    let mistake = mistake_in_line(row_of(rest), has_drain(before));
+    point_out(
+        text,
+        start.saturating_add(mistake.place),
+        &mistake.wrong,
+        &mistake.expected,
+    )
+}
+
+/// Explains why a record of a trace, counted from 1, is no sender and length. `None` if the trace has quotes, since a record may go over
+/// several lines then.
+pub fn explain_record(text: &[u8], record: u32) -> Option<Explanation> {
+    if text.contains(&b'"') {
+        return None;
+    }
+    let start = record_start(text, record);
+    let (_, rest) = text.split_at(start.min(text.len()));
+    let mistake = mistake_in_record(row_of(rest));
+    Some(point_out(
+        text,
+        start.saturating_add(mistake.place),
+        &mistake.wrong,
+        &mistake.expected,
+    ))
+}
+
+/// Where a line of a text begins, counted from 1, or where the text ends if it has fewer lines.
+fn line_start(text: &[u8], line: u32) -> usize {
+    let mut left = line;
+    for (place, byte) in text.iter().enumerate() {
+        if left <= 1 {
+            return place;
+        }
+        if *byte == b'\n' {
+            left -= 1;
+        }
+    }
+    text.len()
+}
+
+/// Where a record of a text begins, counted from 1, or where the text ends if it has fewer records. Empty lines and a byte order mark at the
+/// front are skipped.
+fn record_start(text: &[u8], record: u32) -> usize {
+    let mark = if text.starts_with(MARK) { 3 } else { 0 };
+    let (mut left, mut is_inside) = (record, false);
+    for (place, byte) in text.iter().enumerate() {
+        let is_skipped = place < mark || ends_row(*byte);
+        if !is_skipped && !is_inside {
+            if left <= 1 {
+                return place;
+            }
+            left -= 1;
+        }
+        is_inside = !is_skipped;
+    }
+    text.len()
+}
+
+/// Whether a byte ends a line.
+fn ends_row(byte: u8) -> bool {
+    byte == b'\n' || byte == b'\r'
+}
+
+/// What stands at the front of a text up to the end of its line.
+fn row_of(text: &[u8]) -> &[u8] {
+    front(text, text.iter().position(|byte| ends_row(*byte)))
+}
+
+/// So many bytes at the front of a text, or all of it.
+fn front(text: &[u8], len: Option<usize>) -> &[u8] {
+    match len {
+        Some(len) => text.get(..len).unwrap_or(text),
+        None => text,
+    }
+}
+
+/// The word that begins at a place of a line, or behind it after blanks. It is empty at the end of the line.
+fn word_from(row: &[u8], place: usize) -> Word<'_> {
+    let rest = row.get(place..).unwrap_or(&[]);
+    let gap = front(rest, rest.iter().position(|byte| !is_blank(*byte))).len();
+    let rest = rest.get(gap..).unwrap_or(&[]);
+    Word {
+        start: place.saturating_add(gap),
+        letters: front(rest, rest.iter().position(|byte| is_blank(*byte))),
+    }
+}
+
+/// Whether a byte separates words.
+fn is_blank(byte: u8) -> bool {
+    byte == b' ' || byte == b'\t'
+}
+
+/// Whether a line of a text drains.
+fn has_drain(text: &[u8]) -> bool {
+    text.split(|byte| *byte == b'\n')
+        .any(|row| word_from(row, 0).letters == b"drain".as_slice())
+}
+
+/// What is wrong with a line of a script.
+fn mistake_in_line(row: &[u8], is_drained: bool) -> Mistake {
+    let command = word_from(row, 0);
+    if is_drained {
+        return at(
+            command,
+            Words::of("a drain ends a script"),
+            Words::of("expected blank lines after it"),
+        );
+    }
+    match command.letters {
+        b"send" => mistake_in_numbers(row, command, &[SENDER, LENGTH]),
+        b"pull" => mistake_in_numbers(row, command, &[MOMENT, DEVICE]),
+        b"drain" => mistake_in_numbers(row, command, &[MOMENT]),
+        letters if letters.starts_with(b"#") || letters.starts_with(b"//") => {
+            at(
+                command,
+                Words::of("a script has no comments"),
+                Words::of(COMMANDS),
+            )
+        }
+        letters => at(
+            command,
+            Words::of("").and_quoted(letters).and(" is no command"),
+            Words::of(COMMANDS),
+        ),
+    }
+}
+
+/// What is wrong with the numbers behind a command.
+fn mistake_in_numbers(row: &[u8], command: Word<'_>, fields: &[Field]) -> Mistake {
+    let mut last = command;
+    for field in fields {
+        let word = word_from(row, end_of(last));
+        if word.letters.is_empty() && !field.is_optional {
+            return at(
+                word,
+                Words::of("")
+                    .and_quoted(command.letters)
+                    .and(" lacks its ")
+                    .and(field.name),
+                range_of(*field),
+            );
+        }
+        if word.letters.is_empty() {
+            break;
+        }
+        if !is_in(word, *field) {
+            return no_number(word, *field);
+        }
+        last = word;
+    }
+    let extra = word_from(row, end_of(last));
+    if extra.letters.is_empty() {
+        return at(
+            last,
+            Words::of("the tree has no device ").and_quoted(last.letters),
+            Words::of("expected the number of a device, from 0 in order of declaration"),
+        );
+    }
+    at(
+        extra,
+        Words::of("")
+            .and_quoted(extra.letters)
+            .and(" is a word too many"),
+        Words::of("expected the end of the line"),
+    )
+}
+
+/// What is wrong with a record of a trace.
+fn mistake_in_record(row: &[u8]) -> Mistake {
+    let sender = field_from(row, 0);
+    if !is_in(sender, SENDER) {
+        return no_number(sender, SENDER);
+    }
+    let comma = end_of(sender);
+    if comma >= row.len() {
+        let end = Word {
+            start: comma,
+            letters: &[],
+        };
+        return at(
+            end,
+            Words::of("the record lacks its length"),
+            range_of(LENGTH),
+        );
+    }
+    let length = field_from(row, comma.saturating_add(1));
+    if !is_in(length, LENGTH) {
+        return no_number(length, LENGTH);
+    }
+    let end = Word {
+        start: end_of(length),
+        letters: &[],
+    };
+    at(
+        end,
+        Words::of("the record has more than two fields"),
+        Words::of("expected its end"),
+    )
+}
+
+/// The field of a record that begins at a place of its line.
+fn field_from(row: &[u8], place: usize) -> Word<'_> {
+    let rest = row.get(place..).unwrap_or(&[]);
+    Word {
+        start: place,
+        letters: front(rest, rest.iter().position(|byte| *byte == b',')),
+    }
+}
+
+/// Where a word ends.
+fn end_of(word: Word<'_>) -> usize {
+    word.start.saturating_add(word.letters.len())
+}
+
+/// A mistake at a word.
+fn at(word: Word<'_>, wrong: Words, expected: Words) -> Mistake {
+    Mistake {
+        place: word.start,
+        wrong,
+        expected,
+    }
+}
+
+/// Whether a word is a number that a field may have. No field may have more than the last moment.
+fn is_in(word: Word<'_>, field: Field) -> bool {
+    number_in(word.letters, field.least, field.most.min(MAX_MOMENT)).is_some()
+}
+
+/// A word is not the number that stands there.
+fn no_number(word: Word<'_>, field: Field) -> Mistake {
+    at(
+        word,
+        Words::of("")
+            .and_quoted(word.letters)
+            .and(" is no ")
+            .and(field.name),
+        range_of(field),
+    )
+}
+
+/// The numbers that a field may have.
+fn range_of(field: Field) -> Words {
+    Words::of("expected a ")
+        .and(field.name)
+        .and(" from ")
+        .and_number(field.least as usize)
+        .and(" to ")
+        .and_number(field.most as usize)
+}

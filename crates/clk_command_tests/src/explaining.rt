@@ -1,0 +1,343 @@
+//! Faults that are explained.
+
+use crate::answer::{AMPLE, answer};
+use crate::files::write_all;
+use clk_packet::Fault;
+use std::fs;
+use std::process::Abort;
+use std::rt::Files;
+use std::sync::Wait;
+use std::thread::Threads;
+
+const TREE: &str = "s :: Sender(0); q :: Queue(2); d :: ToDevice(link); s -> q -> d;";
+
+/// Words, what stands on standard input, their fault, and how it is explained.
+type Explained = (&'static str, &'static str, Fault, &'static str);
+
+const OF_TREES: [Explained; 6] = [
+    (
+        "check --explain out/wrong.click",
+        "",
+        Fault::UnknownName { offset: 54 },
+        "out/wrong.click:2:9: no element has the name 'e'
+    s -> q; e -> d;
+            ^
+expected a declaration of it
+",
+    ),
+    (
+        "check --explain -",
+        "q :: Que;",
+        Fault::UnknownClass { offset: 5 },
+        "standard input:1:6: there is no class 'Que'
+    q :: Que;
+         ^
+",
+    ),
+    (
+        "--explain lint -",
+        "",
+        Fault::NoDevice,
+        "standard input: no ToDevice is declared
+expected a link, as in 'uplink :: ToDevice(eth0);'
+",
+    ),
+    (
+        "script out/bad.click none.script --explain",
+        "",
+        Fault::UnknownClass { offset: 5 },
+        "out/bad.click:1:6: there is no class 'Que'
+",
+    ),
+    (
+        "run --explain out/bad.click none.trace",
+        "",
+        Fault::UnknownClass { offset: 5 },
+        "out/bad.click:1:6: there is no class 'Que'
+",
+    ),
+    (
+        "live - none.trace --explain",
+        "?",
+        Fault::BadText { offset: 0 },
+        "standard input:1:1: no word or mark begins with '?'
+    ?
+    ^
+expected a name
+",
+    ),
+];
+
+const COMMANDS: &str =
+    "expected 'send SENDER LENGTH', 'pull MOMENT', 'pull MOMENT DEVICE' or 'drain MOMENT'\n";
+
+/// Scripts over a tree with one device, their wrong lines, and how these are explained.
+const OF_SCRIPTS: [(&str, u32, &str); 16] = [
+    (
+        "send 0 10\n sned 0 10",
+        2,
+        "2:2: 'sned' is no command\n     sned 0 10\n     ^\n",
+    ),
+    (
+        "# begin\n",
+        1,
+        "1:1: a script has no comments\n    # begin\n    ^\n",
+    ),
+    ("\n\r\n// begin", 3, "3:1: a script has no comments\n"),
+    (
+        "send",
+        1,
+        "1:5: 'send' lacks its sender\n    send\n        ^\nexpected a sender from 0 to 65535\n",
+    ),
+    (
+        "send 0 \r\n",
+        1,
+        "1:8: 'send' lacks its length\n    send 0 \n           ^\nexpected a length from 1 to 65535\n",
+    ),
+    (
+        "send 65536 10",
+        1,
+        "1:6: '65536' is no sender\n    send 65536 10\n         ^\nexpected a sender from 0 to 65535\n",
+    ),
+    (
+        "send\t0\t0",
+        1,
+        "1:8: '0' is no length\n    send 0 0\n           ^\nexpected a length from 1 to 65535\n",
+    ),
+    (
+        "pull 0\npull x",
+        2,
+        "2:6: 'x' is no moment\n    pull x\n         ^\nexpected a moment from 0 to 1099511627775\n",
+    ),
+    (
+        "pull 1099511627776",
+        1,
+        "1:6: '1099511627776' is no moment\n",
+    ),
+    (
+        "pull",
+        1,
+        "1:5: 'pull' lacks its moment\n    pull\n        ^\nexpected a moment from 0 to 1099511627775\n",
+    ),
+    (
+        "pull 0 1",
+        1,
+        "1:8: the tree has no device '1'\n    pull 0 1\n           ^\nexpected the number of a device, from 0 in order of declaration\n",
+    ),
+    (
+        "pull 0 -1",
+        1,
+        "1:8: '-1' is no device\n    pull 0 -1\n           ^\nexpected a device from 0 to 65535\n",
+    ),
+    (
+        "pull 0 0 0",
+        1,
+        "1:10: '0' is a word too many\n    pull 0 0 0\n             ^\nexpected the end of the line\n",
+    ),
+    (
+        "drain",
+        1,
+        "1:6: 'drain' lacks its moment\n    drain\n         ^\nexpected a moment from 0 to 1099511627775\n",
+    ),
+    (
+        "drain 0 0",
+        1,
+        "1:9: '0' is a word too many\n    drain 0 0\n            ^\nexpected the end of the line\n",
+    ),
+    (
+        "drain 0\n\npull 0",
+        3,
+        "3:1: a drain ends a script\n    pull 0\n    ^\nexpected blank lines after it\n",
+    ),
+];
+
+/// Traces, their wrong records, and how these are explained.
+const OF_TRACES: [(&str, u32, &str); 9] = [
+    (
+        "0,10\nx,10\n",
+        2,
+        "2:1: 'x' is no sender\n    x,10\n    ^\nexpected a sender from 0 to 65535\n",
+    ),
+    (
+        "\n\n0,10\r\n\r\n0,0",
+        2,
+        "5:3: '0' is no length\n    0,0\n      ^\nexpected a length from 1 to 65535\n",
+    ),
+    (
+        "0",
+        1,
+        "1:2: the record lacks its length\n    0\n     ^\nexpected a length from 1 to 65535\n",
+    ),
+    (
+        "0,",
+        1,
+        "1:3: '' is no length\n    0,\n      ^\nexpected a length from 1 to 65535\n",
+    ),
+    (
+        "0,10,20",
+        1,
+        "1:5: the record has more than two fields\n    0,10,20\n        ^\nexpected its end\n",
+    ),
+    ("0, 10", 1, "1:3: ' 10' is no length\n"),
+    ("65536,10", 1, "1:1: '65536' is no sender\n"),
+    (
+        "\u{feff}0,65536",
+        1,
+        "1:6: '65536' is no length\n    ???0,65536\n         ^\nexpected a length from 1 to 65535\n",
+    ),
+    (
+        "\"0\",10\n0,10\n0,\"x\"",
+        3,
+        " record 3 of the trace is wrong\nexpected a sender from 0 to 65535 and a length from 1 to 65535\n",
+    ),
+];
+
+/// Faults of files, of senders and of what is too large. What the system says of a file is left out.
+const OF_THE_REST: [Explained; 8] = [
+    (
+        "check --explain none.click",
+        "",
+        Fault::Read,
+        "none.click: ",
+    ),
+    (
+        "script --explain out/sound.click out/folder",
+        "",
+        Fault::Read,
+        "out/folder: ",
+    ),
+    (
+        "script --explain out/sound.click - --visits out/folder",
+        "pull 0",
+        Fault::Write,
+        "out/folder: ",
+    ),
+    (
+        "live --explain out/sound.click - --record out/folder",
+        "0,10",
+        Fault::Write,
+        "out/folder: ",
+    ),
+    (
+        "live --explain --visits out/folder out/sound.click -",
+        "0,10",
+        Fault::Write,
+        "out/folder: ",
+    ),
+    (
+        "script --explain out/sound.click -",
+        "send 7 10",
+        Fault::UnknownSender { sender: 7 },
+        "standard input: the tree has no Sender(7)\nexpected the number of a Sender of the tree\n",
+    ),
+    (
+        "run --explain out/sound.click -",
+        "8,10\n7,10\n",
+        Fault::UnknownSender { sender: 7 },
+        "standard input: the tree has no Sender(7)\n",
+    ),
+    (
+        "live --explain out/sound.click - --record out/unmade.script --limit 1000000",
+        "",
+        Fault::TooLarge,
+        "standard input: a record of this run could have too many lines\nexpected at most 1000000, one for each packet and for each of --limit pulls of each device, and one more\n",
+    ),
+];
+
+/// The files of the tests.
+const FILES: [(&str, &str); 3] = [
+    ("out/sound.click", TREE),
+    (
+        "out/wrong.click",
+        "s :: Sender(0); q :: Queue; d :: ToDevice(l);\ns -> q; e -> d;\n",
+    ),
+    ("out/bad.click", "q :: Que;"),
+];
+
+#[test]
+fn faults_of_trees_are_explained(rt: HostRuntime) {
+    write_all(&rt, &FILES).expect(&rt, "files");
+    for (words, given, fault, told) in OF_TREES {
+        assert_explained(&rt, words, given, fault, told);
+    }
+}
+
+#[test]
+fn wrong_lines_are_explained(rt: HostRuntime) {
+    write_all(&rt, &FILES).expect(&rt, "files");
+    let words = "script --explain out/sound.click -";
+    for (script, line, told) in OF_SCRIPTS {
+        assert_located(&rt, words, script, Fault::BadScript { line }, told);
+    }
+    // The built-in tree too has a script.
+    let told = "standard input:1:1: 'x' is no command\n    x\n    ^\n";
+    assert_explained(&rt, "--explain", "x", Fault::BadScript { line: 1 }, told);
+}
+
+#[test]
+fn wrong_records_are_explained(rt: HostRuntime) {
+    write_all(&rt, &FILES).expect(&rt, "files");
+    for (trace, row, told) in OF_TRACES {
+        for words in [
+            "run --explain out/sound.click -",
+            "lint out/sound.click - --explain",
+        ] {
+            assert_located(&rt, words, trace, Fault::BadTrace { row }, told);
+        }
+    }
+}
+
+#[test]
+fn other_faults_are_explained(rt: HostRuntime) {
+    fs::create_dir_all(&rt, "out/folder").expect(&rt, "a folder");
+    write_all(&rt, &FILES).expect(&rt, "files");
+    for (words, given, fault, told) in OF_THE_REST {
+        let answered = answer(&rt, words, given.as_bytes(), AMPLE, AMPLE).expect(
+            &rt,
+            "ample memory",
+        );
+        assert_eq!(rt; answered.outcome, Err(fault), "at {words}");
+        assert!(rt; answered.told.starts_with(told.as_bytes()), "at {words}");
+    }
+}
+
+// What the explanation goes to may fail anywhere. The fault stays, and nothing else is written.
+#[test]
+fn an_explanation_may_be_cut_off(rt: HostRuntime) {
+    write_all(&rt, &FILES).expect(&rt, "files");
+    let words = "check --explain out/bad.click";
+    for room in 0..100 {
+        let answered = answer(&rt, words, b"", AMPLE, room).expect(&rt, "ample memory");
+        assert_eq!(rt; answered.outcome, Err(Fault::UnknownClass { offset: 5 }));
+        assert_eq!(rt; answered.told.len(), room);
+        assert!(rt; answered.written.is_empty());
+    }
+}
+
+/// Fails unless words have this fault, and what is wrong on standard input is explained so.
+fn assert_located(
+    rt: &(impl Files + AllocGlobal + Threads + Wait + Sync + Abort),
+    words: &str,
+    given: &str,
+    fault: Fault,
+    told: &str,
+) {
+    let told = format!(in rt.alloc(); "standard input:{told}").expect(rt, "ample memory");
+    assert_explained(rt, words, given, fault, &told);
+}
+
+/// Fails unless words have a fault, write nothing else, and explain it in words that begin so.
+fn assert_explained(
+    rt: &(impl Files + AllocGlobal + Threads + Wait + Sync + Abort),
+    words: &str,
+    given: &str,
+    fault: Fault,
+    told: &str,
+) {
+    let answered = answer(rt, words, given.as_bytes(), AMPLE, AMPLE).expect(rt, "ample memory");
+    assert_eq!(rt; answered.outcome, Err(fault), "at {words}");
+    assert!(rt; answered.written.is_empty(), "at {words}");
+    let all = answered.told.as_slice();
+    let front = all.get(..told.len()).unwrap_or(all);
+    assert_eq!(rt; front, told.as_bytes(), "at {words}");
+}
