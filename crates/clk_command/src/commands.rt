@@ -64,15 +64,15 @@ use std::thread::Threads;
 /// it exists, it is another file.
 ///
 /// With `--explain` a fault is explained on `errors`: in which file and where in it, the line with a caret, what is wrong, and what was
-/// expected. If `errors` fails then, the fault is returned as ever. A fault of a text on `reader` is explained only if `reader` is
-/// `Recalled`.
+/// expected. If `errors` fails then, the fault is returned as ever. A line of a text on `reader` is shown only if `reader` keeps what it
+/// gave (`Recalls`).
 ///
 /// `rt` has the files and starts the threads, and `wait` waits for queues.
 ///
 /// # Errors
 ///
 /// Fault 1 if an allocation fails or a thread can't be started. Fault 19 if a file can't be opened, or if it or `reader` can't be read.
-/// Fault 20 if `writer` or `errors` fails or, after the whole answer, FILE can't be created or written. Otherwise the faults of the tree,
+/// Fault 20 if `writer` fails, or `errors` with status 2, or if, after the whole answer, FILE can't be created or written. Otherwise the faults of the tree,
 /// and then those of the script, or of the trace and its run or its senders. With `live`, the FILE of `--record` may have a front of the record at any
 /// fault.
 pub fn command<
@@ -142,9 +142,10 @@ pub fn command<
                 return Ok(0);
             };
             if explained {
+                let path = input_of(asked).unwrap_or("");
                 let inputs = Inputs {
                     tree: heard_at(tree_of(asked), reader.heard(), &tree),
-                    input: heard_at(input_of(asked), reader.heard(), &input),
+                    input: heard_at(path, reader.heard(), &input),
                 };
                 // A failed write changes nothing about the fault.
                 let _ = explain_fault(rt.alloc(), asked, inputs, failure.get(), fault, errors);

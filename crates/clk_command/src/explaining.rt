@@ -7,7 +7,9 @@ ghost use Rattle.clk_packet.specs.declared.fault.Fault.TheVariants.{Write};
 use crate::apart::is_standard;
 use crate::files::{Failure, Purpose};
 use crate::heard::Heard;
-use crate::mistakes::{explain_line, explain_record};
+use crate::mistakes::{
+    explain_line, explain_record, explain_recorded, explain_sent, has_too_many_records,
+};
 use crate::words::{Asked, Job};
 use clk_explain::{Explanation, Words, explain, tell};
 use clk_packet::{Fault, MAX_RECORDS, MAX_TRACE_BYTES, Sink, write_all};
@@ -53,27 +55,34 @@ pub fn explain_fault<E: Sink>(
                 errors,
             )
         }
-        Fault::Memory | Fault::TooManyPulls { .. } | Fault::Unsettled { .. } => {
+        Fault::Memory => {
+            let page = tell(
+                &Words::of("an allocation failed, or a thread couldn't be started"),
+                &Words::of("expected more memory, or room for another thread"),
+            );
+            write_all(errors, page.as_slice())
+        }
+        Fault::TooManyPulls { .. } | Fault::Unsettled { .. } => {
             write_all(errors, explain(&[], fault).as_slice())
         }
-        Fault::UnknownSender { .. } => {
-            write_at(input_of(asked), ": ", &explain(&[], fault), errors)
-        }
-        Fault::BadScript { .. } | Fault::BadTrace { .. } => {
-            explain_input(asked, inputs.input, fault, errors)
-        }
-        Fault::TooLarge if was_read(inputs.input) => {
-            explain_input(asked, inputs.input, fault, errors)
-        }
-        _ => explain_tree(asked, inputs.tree, fault, errors),
+        _ => match input_of(asked) {
+            Some(path) if is_of_input(fault, inputs.input) => {
+                explain_input(asked, path, inputs.input, fault, errors)
+            }
+            _ => explain_tree(asked, inputs.tree, fault, errors),
+        },
     }
 }
 
-/// Whether a second input was read. One that can't be kept may have been.
-fn was_read(input: Option<&Heard>) -> bool {
-    match input {
-        Some(heard) => heard.is_read(),
-        None => true,
+/// Whether a fault is that of a second input, and not of the tree. An input that can't be kept may have been read.
+fn is_of_input(fault: Fault, input: Option<&Heard>) -> bool {
+    match fault {
+        Fault::BadScript { .. } | Fault::BadTrace { .. } | Fault::UnknownSender { .. } => true,
+        Fault::TooLarge => match input {
+            Some(heard) => heard.is_read(),
+            None => true,
+        },
+        _ => false,
     }
 }
 
@@ -100,9 +109,10 @@ fn explain_tree<E: Sink>(
     write_at(tree_of(asked), mark, &explain(&text, fault), errors)
 }
 
-/// Explains the fault of a script or a trace, if its text was kept.
+/// Explains the fault of a script or a trace. If its text wasn't kept, no line of it is shown.
 fn explain_input<E: Sink>(
     asked: Asked<'_>,
+    path: &str,
     input: Option<&Heard>,
     fault: Fault,
     errors: &mut E,
@@ -110,24 +120,73 @@ fn explain_input<E: Sink>(
     ensures fault { IfErr result (λ fault. fault ≡ Write) }
     ensures write_failures { E.Sink.failures errors.new ≡ write_failures result (E.Sink.failures errors.old) }
 {
-    let Some(heard) = input else {
-        return Ok(());
-    };
-    let Some(text) = heard.text() else {
-        return Ok(());
-    };
+    if let Some(heard) = input {
+        if let Some(text) = heard.text() {
+            return explain_text(asked, path, &text, fault, errors);
+        }
+    }
+    write_at(path, ": ", &explain(&[], fault), errors)
+}
+
+/// Explains the fault of the text of a script or a trace.
+fn explain_text<E: Sink>(
+    asked: Asked<'_>,
+    path: &str,
+    text: &[u8],
+    fault: Fault,
+    errors: &mut E,
+) -> Result<(), Fault>
+    ensures fault { IfErr result (λ fault. fault ≡ Write) }
+    ensures write_failures { E.Sink.failures errors.new ≡ write_failures result (E.Sink.failures errors.old) }
+{
     let placed = match fault {
-        Fault::BadScript { line } => Some(explain_line(&text, line)),
-        Fault::BadTrace { row } => explain_record(&text, row),
+        Fault::BadScript { line } => Some(explain_line(text, line)),
+        Fault::BadTrace { row } => explain_record(text, row),
+        Fault::UnknownSender { sender } if has_script(asked) => explain_sent(text, sender),
+        Fault::UnknownSender { sender } => explain_recorded(text, sender),
         _ => None,
     };
     match (placed, fault) {
-        (Some(page), _) => write_at(input_of(asked), ":", &page, errors),
-        (None, Fault::TooLarge) => {
-            write_at(input_of(asked), ": ", &too_large(asked, &text), errors)
+        (Some(page), _) => write_at(path, ":", &page, errors),
+        (None, Fault::TooLarge) if is_record(asked, text) => {
+            let page = tell(
+                &Words::of("the record of this run could have more than ")
+                    .and_number(MAX_LINES as usize)
+                    .and(" lines"),
+                &Words::of(
+                    "expected fewer packets, or a lower --limit: a record has a line for each packet, --limit lines for each device, and the drain",
+                ),
+            );
+            write_all(errors, page.as_slice())
         }
-        (None, _) => write_at(input_of(asked), ": ", &explain(&[], fault), errors),
+        (None, Fault::TooLarge) => write_at(path, ": ", &too_large(asked, text), errors),
+        (None, _) => write_at(path, ": ", &explain(&[], fault), errors),
     }
+}
+
+/// Whether the second input of a task is a script, and not a trace.
+fn has_script(asked: Asked<'_>) -> bool {
+    matches!(
+        asked,
+        Asked::Builtin
+            | Asked::Over {
+                job: Job::Script { .. },
+                ..
+            }
+    )
+}
+
+/// Whether the record of a run is what is too large, and not its trace.
+fn is_record(asked: Asked<'_>, trace: &[u8]) -> bool {
+    let Asked::Over {
+        job: Job::Live { record, visits, .. },
+        ..
+    } = asked
+    else {
+        return false;
+    };
+    let is_recorded = record.is_some() || visits.is_some();
+    is_recorded && trace.len() <= MAX_TRACE_BYTES && !has_too_many_records(trace)
 }
 
 /// The path of the tree of a task.
@@ -138,19 +197,20 @@ pub fn tree_of<'a>(asked: Asked<'a>) -> &'a str {
     }
 }
 
-/// The path of the second input of a task.
-pub fn input_of<'a>(asked: Asked<'a>) -> &'a str {
+/// The path of the second input of a task, if it has one.
+pub fn input_of<'a>(asked: Asked<'a>) -> Option<&'a str> {
     match asked {
-        Asked::Over { input, .. } => input,
-        _ => "-",
+        Asked::Builtin => Some("-"),
+        Asked::Over { input, .. } => Some(input),
+        _ => None,
     }
 }
 
 /// The path of a file of a task.
 fn path_of<'a>(asked: Asked<'a>, purpose: Purpose) -> &'a str {
     let written = match (purpose, asked) {
-        (Purpose::Tree, _) => return tree_of(asked),
-        (Purpose::Input, _) => return input_of(asked),
+        (Purpose::Tree, _) => Some(tree_of(asked)),
+        (Purpose::Input, _) => input_of(asked),
         (
             Purpose::Record,
             Asked::Over {
@@ -207,58 +267,37 @@ fn write_failure<E: Sink>(
     };
     write_all(errors, path_of(asked, failure.purpose).as_bytes())?;
     let error = failure.error;
-    if let Ok(reason) = format!(in alloc; ": {error}") {
-        write_all(errors, reason.as_bytes())?;
+    match format!(in alloc; ": {error}") {
+        Ok(reason) => write_all(errors, reason.as_bytes())?,
+        Err(_) => write_all(errors, b": it failed")?,
     }
     write_all(errors, b"\n")
 }
 
 /// What is too large about a script or a trace, and the limit.
 fn too_large(asked: Asked<'_>, text: &[u8]) -> Explanation {
-    match asked {
-        Asked::Over {
-            job: Job::Live { .. },
-            ..
-        } if text.len() <= MAX_TRACE_BYTES && rows_in(text) <= MAX_RECORDS as usize => tell(
-            &Words::of("a record of this run could have too many lines"),
-            &Words::of("expected at most ")
-                .and_number(MAX_LINES as usize)
-                .and(
-                    ", one for each packet and for each of --limit pulls of each device, and one more",
-                ),
-        ),
-        Asked::Builtin
-        | Asked::Over {
-            job: Job::Script { .. },
-            ..
-        } => limits(
-            "the script is too large",
-            MAX_LINES as usize,
-            " lines and ",
+    let (name, bytes, rows, of_rows) = if has_script(asked) {
+        (
+            "the script has more than ",
             MAX_SCRIPT_BYTES,
-        ),
-        _ => limits(
-            "the trace is too large",
-            MAX_RECORDS as usize,
-            " records and ",
+            MAX_LINES,
+            " lines",
+        )
+    } else {
+        (
+            "the trace has more than ",
             MAX_TRACE_BYTES,
-        ),
-    }
-}
-
-/// What is too large, and its limits in rows and bytes.
-fn limits(wrong: &str, rows: usize, of_rows: &str, bytes: usize) -> Explanation {
-    let expected = Words::of("expected at most ")
-        .and_number(rows)
-        .and(of_rows)
-        .and_number(bytes)
-        .and(" bytes");
-    tell(&Words::of(wrong), &expected)
-}
-
-/// How many lines of a text are not empty.
-fn rows_in(text: &[u8]) -> usize {
-    text.split(|byte| *byte == b'\n')
-        .filter(|row| !row.is_empty())
-        .count()
+            MAX_RECORDS,
+            " records",
+        )
+    };
+    let (most, unit) = if text.len() > bytes {
+        (bytes, " bytes")
+    } else {
+        (rows as usize, of_rows)
+    };
+    tell(
+        &Words::of(name).and_number(most).and(unit),
+        &Words::of("expected no more than that"),
+    )
 }

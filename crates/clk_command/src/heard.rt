@@ -24,12 +24,20 @@ impl Heard {
         }
     }
 
-    /// Keeps what the source gives from now on.
+    /// Keeps what the source gives from now on, and forgets what it gave before.
     pub fn keep(&self) {
-        self.is_kept.set(true);
+        self.is_read.set(false);
+        let is_empty = match self.text.try_borrow_mut() {
+            Ok(mut text) => {
+                text.clear();
+                true
+            }
+            Err(_) => false,
+        };
+        self.is_kept.set(is_empty);
     }
 
-    /// Whether the source was read.
+    /// Whether the source was read since then.
     pub fn is_read(&self) -> bool {
         self.is_read.get()
     }
@@ -44,7 +52,6 @@ impl Heard {
 
     /// Keeps what the source gave, if it is to be kept. Without memory nothing more is kept.
     fn add(&self, bytes: &[u8]) {
-        self.is_read.set(true);
         if !self.is_kept.get() {
             return;
         }
@@ -89,7 +96,7 @@ impl<'a, S: Source> Source for Recalled<'a, S> {
     ghost failures = { λ s. S.Source.failures s.source };
 
     fn read(&mut self, buf: &mut [u8]) -> Result<usize, Failed> {
-        self.heard.add(&[]);
+        self.heard.is_read.set(true);
         let count = self.source.read(buf)?;
         let (given, _) = buf.split_at(count);
         self.heard.add(given);

@@ -1,7 +1,7 @@
 //! What is wrong with a line of a script or a record of a trace, for a person.
 
 use clk_explain::{Explanation, Words, point_out};
-use clk_packet::{MAX_LENGTH, MAX_SENDER, number_in};
+use clk_packet::{MAX_LENGTH, MAX_RECORDS, MAX_SENDER, number_in};
 use clk_script::{MAX_DEVICE, MAX_MOMENT};
 
 /// What is wrong at a place of a line.
@@ -57,39 +57,73 @@ const DEVICE: Field = Field {
 };
 
 const COMMANDS: &str =
-    "expected 'send SENDER LENGTH', 'pull MOMENT', 'pull MOMENT DEVICE' or 'drain MOMENT'";
+    "expected 'send SENDER LENGTH', 'pull MOMENT', 'pull MOMENT DEVICE' or, at the end, 'drain MOMENT'";
 
-/// The three bytes of a byte order mark.
-const MARK: &[u8] = b"\xef\xbb\xbf";
+const BYTE_ORDER_MARK: &[u8] = b"\xef\xbb\xbf";
 
 /// Explains why a line of a script, counted from 1, is no command.
 pub fn explain_line(text: &[u8], line: u32) -> Explanation {
     let start = line_start(text, line);
     let (before, rest) = text.split_at(start.min(text.len()));
-    let mistake = mistake_in_line(row_of(rest), has_drain(before));
+    explain_mistake(
+        text,
+        start,
+        &mistake_in_line(line_of(rest), has_drain(before)),
+    )
+}
+
+/// Explains why a record of a trace, counted from 1, is no sender and length. `None` if there are quotes up to its end, since a record may go
+/// over several lines then.
+pub fn explain_record(text: &[u8], record: u32) -> Option<Explanation> {
+    let start = record_start(text, record);
+    let (before, rest) = text.split_at(start.min(text.len()));
+    let row = row_of(rest);
+    if before.contains(&b'"') || row.contains(&b'"') {
+        return None;
+    }
+    Some(explain_mistake(text, start, &mistake_in_record(row)))
+}
+
+/// Explains which command sends a packet of a sender that the tree doesn't have. `None` if none is found.
+pub fn explain_sent(text: &[u8], sender: u16) -> Option<Explanation> {
+    let mut start: usize = 0;
+    for row in text.split(|byte| *byte == b'\n') {
+        let command = word_from(row, 0);
+        let word = word_from(row, end_of(command));
+        if command.letters == b"send".as_slice() && is_sender(word, sender) {
+            return Some(explain_mistake(text, start, &no_sender(word)));
+        }
+        start = start.saturating_add(row.len()).saturating_add(1);
+    }
+    None
+}
+
+/// Explains which record is of a sender that the tree doesn't have. `None` if none is found.
+pub fn explain_recorded(text: &[u8], sender: u16) -> Option<Explanation> {
+    let mut start: usize = 0;
+    for row in text.split(|byte| *byte == b'\n') {
+        let field = field_from(row, 0);
+        if is_sender(field, sender) {
+            return Some(explain_mistake(text, start, &no_sender(field)));
+        }
+        start = start.saturating_add(row.len()).saturating_add(1);
+    }
+    None
+}
+
+/// Whether a text has more records than a trace may have.
+pub fn has_too_many_records(text: &[u8]) -> bool {
+    record_start(text, MAX_RECORDS + 1) < text.len()
+}
+
+/// Explains a mistake in the line that begins at an offset of a text.
+fn explain_mistake(text: &[u8], start: usize, mistake: &Mistake) -> Explanation {
     point_out(
         text,
         start.saturating_add(mistake.place),
         &mistake.wrong,
         &mistake.expected,
     )
-}
-
-/// Explains why a record of a trace, counted from 1, is no sender and length. `None` if the trace has quotes, since a record may go over
-/// several lines then.
-pub fn explain_record(text: &[u8], record: u32) -> Option<Explanation> {
-    if text.contains(&b'"') {
-        return None;
-    }
-    let start = record_start(text, record);
-    let (_, rest) = text.split_at(start.min(text.len()));
-    let mistake = mistake_in_record(row_of(rest));
-    Some(point_out(
-        text,
-        start.saturating_add(mistake.place),
-        &mistake.wrong,
-        &mistake.expected,
-    ))
 }
 
 /// Where a line of a text begins, counted from 1, or where the text ends if it has fewer lines.
@@ -109,7 +143,11 @@ fn line_start(text: &[u8], line: u32) -> usize {
 /// Where a record of a text begins, counted from 1, or where the text ends if it has fewer records. Empty lines and a byte order mark at the
 /// front are skipped.
 fn record_start(text: &[u8], record: u32) -> usize {
-    let mark = if text.starts_with(MARK) { 3 } else { 0 };
+    let mark = if text.starts_with(BYTE_ORDER_MARK) {
+        3
+    } else {
+        0
+    };
     let (mut left, mut is_inside) = (record, false);
     for (place, byte) in text.iter().enumerate() {
         let is_skipped = place < mark || ends_row(*byte);
@@ -129,7 +167,18 @@ fn ends_row(byte: u8) -> bool {
     byte == b'\n' || byte == b'\r'
 }
 
-/// What stands at the front of a text up to the end of its line.
+/// The first line of a text, without its end: a line feed, and the carriage return before it.
+fn line_of(text: &[u8]) -> &[u8] {
+    let Some(len) = text.iter().position(|byte| *byte == b'\n') else {
+        return text;
+    };
+    match text.get(..len).unwrap_or(text) {
+        [line @ .., b'\r'] => line,
+        line => line,
+    }
+}
+
+/// What stands at the front of a trace up to the end of its first record, if that has no quotes.
 fn row_of(text: &[u8]) -> &[u8] {
     front(text, text.iter().position(|byte| ends_row(*byte)))
 }
@@ -166,12 +215,19 @@ fn has_drain(text: &[u8]) -> bool {
 
 /// What is wrong with a line of a script.
 fn mistake_in_line(row: &[u8], is_drained: bool) -> Mistake {
+    if let Some(place) = row.iter().position(|byte| *byte == b'\r') {
+        return Mistake {
+            place,
+            wrong: Words::of("a carriage return stands without a line feed"),
+            expected: Words::of("expected a line feed at the end of each line"),
+        };
+    }
     let command = word_from(row, 0);
     if is_drained {
         return at(
             command,
             Words::of("a drain ends a script"),
-            Words::of("expected blank lines after it"),
+            Words::of("expected only blank lines after it"),
         );
     }
     match command.letters {
@@ -185,9 +241,16 @@ fn mistake_in_line(row: &[u8], is_drained: bool) -> Mistake {
                 Words::of(COMMANDS),
             )
         }
+        letters if letters.starts_with(BYTE_ORDER_MARK) => {
+            at(
+                command,
+                Words::of("a script has no byte order mark"),
+                Words::of(COMMANDS),
+            )
+        }
         letters => at(
             command,
-            Words::of("").and_quoted(letters).and(" is no command"),
+            Words::of("").and_quoted(letters).and(" isn't a command"),
             Words::of(COMMANDS),
         ),
     }
@@ -217,19 +280,17 @@ fn mistake_in_numbers(row: &[u8], command: Word<'_>, fields: &[Field]) -> Mistak
         last = word;
     }
     let extra = word_from(row, end_of(last));
-    if extra.letters.is_empty() {
+    if !extra.letters.is_empty() {
         return at(
-            last,
-            Words::of("the tree has no device ").and_quoted(last.letters),
-            Words::of("expected the number of a device, from 0 in order of declaration"),
+            extra,
+            Words::of("unexpected ").and_quoted(extra.letters),
+            Words::of("expected the end of the line"),
         );
     }
     at(
-        extra,
-        Words::of("")
-            .and_quoted(extra.letters)
-            .and(" is a word too many"),
-        Words::of("expected the end of the line"),
+        last,
+        Words::of("the tree has no device ").and_quoted(last.letters),
+        range_of(DEVICE),
     )
 }
 
@@ -262,7 +323,7 @@ fn mistake_in_record(row: &[u8]) -> Mistake {
     at(
         end,
         Words::of("the record has more than two fields"),
-        Words::of("expected its end"),
+        Words::of("expected the end of the line"),
     )
 }
 
@@ -300,14 +361,31 @@ fn no_number(word: Word<'_>, field: Field) -> Mistake {
         word,
         Words::of("")
             .and_quoted(word.letters)
-            .and(" is no ")
+            .and(" isn't a ")
             .and(field.name),
         range_of(field),
     )
 }
 
-/// The numbers that a field may have.
+/// Whether a word is the number of a sender.
+fn is_sender(word: Word<'_>, sender: u16) -> bool {
+    number_in(word.letters, 0, MAX_SENDER) == Some(u64::from(sender))
+}
+
+/// A word is the number of a sender that the tree doesn't have.
+fn no_sender(word: Word<'_>) -> Mistake {
+    at(
+        word,
+        Words::of("the tree has no sender ").and_quoted(word.letters),
+        Words::of("expected the number of a Sender of the tree"),
+    )
+}
+
+/// What a field may have.
 fn range_of(field: Field) -> Words {
+    if field.is_optional {
+        return Words::of("expected the number of a device, from 0 in order of declaration");
+    }
     Words::of("expected a ")
         .and(field.name)
         .and(" from ")

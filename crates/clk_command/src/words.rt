@@ -287,7 +287,7 @@ fn titled<'a>(
         .arg(flag(alloc, EXPLAIN, EXPLAIN_MEANS))
 }
 
-const EXPLAIN_MEANS: &str = "Explain a fault: where it is, what is wrong, and what was expected";
+const EXPLAIN_MEANS: &str = "Explains a fault: where it is, what is wrong, and what was expected";
 
 /// An option without a value.
 fn flag<'a>(alloc: Global, name: &'a str, help: &'a str) -> Arg<'a>

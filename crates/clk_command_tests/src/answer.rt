@@ -5,6 +5,7 @@ use clk_command::{Heard, Recalled, command};
 use clk_packet::{FailingSink, FailingSource, Fault};
 use clk_rows::PRIO_TWO_QUEUES;
 use std::alloc::{AllocError, Global};
+use std::fs;
 use std::process::Abort;
 use std::rt::Files;
 use std::sync::Wait;
@@ -81,8 +82,9 @@ pub fn assert_writes(
     assert!(rt; answered.told.is_empty(), "at {words}");
 }
 
-/// Fails unless each row has the answer that it says.
+/// Fails unless each row has the answer that it says. There is a folder `out/folder` then.
 pub fn assert_rows(rt: &(impl Files + AllocGlobal + Threads + Wait + Sync + Abort), rows: &[Row]) {
+    fs::create_dir_all(rt, "out/folder").expect(rt, "a folder");
     for (files, words, outcome, written, left) in rows {
         write_all(rt, files).expect(rt, "files");
         assert_writes(rt, words, *outcome, written.as_bytes());

@@ -1,8 +1,8 @@
 //! The program by its words.
 
 use crate::answer::{AMPLE, Row, answer, assert_rows, assert_writes, input};
+use crate::examples;
 use crate::files::{write, write_all};
-use crate::{examples, linting, living, running, visits};
 use clk_packet::Fault;
 use std::process::Abort;
 use std::rt::Files;
@@ -80,14 +80,17 @@ const ROWS: [Row; 9] = [
 
 #[test]
 fn words_are_answered(rt: HostRuntime) {
-    fs::create_dir_all(&rt, "out/folder").expect(&rt, "a folder");
     assert_rows(&rt, &ROWS);
-    assert_rows(&rt, &linting::ROWS);
-    assert_rows(&rt, &running::ROWS);
-    assert_rows(&rt, &living::ROWS);
-    assert_rows(&rt, &visits::ROWS);
+}
+
+#[test]
+fn examples_are_answered(rt: HostRuntime) {
     assert_rows(&rt, &examples::ROWS);
-    // Without its visits an example writes the same text.
+}
+
+// Without its visits an example writes the same text.
+#[test]
+fn examples_are_answered_without_visits(rt: HostRuntime) {
     for (files, words, outcome, written, _) in examples::ROWS {
         write_all(&rt, files).expect(&rt, "files");
         let words = words.trim_end_matches(" --visits out/example.csv");

@@ -3,6 +3,7 @@
 use crate::answer::{AMPLE, answer};
 use crate::files::write_all;
 use clk_packet::Fault;
+use std::alloc::{AllocError, Global};
 use std::fs;
 use std::process::Abort;
 use std::rt::Files;
@@ -16,10 +17,10 @@ type Explained = (&'static str, &'static str, Fault, &'static str);
 
 const OF_TREES: [Explained; 6] = [
     (
-        "check --explain out/wrong.click",
+        "check --explain out/unnamed.click",
         "",
         Fault::UnknownName { offset: 54 },
-        "out/wrong.click:2:9: no element has the name 'e'
+        "out/unnamed.click:2:9: no element has the name 'e'
     s -> q; e -> d;
             ^
 expected a declaration of it
@@ -43,17 +44,17 @@ expected a link, as in 'uplink :: ToDevice(eth0);'
 ",
     ),
     (
-        "script out/bad.click none.script --explain",
+        "script out/unclassed.click none.script --explain",
         "",
         Fault::UnknownClass { offset: 5 },
-        "out/bad.click:1:6: there is no class 'Que'
+        "out/unclassed.click:1:6: there is no class 'Que'
 ",
     ),
     (
-        "run --explain out/bad.click none.trace",
+        "run --explain out/unclassed.click none.trace",
         "",
         Fault::UnknownClass { offset: 5 },
-        "out/bad.click:1:6: there is no class 'Que'
+        "out/unclassed.click:1:6: there is no class 'Que'
 ",
     ),
     (
@@ -68,15 +69,12 @@ expected a name
     ),
 ];
 
-const COMMANDS: &str =
-    "expected 'send SENDER LENGTH', 'pull MOMENT', 'pull MOMENT DEVICE' or 'drain MOMENT'\n";
-
 /// Scripts over a tree with one device, their wrong lines, and how these are explained.
-const OF_SCRIPTS: [(&str, u32, &str); 16] = [
+const OF_SCRIPTS: [(&str, u32, &str); 22] = [
     (
         "send 0 10\n sned 0 10",
         2,
-        "2:2: 'sned' is no command\n     sned 0 10\n     ^\n",
+        "2:2: 'sned' isn't a command\n     sned 0 10\n     ^\n",
     ),
     (
         "# begin\n",
@@ -97,22 +95,22 @@ const OF_SCRIPTS: [(&str, u32, &str); 16] = [
     (
         "send 65536 10",
         1,
-        "1:6: '65536' is no sender\n    send 65536 10\n         ^\nexpected a sender from 0 to 65535\n",
+        "1:6: '65536' isn't a sender\n    send 65536 10\n         ^\nexpected a sender from 0 to 65535\n",
     ),
     (
         "send\t0\t0",
         1,
-        "1:8: '0' is no length\n    send 0 0\n           ^\nexpected a length from 1 to 65535\n",
+        "1:8: '0' isn't a length\n    send 0 0\n           ^\nexpected a length from 1 to 65535\n",
     ),
     (
         "pull 0\npull x",
         2,
-        "2:6: 'x' is no moment\n    pull x\n         ^\nexpected a moment from 0 to 1099511627775\n",
+        "2:6: 'x' isn't a moment\n    pull x\n         ^\nexpected a moment from 0 to 1099511627775\n",
     ),
     (
         "pull 1099511627776",
         1,
-        "1:6: '1099511627776' is no moment\n",
+        "1:6: '1099511627776' isn't a moment\n",
     ),
     (
         "pull",
@@ -127,12 +125,12 @@ const OF_SCRIPTS: [(&str, u32, &str); 16] = [
     (
         "pull 0 -1",
         1,
-        "1:8: '-1' is no device\n    pull 0 -1\n           ^\nexpected a device from 0 to 65535\n",
+        "1:8: '-1' isn't a device\n    pull 0 -1\n           ^\nexpected the number of a device, from 0 in order of declaration\n",
     ),
     (
         "pull 0 0 0",
         1,
-        "1:10: '0' is a word too many\n    pull 0 0 0\n             ^\nexpected the end of the line\n",
+        "1:10: unexpected '0'\n    pull 0 0 0\n             ^\nexpected the end of the line\n",
     ),
     (
         "drain",
@@ -142,26 +140,49 @@ const OF_SCRIPTS: [(&str, u32, &str); 16] = [
     (
         "drain 0 0",
         1,
-        "1:9: '0' is a word too many\n    drain 0 0\n            ^\nexpected the end of the line\n",
+        "1:9: unexpected '0'\n    drain 0 0\n            ^\nexpected the end of the line\n",
     ),
     (
         "drain 0\n\npull 0",
         3,
-        "3:1: a drain ends a script\n    pull 0\n    ^\nexpected blank lines after it\n",
+        "3:1: a drain ends a script\n    pull 0\n    ^\nexpected only blank lines after it\n",
     ),
+    // A carriage return that no line feed follows is part of a word.
+    (
+        "send 0 10\r",
+        1,
+        "1:10: a carriage return stands without a line feed\n    send 0 10\n             ^\nexpected a line feed at the end of each line\n",
+    ),
+    (
+        "pull 1\rpull 2\n",
+        1,
+        "1:7: a carriage return stands without a line feed\n",
+    ),
+    (
+        "\r",
+        1,
+        "1:1: a carriage return stands without a line feed\n",
+    ),
+    (
+        "\u{feff}send 0 10",
+        1,
+        "1:1: a script has no byte order mark\n    ???send 0 10\n    ^\nexpected 'send SENDER LENGTH', 'pull MOMENT', 'pull MOMENT DEVICE' or, at the end, 'drain MOMENT'\n",
+    ),
+    ("drain 0\ndrain 0", 2, "2:1: a drain ends a script\n"),
+    ("pull 0 007", 1, "1:8: the tree has no device '007'\n"),
 ];
 
 /// Traces, their wrong records, and how these are explained.
-const OF_TRACES: [(&str, u32, &str); 9] = [
+const OF_TRACES: [(&str, u32, &str); 12] = [
     (
         "0,10\nx,10\n",
         2,
-        "2:1: 'x' is no sender\n    x,10\n    ^\nexpected a sender from 0 to 65535\n",
+        "2:1: 'x' isn't a sender\n    x,10\n    ^\nexpected a sender from 0 to 65535\n",
     ),
     (
         "\n\n0,10\r\n\r\n0,0",
         2,
-        "5:3: '0' is no length\n    0,0\n      ^\nexpected a length from 1 to 65535\n",
+        "5:3: '0' isn't a length\n    0,0\n      ^\nexpected a length from 1 to 65535\n",
     ),
     (
         "0",
@@ -171,29 +192,33 @@ const OF_TRACES: [(&str, u32, &str); 9] = [
     (
         "0,",
         1,
-        "1:3: '' is no length\n    0,\n      ^\nexpected a length from 1 to 65535\n",
+        "1:3: '' isn't a length\n    0,\n      ^\nexpected a length from 1 to 65535\n",
     ),
     (
         "0,10,20",
         1,
-        "1:5: the record has more than two fields\n    0,10,20\n        ^\nexpected its end\n",
+        "1:5: the record has more than two fields\n    0,10,20\n        ^\nexpected the end of the line\n",
     ),
-    ("0, 10", 1, "1:3: ' 10' is no length\n"),
-    ("65536,10", 1, "1:1: '65536' is no sender\n"),
+    ("0, 10", 1, "1:3: ' 10' isn't a length\n"),
+    ("65536,10", 1, "1:1: '65536' isn't a sender\n"),
     (
         "\u{feff}0,65536",
         1,
-        "1:6: '65536' is no length\n    ???0,65536\n         ^\nexpected a length from 1 to 65535\n",
+        "1:6: '65536' isn't a length\n    ???0,65536\n         ^\nexpected a length from 1 to 65535\n",
     ),
     (
         "\"0\",10\n0,10\n0,\"x\"",
         3,
         " record 3 of the trace is wrong\nexpected a sender from 0 to 65535 and a length from 1 to 65535\n",
     ),
+    // A quote behind the record changes nothing.
+    ("x,10\n\"0\",10", 1, "1:1: 'x' isn't a sender\n"),
+    ("sender,length\n0,10", 1, "1:1: 'sender' isn't a sender\n"),
+    ("0,10\r0,\r", 2, "1:8: '' isn't a length\n"),
 ];
 
 /// Faults of files, of senders and of what is too large. What the system says of a file is left out.
-const OF_THE_REST: [Explained; 8] = [
+const OF_THE_REST: [Explained; 12] = [
     (
         "check --explain none.click",
         "",
@@ -201,57 +226,85 @@ const OF_THE_REST: [Explained; 8] = [
         "none.click: ",
     ),
     (
-        "script --explain out/sound.click out/folder",
+        "script --explain out/told.click out/folder",
         "",
         Fault::Read,
         "out/folder: ",
     ),
     (
-        "script --explain out/sound.click - --visits out/folder",
+        "script --explain out/told.click - --visits out/folder",
         "pull 0",
         Fault::Write,
         "out/folder: ",
     ),
     (
-        "live --explain out/sound.click - --record out/folder",
+        "live --explain out/told.click - --record out/folder",
         "0,10",
         Fault::Write,
         "out/folder: ",
     ),
     (
-        "live --explain --visits out/folder out/sound.click -",
+        "live --explain --visits out/folder out/told.click -",
         "0,10",
         Fault::Write,
         "out/folder: ",
     ),
     (
-        "script --explain out/sound.click -",
+        "script --explain out/told.click -",
+        "send 0 10\n send 07 10",
+        Fault::UnknownSender { sender: 7 },
+        "standard input:2:7: the tree has no sender '07'
+     send 07 10
+          ^
+expected the number of a Sender of the tree
+",
+    ),
+    (
+        "--explain",
         "send 7 10",
+        Fault::UnknownSender { sender: 7 },
+        "standard input:1:6: the tree has no sender '7'\n",
+    ),
+    (
+        "run --explain out/told.click -",
+        "8,10\r\n7,10\n",
+        Fault::UnknownSender { sender: 7 },
+        "standard input:2:1: the tree has no sender '7'\n    7,10\n    ^\n",
+    ),
+    (
+        "lint --explain out/told.click -",
+        "\"7\",10\n",
         Fault::UnknownSender { sender: 7 },
         "standard input: the tree has no Sender(7)\nexpected the number of a Sender of the tree\n",
     ),
     (
-        "run --explain out/sound.click -",
-        "8,10\n7,10\n",
-        Fault::UnknownSender { sender: 7 },
-        "standard input: the tree has no Sender(7)\n",
-    ),
-    (
-        "live --explain out/sound.click - --record out/unmade.script --limit 1000000",
+        "live --explain out/told.click - --record out/untold.script --limit 1000000",
         "",
         Fault::TooLarge,
-        "standard input: a record of this run could have too many lines\nexpected at most 1000000, one for each packet and for each of --limit pulls of each device, and one more\n",
+        "the record of this run could have more than 1000000 lines\nexpected fewer packets, or a lower --limit: a record has a line for each packet, --limit lines for each device, and the drain\n",
+    ),
+    (
+        "live --explain out/told.click - --visits - --limit 1000000",
+        "",
+        Fault::TooLarge,
+        "the record of this run could have more than 1000000 lines\n",
+    ),
+    (
+        "run --explain out/told.click none.trace",
+        "",
+        Fault::Read,
+        "none.trace: ",
     ),
 ];
 
 /// The files of the tests.
 const FILES: [(&str, &str); 3] = [
-    ("out/sound.click", TREE),
+    ("out/told.click", TREE),
     (
-        "out/wrong.click",
+        "out/unnamed.click",
         "s :: Sender(0); q :: Queue; d :: ToDevice(l);\ns -> q; e -> d;\n",
     ),
-    ("out/bad.click", "q :: Que;"),
+    ("out/unclassed.click", "q :: Que;"),
 ];
 
 #[test]
@@ -265,12 +318,12 @@ fn faults_of_trees_are_explained(rt: HostRuntime) {
 #[test]
 fn wrong_lines_are_explained(rt: HostRuntime) {
     write_all(&rt, &FILES).expect(&rt, "files");
-    let words = "script --explain out/sound.click -";
+    let words = "script --explain out/told.click -";
     for (script, line, told) in OF_SCRIPTS {
         assert_located(&rt, words, script, Fault::BadScript { line }, told);
     }
     // The built-in tree too has a script.
-    let told = "standard input:1:1: 'x' is no command\n    x\n    ^\n";
+    let told = "standard input:1:1: 'x' isn't a command\n    x\n    ^\n";
     assert_explained(&rt, "--explain", "x", Fault::BadScript { line: 1 }, told);
 }
 
@@ -279,8 +332,8 @@ fn wrong_records_are_explained(rt: HostRuntime) {
     write_all(&rt, &FILES).expect(&rt, "files");
     for (trace, row, told) in OF_TRACES {
         for words in [
-            "run --explain out/sound.click -",
-            "lint out/sound.click - --explain",
+            "run --explain out/told.click -",
+            "lint out/told.click - --explain",
         ] {
             assert_located(&rt, words, trace, Fault::BadTrace { row }, told);
         }
@@ -301,11 +354,64 @@ fn other_faults_are_explained(rt: HostRuntime) {
     }
 }
 
+// What is too large is told, be it the tree, the script or the trace, also if it is on standard input.
+#[test]
+fn large_trees_are_explained(rt: HostRuntime) {
+    let told =
+        "standard input: the text has more than 1048576 bytes\nexpected at most 1048576 bytes\n";
+    let text = many(rt.alloc(), " ", 1_048_577).expect(&rt, "memory");
+    for words in ["check --explain -", "script --explain - none.script"] {
+        assert_explained(&rt, words, &text, Fault::TooLarge, told);
+    }
+}
+
+#[test]
+fn large_scripts_are_explained(rt: HostRuntime) {
+    let told =
+        "standard input: the script has more than 1000000 lines\nexpected no more than that\n";
+    let text = many(rt.alloc(), "\n", 1_000_001).expect(&rt, "memory");
+    assert_explained(&rt, "--explain", &text, Fault::TooLarge, told);
+}
+
+#[test]
+fn large_traces_are_explained(rt: HostRuntime) {
+    write_all(&rt, &FILES).expect(&rt, "files");
+    let told = "standard input: the trace has more than 1000000 records\n";
+    let text = many(rt.alloc(), "0,1\n", 1_000_001).expect(&rt, "memory");
+    let words = "live --explain out/told.click - --visits -";
+    assert_explained(&rt, words, &text, Fault::TooLarge, told);
+}
+
+/// So many times a text.
+fn many(alloc: Global, text: &str, times: usize) -> Result<String, AllocError> {
+    let mut all = String::with_capacity(alloc, text.len().saturating_mul(times))?;
+    for _ in 0..times {
+        all.push_str(text)?;
+    }
+    Ok(all)
+}
+
+// Standard output that fails is told by its name.
+#[test]
+fn failed_writes_are_explained(rt: HostRuntime) {
+    write_all(&rt, &FILES).expect(&rt, "files");
+    let words = "check --explain out/told.click";
+    let answered = answer(&rt, words, b"", 0, AMPLE).expect(&rt, "ample memory");
+    assert_eq!(rt; answered.outcome, Err(Fault::Write));
+    assert_eq!(rt;
+        answered.told.as_slice(),
+        b"standard output: can't be written\n".as_slice()
+    );
+    let answered = answer(&rt, words, b"", 0, 5).expect(&rt, "ample memory");
+    assert_eq!(rt; answered.outcome, Err(Fault::Write));
+    assert_eq!(rt; answered.told.as_slice(), b"stand".as_slice());
+}
+
 // What the explanation goes to may fail anywhere. The fault stays, and nothing else is written.
 #[test]
 fn an_explanation_may_be_cut_off(rt: HostRuntime) {
     write_all(&rt, &FILES).expect(&rt, "files");
-    let words = "check --explain out/bad.click";
+    let words = "check --explain out/unclassed.click";
     for room in 0..100 {
         let answered = answer(&rt, words, b"", AMPLE, room).expect(&rt, "ample memory");
         assert_eq!(rt; answered.outcome, Err(Fault::UnknownClass { offset: 5 }));

@@ -1,6 +1,6 @@
 //! The warnings of trees and traces, by words.
 
-use crate::answer::Row;
+use crate::answer::{Row, assert_rows};
 use clk_packet::Fault;
 
 const TREE: (&str, &str) = (
@@ -11,7 +11,7 @@ const TREE: (&str, &str) = (
 const TRACE: (&str, &str) = ("out/lint.trace", "0,10\n0,20\n");
 
 /// Trees and traces with and without warnings, and with faults.
-pub const ROWS: [Row; 10] = [
+const ROWS: [Row; 10] = [
     (
         &[TREE],
         "lint out/lint.click",
@@ -85,3 +85,8 @@ warning: q: capacity 1 is below the packets of sender 0, 2
         &[],
     ),
 ];
+
+#[test]
+fn warnings_are_told(rt: HostRuntime) {
+    assert_rows(&rt, &ROWS);
+}

@@ -1,6 +1,6 @@
 //! Traces that run over trees through inlets, their records and their visits.
 
-use crate::answer::{AMPLE, Row, answer, input};
+use crate::answer::{AMPLE, Row, answer, assert_rows, input};
 use crate::command::{Said, assert_said};
 use crate::files::{write, write_all};
 use crate::rows::assert_row;
@@ -33,7 +33,7 @@ const WRONG: &str =
 const UNMADE: [(&str, Option<&str>); 2] = [("out/unlive.script", None), ("out/unlive.csv", None)];
 
 /// Runs of traces, and words that run none.
-pub const ROWS: [Row; 12] = [
+const ROWS: [Row; 12] = [
     (
         &[TREE, SENT],
         "live --step 1 --limit 1 out/live.click out/live.trace",
@@ -124,6 +124,11 @@ pub const ROWS: [Row; 12] = [
         &[],
     ),
 ];
+
+#[test]
+fn words_of_live_runs_are_answered(rt: HostRuntime) {
+    assert_rows(&rt, &ROWS);
+}
 
 const SAID: [Said; 10] = [
     (

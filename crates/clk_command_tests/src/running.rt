@@ -1,6 +1,6 @@
 //! Traces that run over trees, with producers on threads.
 
-use crate::answer::{AMPLE, Row, answer, input};
+use crate::answer::{AMPLE, Row, answer, assert_rows, input};
 use crate::files::{write, write_all};
 use crate::visits::{Numbers, assert_shown, read_back};
 use clk_command::{Pace, run_trace};
@@ -33,7 +33,7 @@ const WRONG: &str = "run out/sound.click out/wrong.trace --visits out/wrong.csv"
 const UNMADE: (&str, Option<&str>) = ("out/wrong.csv", None);
 
 /// Runs of traces, and words that run none.
-pub const ROWS: [Row; 13] = [
+const ROWS: [Row; 13] = [
     // A run may go at any pace.
     (
         &[TREE, SENT],
@@ -130,6 +130,11 @@ pub const ROWS: [Row; 13] = [
         &[],
     ),
 ];
+
+#[test]
+fn words_of_runs_are_answered(rt: HostRuntime) {
+    assert_rows(&rt, &ROWS);
+}
 
 /// How a run of that trace ends, and what it wrote, if the trace fails after it has given `limit` bytes, and the writer after it has taken
 /// `room`.

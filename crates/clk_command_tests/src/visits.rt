@@ -1,6 +1,6 @@
 //! The visits of a script, in a file or after the answer.
 
-use crate::answer::{AMPLE, Row, answer};
+use crate::answer::{AMPLE, Row, answer, assert_rows};
 use crate::files::write_all;
 use clk_packet::{FailingSink, FailingSource, Fault};
 use clk_sched::Visit;
@@ -43,7 +43,7 @@ const LONG: &str =
     "xxxxxxxxxxxxxxxxxxxxxxxxxxxxxxxxxxxxxxxxxxxxxxxxxxxxxxxxxxxxxxxxxxxxxxxxxxxxxxxxxxxxxxxxxxxxxxxxxxxxxxxxxxxxxxxxxxxxxxxxxxxxxxxx";
 
 /// Scripts with visits.
-pub const ROWS: [Row; 6] = [
+const ROWS: [Row; 6] = [
     // Visits don't change the answer.
     (
         &[ALONE, SAME],
@@ -99,6 +99,11 @@ pub const ROWS: [Row; 6] = [
         &[("out/refused.csv", None)],
     ),
 ];
+
+#[test]
+fn words_with_visits_are_answered(rt: HostRuntime) {
+    assert_rows(&rt, &ROWS);
+}
 
 /// A row of a visit file, in the order of its columns: its numbers, or `None` for an empty field.
 pub type Numbers = [Option<u64>; 9];

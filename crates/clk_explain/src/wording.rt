@@ -73,8 +73,8 @@ pub fn expected(text: &[u8], fault: Fault) -> Words {
 /// What is wrong with a text or a tree that is beyond its limit.
 fn too_large(text: &[u8]) -> Words {
     if text.len() > MAX_TREE_BYTES {
-        return Words::of("the text has ")
-            .and_number(text.len())
+        return Words::of("the text has more than ")
+            .and_number(MAX_TREE_BYTES)
             .and(" bytes");
     }
     Words::of("the tree is too large")

@@ -499,7 +499,7 @@ expected a port of its class
 ];
 
 /// The explanation of a text of too many bytes.
-const TOO_LONG: &str = "the text has 1048577 bytes
+const TOO_LONG: &str = "the text has more than 1048576 bytes
 expected at most 1048576 bytes
 ";
 
