@@ -158,6 +158,20 @@ writes_file (script visits) = go_to_file visits
 writes_file (run step limit visits) = go_to_file visits
 writes_file (live step limit record_file visits) = is_some record_file || go_to_file visits
 
+-- whether all that some work writes goes to standard output: no file is written, and no record made
+abbrev pub writes_output_alone : Work → Bool
+writes_output_alone lint_trace = true
+writes_output_alone (script visits) = not (go_to_file visits)
+writes_output_alone (run step limit visits) = not (go_to_file visits)
+writes_output_alone (live step limit record_file visits) = false
+
+-- whether all that a task writes goes to standard output
+abbrev pub answers_alone : Task → Bool
+answers_alone builtin = true
+answers_alone (check tree) = true
+answers_alone (lint tree) = true
+answers_alone (over tree input job) = writes_output_alone job
+
 -- a file that is to be written has another path than these
 abbrev pub IsApartFrom : Text → List Text → Type 0
 IsApartFrom path others = AllByRecursion (λ (other : Text). path ≢ other) others

@@ -1,6 +1,6 @@
 //! The whole program, over values that stand for standard input, output and error.
 
-ghost use Rattle.std.specs.Prelude.{◌≡◌, ◌≢◌, ◌+◌, ◌⊎◌, [], Ok, None, Some, true, false, map, option_map, IfOk, IfErr, IsErr, OnOk};
+ghost use Rattle.std.specs.Prelude.{◌≡◌, ◌≢◌, ◌+◌, ◌⊎◌, [], Ok, Err, None, Some, true, false, not, map, option_map, IfOk, IfErr, IsErr, OnOk};
 ghost use Rattle.std.specs.String.{string_bytes};
 ghost use Rattle.std.specs.Io.KnownBytes.{Appends, Keeps};
 ghost use Rattle.clap.specs.Faults.{fault_of};
@@ -14,7 +14,7 @@ ghost use Rattle.clk_syntax.specs.Limits.{most_tree_bytes};
 ghost use Rattle.clk_tree.specs.Plan.{Denotes};
 ghost use Rattle.clk_packet.specs.Written.{WroteWhat};
 ghost use Rattle.clk_command.specs.Tasks.{Does, DoesWork, ExplainsWork, ExplainsRunOver, ExplainsScriptOver, ExplainsTask, ExplainsTree, GoesOut, IsQuestion, IsMistake, ExplainsLiveOver, LivesOver, LivesWithVisits, WritesOver, WritesWithVisits, ReportsOver, ReportsWithVisits, builtin_text};
-ghost use Rattle.clk_command.specs.Words.{builtin, is_explained, is_recorded, most_of_input, most_of_work, program_words, reads_input, task, task_in, text_of, visits_follow, work, AreApart, MayClash};
+ghost use Rattle.clk_command.specs.Words.{answers_alone, builtin, go_to_file, is_explained, is_recorded, writes_output_alone, most_of_input, most_of_work, program_words, reads_input, task, task_in, text_of, visits_follow, work, AreApart, MayClash};
 
 use crate::apart::{Clash, clash_of, is_standard};
 use crate::builtin;
@@ -113,6 +113,9 @@ pub fn command<
         ⊎ (W.Sink.failures writer.new + E.Sink.failures errors.new ≡ write_failures result (W.Sink.failures writer.old + E.Sink.failures errors.old)))
         ⊎ ((is_explained (map string_bytes words.items) ≡ true) × IsErr result × (E.Sink.failures errors.new ≡ E.Sink.failures errors.old + 1)
         × ((W.Sink.failures writer.new ≡ W.Sink.failures writer.old) ⊎ (W.Sink.failures writer.new ≡ write_failures result (W.Sink.failures writer.old)))) }
+    // If the words are right and all that is written goes to `writer`, the fault is 20 exactly if `writer` failed, whatever `errors` does.
+    ensures alone { fault_of program_words (map string_bytes words.items) ≡ [] → answers_alone (task_in (map string_bytes words.items)) ≡ true
+        → (MayClash (task_in (map string_bytes words.items)) → ⊥) → W.Sink.failures writer.new ≡ write_failures result (W.Sink.failures writer.old) }
     // If there are no words, a read of `reader` failed exactly if the fault is 19. If `reader` is no input, it is unchanged.
     ensures read_failures { task_in (map string_bytes words.items) ≡ builtin → R.Source.failures reader.new ≡ read_failures result (R.Source.failures reader.old) }
     ensures unread { (reads_input (task_in (map string_bytes words.items)) ≡ true) ⊎ (reader.new ≡ reader.old) }
@@ -213,6 +216,7 @@ fn perform<'a, H: Files + AllocGlobal + Threads + Wait, P: Wait + Sync, R: Sourc
     ensures fault { IfErr result (ExplainsTask (task asked.entry) (R.Source.remaining reader.old)) }
     ensures write_failures { (W.Sink.failures writer.new ≡ W.Sink.failures writer.old)
         ⊎ (W.Sink.failures writer.new ≡ write_failures result (W.Sink.failures writer.old)) }
+    ensures alone { answers_alone (task asked.entry) ≡ true → W.Sink.failures writer.new ≡ write_failures result (W.Sink.failures writer.old) }
     ensures read_failures { task asked.entry ≡ builtin → R.Source.failures reader.new ≡ read_failures result (R.Source.failures reader.old) }
     ensures unread { (reads_input (task asked.entry) ≡ true) ⊎ (reader.new ≡ reader.old) }
     ensures limit { Takes (most_of_input (task asked.entry) + 1) (R.Source.remaining reader.old) (R.Source.remaining reader.new) }
@@ -268,6 +272,7 @@ fn do_job<
     ensures nothing { IfErr result (λ fault. fault ≢ Write → Keeps (W.Sink.taken writer.old) (W.Sink.taken writer.new)) }
     ensures write_failures { (W.Sink.failures writer.new ≡ W.Sink.failures writer.old)
         ⊎ (W.Sink.failures writer.new ≡ write_failures result (W.Sink.failures writer.old)) }
+    ensures alone { writes_output_alone (work job.entry) ≡ true → W.Sink.failures writer.new ≡ write_failures result (W.Sink.failures writer.old) }
     ensures tree_limit { Takes (most_tree_bytes + 1) (T.Source.remaining tree.old) (T.Source.remaining tree.new) }
     ensures input_limit { Takes (most_of_work (work job.entry) + 1) (S.Source.remaining input.old) (S.Source.remaining input.new) }
 {
@@ -313,6 +318,7 @@ fn script_job<'a, H: Files + AllocGlobal, T: Source, S: Source, W: Sink>(
     ensures nothing { IfErr result (λ fault. fault ≢ Write → Keeps (W.Sink.taken writer.old) (W.Sink.taken writer.new)) }
     ensures write_failures { (W.Sink.failures writer.new ≡ W.Sink.failures writer.old)
         ⊎ (W.Sink.failures writer.new ≡ write_failures result (W.Sink.failures writer.old)) }
+    ensures alone { not (go_to_file (option_map text_of visits.entry)) ≡ true → W.Sink.failures writer.new ≡ write_failures result (W.Sink.failures writer.old) }
     ensures tree_limit { Takes (most_tree_bytes + 1) (T.Source.remaining tree.old) (T.Source.remaining tree.new) }
     ensures script_limit { Takes (most_script_bytes + 1) (S.Source.remaining script.old) (S.Source.remaining script.new) }
 {
@@ -349,6 +355,7 @@ fn run_job<
     ensures nothing { IfErr result (λ fault. fault ≢ Write → Keeps (W.Sink.taken writer.old) (W.Sink.taken writer.new)) }
     ensures write_failures { (W.Sink.failures writer.new ≡ W.Sink.failures writer.old)
         ⊎ (W.Sink.failures writer.new ≡ write_failures result (W.Sink.failures writer.old)) }
+    ensures alone { not (go_to_file (option_map text_of visits.entry)) ≡ true → W.Sink.failures writer.new ≡ write_failures result (W.Sink.failures writer.old) }
     ensures tree_limit { Takes (most_tree_bytes + 1) (T.Source.remaining tree.old) (T.Source.remaining tree.new) }
     ensures trace_limit { Takes (most_trace_bytes + 1) (S.Source.remaining trace.old) (S.Source.remaining trace.new) }
 {
@@ -535,6 +542,7 @@ fn tell<W: Sink, E: Sink>(
 ) -> Result<u8, Fault>
     ensures status { IfOk result (λ status. (status ≡ 0) ⊎ (status ≡ 2)) }
     ensures question { result ≡ Ok 0 → (kind_of error.now ≡ DisplayHelp) ⊎ (kind_of error.now ≡ DisplayVersion) }
+    ensures memory { kind_of error.now ≡ OutOfMemory → (result ≡ Err Memory) × (writer.new ≡ writer.old) }
     ensures mistake { result ≡ Ok 2 → (kind_of error.now ≢ OutOfMemory) × (kind_of error.now ≢ DisplayHelp) × (kind_of error.now ≢ DisplayVersion) }
     ensures silent { result ≡ Ok 0 → errors.new ≡ errors.old }
     ensures refused { result ≡ Ok 2 → writer.new ≡ writer.old }
