@@ -24,7 +24,8 @@ pub struct Inputs<'a> {
 }
 
 /// Writes what explains the fault of a task: in which file and where in it, the line with a caret, what is wrong, and what was expected.
-/// The fault of a file has the system's reason. A fault of a text is explained only if the text was kept. Fault 20 if the sink fails.
+/// The fault of a file has the system's reason. If a script or a trace wasn't kept, no line of it is shown; if a tree wasn't, nothing is
+/// written of its fault. Fault 20 if the sink fails.
 pub fn explain_fault<E: Sink>(
     alloc: Global,
     asked: Asked<'_>,

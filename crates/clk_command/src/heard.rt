@@ -50,7 +50,7 @@ impl Heard {
         self.text.try_borrow().ok()
     }
 
-    /// Keeps what the source gave, if it is to be kept. Without memory nothing more is kept.
+    /// Keeps what the source gave, if it is to be kept. If an allocation fails, nothing more is kept, and `text` is `None` from then on.
     fn add(&self, bytes: &[u8]) {
         if !self.is_kept.get() {
             return;
@@ -73,7 +73,8 @@ pub trait Recalls {
 
 impl<R> Recalls for FromRead<R> {}
 
-/// A source that can keep what it gives.
+/// A source that can keep what it gives. It owns the other source: of a `&mut` in a struct nothing could be proved where a generic call has
+/// the struct as `&mut`, since that call could exchange it.
 #[derive(Drop)]
 pub struct Recalled<'a, S> {
     source: S,
