@@ -13,7 +13,7 @@ use Rattle.clk_drain.specs.Line.{LineLists, leaves_of, pulling, pulling_all, pac
 
 -- the line with this list of what was taken
 abbrev with_taken : LineLists → List Packet → LineLists
-with_taken l taken = record { leaf = l.leaf; tap = record { id = l.tap.id; setup = l.tap.setup; taken = taken; gathered = l.tap.gathered }; closed = l.closed }
+with_taken l taken = record { leaf = l.leaf; tap = record { id = l.tap.id; setup = l.tap.setup; keeps = l.tap.keeps; taken = taken; gathered = l.tap.gathered }; closed = l.closed }
 
 pub pulling-none : (l : LineLists) → pulling l [] ≡ l
 pulling-none l = ap (with_taken l) (append-nil l.tap.taken)

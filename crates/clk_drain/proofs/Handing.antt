@@ -24,7 +24,7 @@ leaves-open traces (q ∷ shared) (at ∷ queues) (t ∷ taps) (s ∷ seats) h =
 leaves-open traces shared queues taps seats h = absurd h
 
 -- Each tap is its queue's.
-tap-opened : (setup : Setup) (queue : Queue) (tap : TapLists) → queue ≡ queue_of queue.id setup → tap ≡ empty_tap queue.id setup → IsTapOf queue tap
+tap-opened : (setup : Setup) (queue : Queue) (tap : TapLists) → queue ≡ queue_of queue.id setup → tap ≡ empty_tap tap.keeps queue.id setup → IsTapOf queue tap
 tap-opened setup queue tap is empty = subst (IsTapOf queue) (sym empty) is
 
 taps-open : (traces : List (List Packet)) (shared : List SharedQueue) (queues : List LeafQueue) (taps : List TapLists) (seats : List (List SeatLists)) → AreOpenAs traces shared queues taps seats → AreTapsOf queues taps

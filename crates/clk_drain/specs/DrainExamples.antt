@@ -1,5 +1,5 @@
 -- What a drain of a worked session may return.
-use Rattle.std.specs.Prelude.{List, [], ◌∷◌, Some, false}
+use Rattle.std.specs.Prelude.{List, [], ◌∷◌, Some, true, false}
 use Rattle.atomic_table.specs.Seated.{TableId}
 use Rattle.clk_packet.specs.declared.packet.Packet.{Packet}
 use Rattle.clk_packet.specs.declared.packet.Kind.TheVariants.{TailDrop}
@@ -27,7 +27,7 @@ abbrev pub line : TableId → LineLists
 line id =
     record {
       leaf = 0;
-      tap = record { id = id; setup = one_room; taken = []; gathered = [] };
+      tap = record { id = id; setup = one_room; keeps = true; taken = []; gathered = [] };
       closed =
           record {
             lists = record { id = id; setup = one_room; sender = 0; room = 2; next = 2; accepted = p0_0 ∷ []; refused = p0_1 ∷ []; evicted = [] };

@@ -34,7 +34,7 @@ senders_at seats = map (λ (l : SeatLists). l.sender) seats
 
 -- the tap after it pulled these packets too
 abbrev pub taking_all : TapLists → List Packet → TapLists
-taking_all t more = record { id = t.id; setup = t.setup; taken = t.taken ++ more; gathered = t.gathered }
+taking_all t more = record { id = t.id; setup = t.setup; keeps = t.keeps; taken = t.taken ++ more; gathered = t.gathered }
 
 -- the line after its tap pulled these packets too
 abbrev pub pulling : LineLists → List Packet → LineLists

@@ -5,7 +5,7 @@ ghost use Rattle.std.specs.List.{AllByRecursion};
 ghost use Rattle.clk_ruled.specs.Settle.{AreOpenedTogether, lists_of};
 
 use clk_packet::{Fault, Packet, Tally};
-use clk_ruled::{BareTap, ClosedSeat, RuledQueue, calls_keep_together, settle_bare};
+use clk_ruled::{ClosedSeat, RuledQueue, Tap, calls_keep_together, settle};
 use std::alloc::Global;
 use std::marker::Model;
 use std::sync::Wait;
@@ -16,7 +16,7 @@ pub struct Line {
     /// The leaf's number in the tree.
     pub leaf: u16,
     pub queue: RuledQueue,
-    pub tap: BareTap,
+    pub tap: Tap,
     pub closed: Vec<ClosedSeat>,
 }
 
@@ -32,7 +32,8 @@ impl Model for Line {
 }
 
 impl Line {
-    ghost use Rattle.std.specs.Prelude.{◌≡◌, ◌≤◌, None, IfOk, IfErr};
+    ghost use Rattle.std.specs.Prelude.{◌≡◌, ◌≤◌, List, None, IfOk, IfErr};
+    ghost use Rattle.clk_packet.specs.declared.packet.Packet.{Packet};
     ghost use Rattle.clk_ruled.specs.Settle.{IsSettled, IsFaultOfSettle, AreTogether, accepted_count, evicted_count};
     ghost use Rattle.clk_sched.specs.Limits.{most_left};
     ghost use Rattle.clk_drain.specs.Line.{pulling, packets_of, seats_of};
@@ -94,15 +95,16 @@ impl Line {
     // Settles the queue. Returns the tallies of its senders.
     pub(crate) fn settle(self, alloc: Global) -> Result<Vec<Tally>, Fault>
         ensures together { AreTogether self.tap self.closed }
-        ensures settled { IfOk result (λ tallies. IsSettled self.tap self.closed self.tap.taken tallies.items) }
+        ensures settled { IfOk result (λ tallies. (pulled : List Packet) × IsSettled self.tap self.closed pulled tallies.items) }
         ensures fault { IfErr result (IsFaultOfSettle self.tap self.closed self.leaf) }
     {
-        settle_bare(alloc, self.queue, self.tap, self.closed, self.leaf)
+        let settled = settle(alloc, self.queue, self.tap, self.closed, self.leaf)?;
+        Ok(settled.tallies)
     }
 }
 
 // Has the tap take over the lists of each seat.
-fn gather_seats(queue: &RuledQueue, tap: &mut BareTap, closed: &mut [ClosedSeat])
+fn gather_seats(queue: &RuledQueue, tap: &mut Tap, closed: &mut [ClosedSeat])
     requires together { AreOpenedTogether queue.now tap.old closed.old }
     ensures together { AreOpenedTogether queue.now tap.new closed.new }
     ensures setup { tap.new.setup ≡ tap.old.setup }

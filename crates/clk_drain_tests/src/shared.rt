@@ -13,7 +13,7 @@ ghost use Rattle.clk_drain.specs.Closing.{accepted_over};
 
 use clk_drain::{Drained, Line, Lines, close_and_drain};
 use clk_packet::{Fault, Kind, Packet};
-use clk_ruled::{BareTap, OpenedBare, RuledQueue, Seat, calls_keep_together};
+use clk_ruled::{Opened, RuledQueue, Seat, Tap, calls_keep_together};
 use clk_sched::{Session, Tree, Visit};
 use std::alloc::Global;
 use std::process::Abort;
@@ -48,7 +48,7 @@ pub fn queues(alloc: Global, numbers: &[u16]) -> Result<Vec<Tree>, Fault>
 fn offer<R: Abort + Wait>(
     rt: &R,
     queue: &RuledQueue,
-    tap: &BareTap,
+    tap: &Tap,
     seats: &mut [Seat],
     place: usize,
     length: u16,
@@ -83,11 +83,11 @@ pub fn line<R: Abort + Wait>(
     ensures fresh { IfOk result (λ line. line.tap.taken ≡ []) }
 {
     calls_keep_together();
-    let OpenedBare {
+    let Opened {
         queue,
         mut seats,
         tap,
-    } = RuledQueue::open_bare(alloc, kind, capacity, senders)?;
+    } = RuledQueue::open(alloc, kind, capacity, senders)?;
     for (place, length) in offers {
         offer(rt, &queue, &tap, &mut seats, *place, *length);
     }

@@ -11,13 +11,14 @@ use Rattle.clk_ruled.specs.Settle.{lists_of, as_gathered, IsOfTap, AreOfTap, Has
 pub record IsGathering (old : TapLists) (all : List ClosedLists) (tap : TapLists) (now : List ClosedLists) (n : ℕ) : Type 0 where
   pub id : tap.id ≡ old.id
   pub setup : tap.setup ≡ old.setup
+  pub keeps : tap.keeps ≡ old.keeps
   pub taken : tap.taken ≡ old.taken
   pub lists : lists_of now ≡ lists_of all
   pub each : AreOfTap tap now
   pub first : AllWithin (λ (c : ClosedLists). c.is_gathered ≡ true) now 0 n
 
 pub gathering-first : (tap : TapLists) (closed : List ClosedLists) → AreOfTap tap closed → IsGathering tap closed tap closed 0
-gathering-first tap closed each = record { id = refl; setup = refl; taken = refl; lists = refl; each = each; first = λ k d ge lt. absurd (omega arith) }
+gathering-first tap closed each = record { id = refl; setup = refl; keeps = refl; taken = refl; lists = refl; each = each; first = λ k d ge lt. absurd (omega arith) }
 
 -- the seat at a place
 pub of-tap-at : (tap : TapLists) (now : List ClosedLists) (i : ℕ) (d : ClosedLists) → i < length now → AreOfTap tap now → IsOfTap tap (get_or now i d)
@@ -43,13 +44,14 @@ lists-set (x ∷ now) (suc i) c d lt e = ap (λ l. x.lists ∷ l) (lists-set now
 pub record IsStep (tap new : TapLists) (l : SeatLists) : Type 0 where
   pub id : new.id ≡ tap.id
   pub setup : new.setup ≡ tap.setup
+  pub keeps : new.keeps ≡ tap.keeps
   pub taken : new.taken ≡ tap.taken
   pub more : (g : Gathered) → In g tap.gathered → In g new.gathered
   pub has : In (as_gathered l) new.gathered
 
 gather-step : (tap new : TapLists) (c : ClosedLists) (b : Bool) → c.is_gathered ≡ b → IsOfTap tap c → (c.is_gathered ≡ false → new ≡ gathering tap c.lists) → (c.is_gathered ≡ true → new ≡ tap) → IsStep tap new c.lists
-gather-step tap new c true is h first again = subst (λ (t : TapLists). IsStep tap t c.lists) (sym (again is)) record { id = refl; setup = refl; taken = refl; more = λ g a. a; has = h.had is }
-gather-step tap new c false is h first again = subst (λ (t : TapLists). IsStep tap t c.lists) (sym (first is)) record { id = refl; setup = refl; taken = refl; more = λ g a. inr a; has = inl refl }
+gather-step tap new c true is h first again = subst (λ (t : TapLists). IsStep tap t c.lists) (sym (again is)) record { id = refl; setup = refl; keeps = refl; taken = refl; more = λ g a. a; has = h.had is }
+gather-step tap new c false is h first again = subst (λ (t : TapLists). IsStep tap t c.lists) (sym (first is)) record { id = refl; setup = refl; keeps = refl; taken = refl; more = λ g a. inr a; has = inl refl }
 
 still-of : (tap new : TapLists) (l : SeatLists) → IsStep tap new l → (c : ClosedLists) → IsOfTap tap c → IsOfTap new c
 still-of tap new l s c h = record { id = h.id ∙ sym s.id; setup = h.setup ∙ sym s.setup; had = λ e. s.more (as_gathered c.lists) (h.had e) }
@@ -74,6 +76,7 @@ gathering-more old all tap new now i c d lt h is first again =
     let after = of-tap-gathered tap new now i c d lt h.each is first again in record {
       id = after.0.id ∙ h.id;
       setup = after.0.setup ∙ h.setup;
+      keeps = after.0.keeps ∙ h.keeps;
       taken = after.0.taken ∙ h.taken;
       lists = after.1 ∙ h.lists;
       each = after.2;

@@ -1,5 +1,5 @@
 -- Seats that were opened with a tap, and stay so while packets are offered and pulled.
-use Rattle.std.proofs.Common.{◌≡◌, ℕ, ◌<◌, true, false, true≢false, zero, suc, List, [], ◌∷◌, length, map, set, get_or, Option, Some, None, refl, sym, ap, ◌∙◌, subst, arith}
+use Rattle.std.proofs.Common.{◌≡◌, ℕ, ◌<◌, Bool, true, false, true≢false, zero, suc, List, [], ◌∷◌, length, map, set, get_or, Option, Some, None, refl, sym, ap, ◌∙◌, subst, arith}
 use Rattle.atomic_table.specs.Seated.{TableId}
 use Rattle.clk_packet.specs.declared.packet.Packet.{Packet}
 use Rattle.clk_packet.specs.declared.packet.Offered.{Offered}
@@ -13,9 +13,9 @@ use Rattle.clk_ruled.proofs.Gathering.{of-tap-at, of-tap-more, of-tap-gathered}
 abbrev place_of : SeatLists → ℕ × ℕ
 place_of l = (l.sender, l.room)
 
-opened-each : (id : TableId) (setup : Setup) (rooms : List (ℕ × ℕ)) → AreOfTap (empty_tap id setup) (map closing (map (empty_seat id setup) rooms))
-opened-each id setup [] = tt
-opened-each id setup (r ∷ rooms) = (record { id = refl; setup = refl; had = λ e. absurd (true≢false (sym e)) }, opened-each id setup rooms)
+opened-each : (keeps : Bool) (id : TableId) (setup : Setup) (rooms : List (ℕ × ℕ)) → AreOfTap (empty_tap keeps id setup) (map closing (map (empty_seat id setup) rooms))
+opened-each keeps id setup [] = tt
+opened-each keeps id setup (r ∷ rooms) = (record { id = refl; setup = refl; had = λ e. absurd (true≢false (sym e)) }, opened-each keeps id setup rooms)
 
 opened-places : (id : TableId) (setup : Setup) (rooms : List (ℕ × ℕ)) → map place_of (lists_of (map closing (map (empty_seat id setup) rooms))) ≡ rooms
 opened-places id setup [] = refl
@@ -24,7 +24,7 @@ opened-places id setup (r ∷ rooms) = ap (λ l. r ∷ l) (opened-places id setu
 pub opened-in-use : (setup : Setup) (queue : Queue) (seats : List SeatLists) (tap : TapLists) → IsOpened setup queue seats tap → AreOpenedTogether queue tap (map closing seats)
 opened-in-use setup queue seats tap h = (
   h.0 ∙ ap (λ (t : TapLists). queue_of t.id t.setup) (sym h.2),
-  subst (λ (x : TapLists × List SeatLists). AreTogether x.0 (map closing x.1)) (λ i. (sym h.2 i, sym h.1 i)) record { senders = opened-places queue.id setup setup.rooms; each = opened-each queue.id setup setup.rooms },
+  subst (λ (x : TapLists × List SeatLists). AreTogether x.0 (map closing x.1)) (λ i. (sym h.2 i, sym h.1 i)) record { senders = opened-places queue.id setup setup.rooms; each = opened-each tap.keeps queue.id setup setup.rooms },
 )
 
 -- A pull changes what was taken alone.

@@ -25,8 +25,8 @@ use Rattle.clk_ruled.proofs.TapSteps.{TapKnows, tap-knows, knows-held}
 use Rattle.clk_ruled.proofs.Tally.{times_in_all, senders_named, of-times, named-length, counted, unroomed}
 
 -- what a tap keeps tells that its queue is accounted for
-pub accounted : (id : TableId) (v : View) → TapKeeps v → IsAccounted (record { id = id; setup = v.setup; taken = v.taken; gathered = v.gathered })
-accounted id v k = let fits : FitsTap k.knows.1.0 k.knows.1.1 v = k.knows.1.3.1 k.taps in record {
+pub accounted : (keeps : Bool) (id : TableId) (v : View) → TapKeeps v → IsAccounted (record { id = id; setup = v.setup; keeps = keeps; taken = v.taken; gathered = v.gathered })
+accounted keeps id v k = let fits : FitsTap k.knows.1.0 k.knows.1.1 v = k.knows.1.3.1 k.taps in record {
   held = k.knows.0;
   books = k.knows.1.0;
   given = v.given;
@@ -130,22 +130,22 @@ each-had tap [] of all = tt
 each-had tap (c ∷ closed) of all = (of.0.had all.0, each-had tap closed of.1 all.1)
 
 -- the tap's queue, by what it knows
-abbrev tap_of : TableId → View → TapLists
-tap_of id v = record { id = id; setup = v.setup; taken = v.taken; gathered = v.gathered }
+abbrev tap_of : Bool → TableId → View → TapLists
+tap_of keeps id v = record { id = id; setup = v.setup; keeps = keeps; taken = v.taken; gathered = v.gathered }
 
-all-seats : (id : TableId) (v : View) (held : List Packet) (closed : List ClosedLists) → TapKnows v held → HasAllSeats (tap_of id v) closed
+all-seats : (keeps : Bool) (id : TableId) (v : View) (held : List Packet) (closed : List ClosedLists) → TapKnows v held → HasAllSeats (tap_of keeps id v) closed
     → evicted_count (lists_of closed) + length v.taken + length held ≡ accepted_count (lists_of closed)
-all-seats id v held closed known seats =
-    let tap : TapLists = tap_of id v in
+all-seats keeps id v held closed known seats =
+    let tap : TapLists = tap_of keeps id v in
     let fit = each-fit known.books v.given tap (lists_of closed) known.gathered (each-had tap closed seats.together.each seats.gathered) in
     seats-balance known.books held tap (lists_of closed) known.sound known.taken_is (booked known.books held v.setup (lists_of closed) known.sound (sym known.setup) seats.together.senders fit)
 
-pub seats-within : (id : TableId) (v : View) → TapKeeps v → (closed : List ClosedLists) → HasAllSeats (tap_of id v) closed → IsTakenWithin (tap_of id v) closed
-seats-within id v k closed seats = let all = all-seats id v k.knows.0 closed (tap-knows v k) seats in omega (arith, all)
+pub seats-within : (keeps : Bool) (id : TableId) (v : View) → TapKeeps v → (closed : List ClosedLists) → HasAllSeats (tap_of keeps id v) closed → IsTakenWithin (tap_of keeps id v) closed
+seats-within keeps id v k closed seats = let all = all-seats keeps id v k.knows.0 closed (tap-knows v k) seats in omega (arith, all)
 
-pub seats-all : (id : TableId) (v : View) → TapKeeps v → Held 0 (Knows v) → (closed : List ClosedLists) → HasAllSeats (tap_of id v) closed → IsAllTaken (tap_of id v) closed
-seats-all id v k held closed seats =
-    let all = all-seats id v held.0 closed (knows-held v held.0 k held.2) seats in let none = held.1 in omega (arith, all, none)
+pub seats-all : (keeps : Bool) (id : TableId) (v : View) → TapKeeps v → Held 0 (Knows v) → (closed : List ClosedLists) → HasAllSeats (tap_of keeps id v) closed → IsAllTaken (tap_of keeps id v) closed
+seats-all keeps id v k held closed seats =
+    let all = all-seats keeps id v held.0 closed (knows-held v held.0 k held.2) seats in let none = held.1 in omega (arith, all, none)
 
 -- The tap has the lists of all seats, which are an account of its queue then.
 has-booked : (tap new : TapLists) (closed : List ClosedLists) → AreTogether tap closed → (new.setup ≡ tap.setup) × (new.taken ≡ tap.taken) → HasEach new (lists_of closed) → (a : IsAccounted new) → AreBooked a.books (lists_of closed)
@@ -177,17 +177,17 @@ lost-below tap new closed together same has a dealt lost below = record {
 }
 
 -- All is told.
-pub settles : (tap new : TapLists) (closed : List ClosedLists) (told : List Tally) → AreTogether tap closed → (new.setup ≡ tap.setup) × (new.taken ≡ tap.taken) → HasEach new (lists_of closed) → IsAccounted new
+pub settles : (tap new : TapLists) (closed : List ClosedLists) (pulled : List Packet) (told : List Tally) → (tap.keeps ≡ true → pulled ≡ tap.taken) → AreTogether tap closed → (new.setup ≡ tap.setup) × (new.taken ≡ tap.taken) → HasEach new (lists_of closed) → IsAccounted new
     → told ≡ map (tally_of (all_evicted (lists_of closed))) (lists_of closed)
-    → AllByRecursion IsSharedOut (lists_of closed) → (0 < lost_count (lists_of closed) → tap.setup.capacity ≤ accepted_count (lists_of closed)) → IsSettled tap closed tap.taken told
-settles tap new closed told together same has a tallies shared reached =
+    → AllByRecursion IsSharedOut (lists_of closed) → (0 < lost_count (lists_of closed) → tap.setup.capacity ≤ accepted_count (lists_of closed)) → IsSettled tap closed pulled told
+settles tap new closed pulled told is_pulled together same has a tallies shared reached =
     let b : Books = a.books in let seats : List SeatLists = lists_of closed in
     let took : taken_in b.gone ≡ tap.taken = sym a.taken ∙ same.1 in
     let is = has-booked tap new closed together same has a in
     let gone = evicted-length seats ∙ ap length (sym is.out) in let came = is.came in let mine = ap length took in
     let whole = account b a.held a.sound in
     let its-account = whole-account tap new closed together same has a in record {
-      taken = refl;
+      taken = is_pulled;
       tallies = tallies;
       held = a.held;
       account = its-account;

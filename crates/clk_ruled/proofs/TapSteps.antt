@@ -1,6 +1,7 @@
 -- What the tap keeps as it pulls and gathers.
 use Rattle.std.proofs.Common.{◌≡◌, ℕ, ◌+◌, ◌<◌, ◌≤◌, ◌==◌, Bool, true, false, List, [], ◌∷◌, ◌++◌, length, Option, None, Some, MatchOption, sym, ap, ◌∙◌, subst, refl, ⊎_elim, inl, inr, arith}
-use Rattle.std.proofs.lemmas.List.{length-append}
+use Rattle.std.specs.List.{cons_option}
+use Rattle.std.proofs.lemmas.List.{append-nil, length-append}
 use Rattle.crossbeam_queue.specs.Fifo.{Held}
 use Rattle.clk_packet.specs.declared.packet.Packet.{Packet}
 use Rattle.clk_ruled.specs.declared.view.Setup.{Setup}
@@ -148,3 +149,22 @@ taken-fewer v k all = let same = taken-balances v k.knows.0 (tap-knows v k) all 
 
 pub taken-all : (v : View) → TapKeeps v → Held 0 (Knows v) → EachGathered v → length v.taken + evicted_in_all v.gathered ≡ accepted_in_all v.gathered
 taken-all v k held all = let same = taken-balances v held.0 (knows-held v held.0 k held.2) all in let none = held.1 in omega (arith, same, none)
+
+-- the packets that were pulled, after a pull with this result
+pub taken-after : (v w : View) (got : Option Packet) → IsAfterPull v got w → w.taken ≡ v.taken ++ cons_option got []
+taken-after v w None is = ap (λ (u : View). u.taken) is.0 ∙ sym (append-nil v.taken)
+taken-after v w (Some p) is = ap (λ (u : View). u.taken) is.0
+
+-- A pull doesn't change the setup.
+pub setup-after : (v w : View) (got : Option Packet) → IsAfterPull v got w → w.setup ≡ v.setup
+setup-after v w None is = ap (λ (u : View). u.setup) is.0
+setup-after v w (Some p) is = ap (λ (u : View). u.setup) is.0
+
+-- A list that has room for all that may be pulled has room for what a pull gave.
+pub room-after : (v w : View) (got : Option Packet) (kept : List Packet) (room : ℕ) → TapKeeps v → IsAfterPull v got w → kept ≡ v.taken → rooms_in_all v.setup.rooms ≤ room
+    → length kept + length (cons_option got []) ≤ room
+room-after v w got kept room k is same fits =
+    let within = taken-within w (keeps-after v w got k is) in
+    let rooms = ap (λ (y : Setup). rooms_in_all y.rooms) (setup-after v w got is) in
+    let long = ap length (taken-after v w got is) ∙ length-append v.taken (cons_option got []) in
+    let mine = ap length same in omega (arith, within, rooms, long, mine, fits)

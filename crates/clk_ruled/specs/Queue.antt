@@ -40,10 +40,12 @@ pub record SeatLists : Type 0 where
   pub refused : List Packet
   pub evicted : List Packet
 
--- The tap: the queue that it was opened with, the packets that it pulled, and the lists of the seats that it gathered, the latest first.
+-- The tap: the queue that it was opened with, whether it keeps the packets that it pulls, those that it pulled, and the lists of the seats
+-- that it gathered, the latest first.
 pub record TapLists : Type 0 where
   pub id : TableId
   pub setup : Setup
+  pub keeps : Bool
   pub taken : List Packet
   pub gathered : List Gathered
 
@@ -95,7 +97,7 @@ IsOffered old p (Evicted front) new = (old.setup.kind ≡ FrontDrop) × (new ≡
 
 -- the tap once it pulled a packet
 abbrev pub taking : TapLists → Packet → TapLists
-taking t p = record { id = t.id; setup = t.setup; taken = t.taken ++ p ∷ []; gathered = t.gathered }
+taking t p = record { id = t.id; setup = t.setup; keeps = t.keeps; taken = t.taken ++ p ∷ []; gathered = t.gathered }
 
 -- What a pull does to a tap: the packet goes to the end of those pulled, or nothing changes.
 abbrev pub IsPulled : TapLists → Option Packet → TapLists → Type 0
@@ -104,7 +106,7 @@ IsPulled old (Some p) new = new ≡ taking old p
 
 -- the tap once it gathered a seat: it keeps the seat's sender, with the packets accepted and evicted there
 abbrev pub gathering : TapLists → SeatLists → TapLists
-gathering t s = record { id = t.id; setup = t.setup; taken = t.taken; gathered = gathered_seat s.sender s.accepted s.evicted ∷ t.gathered }
+gathering t s = record { id = t.id; setup = t.setup; keeps = t.keeps; taken = t.taken; gathered = gathered_seat s.sender s.accepted s.evicted ∷ t.gathered }
 
 -- each of the packets is of one of the setup's senders
 abbrev pub AreOfSenders : Setup → List Packet → Type 0
@@ -129,12 +131,12 @@ abbrev pub empty_seat : TableId → Setup → ℕ × ℕ → SeatLists
 empty_seat id setup r = record { id = id; setup = setup; sender = r.0; room = r.1; next = 0; accepted = []; refused = []; evicted = [] }
 
 -- the tap before its first pull
-abbrev pub empty_tap : TableId → Setup → TapLists
-empty_tap id setup = record { id = id; setup = setup; taken = []; gathered = [] }
+abbrev pub empty_tap : Bool → TableId → Setup → TapLists
+empty_tap keeps id setup = record { id = id; setup = setup; keeps = keeps; taken = []; gathered = [] }
 
 -- A queue was opened with one seat for each sender, in order, and a tap, none of which has done anything.
 abbrev pub IsOpened : Setup → Queue → List SeatLists → TapLists → Type 0
-IsOpened setup queue seats tap = (queue ≡ queue_of queue.id setup) × (seats ≡ map (empty_seat queue.id setup) setup.rooms) × (tap ≡ empty_tap queue.id setup)
+IsOpened setup queue seats tap = (queue ≡ queue_of queue.id setup) × (seats ≡ map (empty_seat queue.id setup) setup.rooms) × (tap ≡ empty_tap tap.keeps queue.id setup)
 
 -- the setup of a queue of this kind and capacity, for these senders with their rooms
 abbrev pub setup_of : Kind → ℕ → List (ℕ × ℕ) → Setup

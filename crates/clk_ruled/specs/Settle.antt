@@ -98,9 +98,9 @@ tally_by was_put_out l = record { sender = l.sender; accepted = l.accepted; refu
 abbrev pub tally_of : List Packet → SeatLists → Tally
 tally_of out l = tally_by (has_packet out) l
 
--- What settling a queue tells: the packets pulled, and the tallies of its senders.
+-- What settling a queue tells: the packets pulled, if the tap keeps them, and the tallies of its senders.
 pub record IsSettled (tap : TapLists) (closed : List ClosedLists) (pulled : List Packet) (told : List Tally) : Type 0 where
-  pub taken : pulled ≡ tap.taken
+  pub taken : tap.keeps ≡ true → pulled ≡ tap.taken
   pub tallies : told ≡ map (tally_of (all_evicted (lists_of closed))) (lists_of closed)
   -- these packets were held, and with them the account is whole
   pub held : List Packet

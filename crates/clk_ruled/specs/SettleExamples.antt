@@ -1,5 +1,5 @@
 -- What settling worked queues tells, what it never tells, and why it fails.
-use Rattle.std.specs.Prelude.{ℕ, false, List, [], ◌∷◌, map}
+use Rattle.std.specs.Prelude.{ℕ, true, false, List, [], ◌∷◌, map}
 use Rattle.atomic_table.specs.Seated.{TableId}
 use Rattle.clk_packet.specs.declared.packet.Packet.{Packet}
 use Rattle.clk_packet.specs.declared.packet.Kind.TheVariants.{TailDrop, FrontDrop}
@@ -42,7 +42,7 @@ seat sender offered accepted refused evicted id setup =
 -- a queue whose seats are closed, by its setup, the packets pulled, and its seats
 abbrev closed_queue : Setup → List Packet → List (TableId → Setup → ClosedLists) → TableId → ClosedQueue
 closed_queue setup taken seats id =
-    record { tap = record { id = id; setup = setup; taken = taken; gathered = [] }; seats = map (λ (s : TableId → Setup → ClosedLists). s id setup) seats }
+    record { tap = record { id = id; setup = setup; keeps = true; taken = taken; gathered = [] }; seats = map (λ (s : TableId → Setup → ClosedLists). s id setup) seats }
 
 abbrev tally : ℕ → (accepted refused evicted : List Packet) → Tally
 tally s accepted refused evicted = record { sender = s; accepted = accepted; refused = refused; evicted = evicted }
@@ -84,7 +84,7 @@ tail_tallies = tally 0 (p0_0 ∷ []) (p0_1 ∷ []) [] ∷ []
 abbrev pub seat_of_a_queue : TableId → ClosedQueue
 seat_of_a_queue id =
     record {
-      tap = record { id = id; setup = setup_of FrontDrop 2 ((0, 2) ∷ []); taken = []; gathered = [] };
+      tap = record { id = id; setup = setup_of FrontDrop 2 ((0, 2) ∷ []); keeps = true; taken = []; gathered = [] };
       seats = seat 0 2 (p0_0 ∷ []) (p0_1 ∷ []) [] id (setup_of TailDrop 2 ((0, 2) ∷ [])) ∷ [];
     }
 

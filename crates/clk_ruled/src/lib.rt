@@ -1,7 +1,6 @@
 //! Bounded queues of packets that many senders and one consumer share without a lock, and on which every packet is accounted for.
 #![tactic(auto)]
 
-mod bare;
 mod closed;
 mod examples;
 mod laws;
@@ -10,16 +9,16 @@ mod protocol;
 mod queue;
 mod seat;
 mod settling;
+mod taken;
 mod tap;
 mod view;
 
-pub use bare::BareTap;
 pub use closed::ClosedSeat;
 pub use examples::{account_examples, fault_examples, settled_examples};
 pub use laws::{calls_keep_together, queues_keep_account};
-pub use open::{Opened, OpenedBare};
+pub use open::Opened;
 pub use queue::RuledQueue;
 pub use seat::Seat;
-pub use settling::{Settled, settle, settle_bare};
+pub use settling::{Settled, settle};
 pub use tap::Tap;
 pub use view::{Gathered, Setup, View};

@@ -9,10 +9,10 @@ ghost use Rattle.clk_ruled.specs.Queue.{setup_of, empty_seat};
 ghost use Rattle.clk_ruled.specs.inside.Parts.{IsSeated};
 ghost use Rattle.clk_ruled.specs.inside.Rule.{blank_view, tap_view, seat_view};
 
-use crate::bare::BareTap;
 use crate::protocol::{Open, Opening, Seated, Sending};
 use crate::queue::{Line, RuledQueue};
 use crate::seat::Seat;
+use crate::taken::Taken;
 use crate::tap::Tap;
 use crate::view::View;
 use clk_packet::{Fault, Kind, Packet};
@@ -137,20 +137,11 @@ pub struct Opened {
     pub tap: Tap,
 }
 
-/// A shared queue as it was opened, with a seat for each sender and a bare tap.
-#[derive(Drop)]
-pub struct OpenedBare {
-    pub queue: RuledQueue,
-    /// One seat for each sender, in order.
-    pub seats: Vec<Seat>,
-    pub tap: BareTap,
-}
-
 impl RuledQueue {
     ghost use Rattle.clk_ruled.specs.Queue.{IsOpened};
 
     /// Opens a queue of this kind that holds at most `capacity` packets, from 1 to 1,000,000, for these senders, each with the number of
-    /// packets that it may offer. The lists of all seats and of the tap are allocated here.
+    /// packets that it may offer. The lists of all seats and of the tap, which keeps the packets that it pulls, are allocated here.
     ///
     /// The queue has no more places than packets can be offered in all. No packet is refused for that: fewer places than the capacity are
     /// full only once every sender has offered all that it may.
@@ -168,43 +159,42 @@ impl RuledQueue {
         requires rising { AreRising (named_in senders.now) }
         requires room { rooms_in_all senders.now ≤ most_capacity }
         ensures opened { IfOk result (λ opened. IsOpened (setup_of kind capacity senders.now) opened.queue opened.seats.items opened.tap) }
+        ensures keeps { IfOk result (λ opened. opened.tap.keeps ≡ true) }
         ensures fault { IsOkUnless result Fault.Memory }
     {
-        let room = room_in_all(senders);
-        let OpenedBare { queue, seats, tap } = RuledQueue::open_bare(
-            alloc, kind, capacity, senders,
-        )?;
-        let tap = Tap::keeping(alloc, tap, room as usize)?;
-        Ok(Opened { queue, seats, tap })
+        RuledQueue::open_keeping(alloc, kind, capacity, senders, true)
     }
 
-    /// Opens a queue as `open` does, with a tap that keeps none of the packets that it pulls.
+    /// Opens a queue as `open` does. `keeps` says whether its tap keeps the packets that it pulls.
     ///
     /// # Errors
     ///
     /// Fault 1 if an allocation fails.
-    pub fn open_bare(
+    pub fn open_keeping(
         alloc: Global,
         kind: Kind,
         capacity: u32,
         senders: &[(u16, u32)],
-    ) -> Result<OpenedBare, Fault>
+        keeps: bool,
+    ) -> Result<Opened, Fault>
         requires capacity { (1 ≤ capacity) × (capacity ≤ most_capacity) }
         requires rising { AreRising (named_in senders.now) }
         requires room { rooms_in_all senders.now ≤ most_capacity }
         ensures opened { IfOk result (λ opened. IsOpened (setup_of kind capacity senders.now) opened.queue opened.seats.items opened.tap) }
+        ensures keeps { IfOk result (λ opened. opened.tap.keeps ≡ keeps) }
         ensures fault { IsOkUnless result Fault.Memory }
     {
         let room = room_in_all(senders);
         let (line, mut pass) = Line::ruled(alloc, places(capacity, room) as usize)?;
         set_up::<Brand>(&line, &mut pass, kind, capacity, senders);
         let seats = seats_for(alloc, &line, &mut pass, senders)?;
-        let tap = BareTap::fresh(&line, pass);
+        let taken = Taken::none(alloc, keeps, room as usize)?;
+        let tap = Tap::fresh(&line, pass, taken);
         let queue = RuledQueue {
             line,
             kind,
             capacity,
         };
-        Ok(OpenedBare { queue, seats, tap })
+        Ok(Opened { queue, seats, tap })
     }
 }

@@ -11,7 +11,6 @@ ghost use Rattle.clk_ruled.specs.inside.Marks.{is_marked, untold, telling};
 ghost use Rattle.clk_ruled.specs.Queue.{IsTapOf, IsSharedOut};
 ghost use Rattle.clk_ruled.specs.Settle.{AreOpenedTogether, AreOfTap, HasEach, IsSettled, IsFaultOfSettle, all_evicted, lists_of};
 
-use crate::bare::BareTap;
 use crate::closed::ClosedSeat;
 use crate::queue::RuledQueue;
 use crate::tap::Tap;
@@ -25,12 +24,12 @@ use std::alloc::Global;
 pub struct Settled {
     /// A tally for each sender, in order.
     pub tallies: Vec<Tally>,
-    /// The packets that were pulled, in order.
+    /// The packets that were pulled, in order, if the tap keeps them.
     pub taken: Vec<Packet>,
 }
 
-/// Settles a queue whose seats are all closed. Returns a tally for each sender, in order, and the packets that were pulled. What the queue
-/// still holds is dropped. Seats that weren't gathered are gathered. `index` is the queue's number, for the fault.
+/// Settles a queue whose seats are all closed. Returns a tally for each sender, in order, and the packets that were pulled, if the tap keeps
+/// them. What the queue still holds is dropped. Seats that weren't gathered are gathered. `index` is the queue's number, for the fault.
 ///
 /// # Errors
 ///
@@ -46,28 +45,6 @@ pub fn settle(
     ensures settled { IfOk result (λ settled. IsSettled tap closed.items settled.taken.items settled.tallies.items) }
     ensures fault { IfErr result (IsFaultOfSettle tap closed.items index) }
 {
-    let (bare, taken) = tap.into_parts();
-    let tallies = settle_bare(alloc, queue, bare, closed, index)?;
-    Ok(Settled { tallies, taken })
-}
-
-/// Settles a queue with a bare tap as `settle` does, and returns a tally for each sender, in order. The packets that were pulled are known
-/// to contracts alone.
-///
-/// # Errors
-///
-/// Fault 1 if an allocation fails. Fault 21 if a packet was refused or evicted though the queue accepted fewer packets than its capacity.
-pub fn settle_bare(
-    alloc: Global,
-    queue: RuledQueue,
-    tap: BareTap,
-    closed: Vec<ClosedSeat>,
-    index: u16,
-) -> Result<Vec<Tally>, Fault>
-    requires together { AreOpenedTogether queue tap closed.items }
-    ensures settled { IfOk result (λ tallies. IsSettled tap closed.items tap.taken tallies.items) }
-    ensures fault { IfErr result (IsFaultOfSettle tap closed.items index) }
-{
     let mut tap = tap;
     let mut closed = closed;
     gather_all(&queue, &mut tap, &mut closed);
@@ -77,15 +54,19 @@ pub fn settle_bare(
     let mut marks = Marks::none(alloc);
     let mut tallies = take_apart(alloc, closed, &mut marks)?;
     tell_evicted(alloc, &mut tallies, &marks)?;
-    Ok(tallies)
+    Ok(Settled {
+        tallies,
+        taken: tap.into_taken(),
+    })
 }
 
 // The tap gathers all these seats.
-fn gather_all(queue: &RuledQueue, tap: &mut BareTap, closed: &mut Vec<ClosedSeat>)
+fn gather_all(queue: &RuledQueue, tap: &mut Tap, closed: &mut Vec<ClosedSeat>)
     requires queue { IsTapOf queue.now tap.old }
     requires together { AreOfTap tap.old closed.old.items }
     ensures lists { lists_of closed.new.items ≡ lists_of closed.old.items }
     ensures tap { (tap.new.setup ≡ tap.old.setup) × (tap.new.taken ≡ tap.old.taken) }
+    ensures keeps { tap.new.keeps ≡ tap.old.keeps }
     ensures gathered { HasEach tap.new (lists_of closed.old.items) }
 {
     for seat in closed.iter_mut() {

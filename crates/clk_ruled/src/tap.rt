@@ -1,54 +1,65 @@
-//! A tap that keeps the packets that it pulls.
+//! The tap of a shared queue.
 
-ghost use Rattle.std.specs.Prelude.{◌≡◌, ◌≤◌, vec_capacity};
-
-use crate::bare::BareTap;
 use crate::closed::ClosedSeat;
-use crate::queue::RuledQueue;
-use crate::seat::note;
-use clk_packet::{Fault, Packet};
-use std::alloc::Global;
+use crate::protocol::{Gather, Pull};
+use crate::queue::{Line, RuledQueue};
+use crate::taken::Taken;
+use crate::view::View;
+use clk_packet::Packet;
+use crossbeam_queue::Pass;
 use std::marker::Model;
 use std::sync::Wait;
 
-/// The tap of a shared queue. It keeps the packets that it pulled, in a list whose room was reserved when the queue was opened.
+/// The tap of a shared queue. If it keeps the packets that it pulls, the memory for them was allocated when the queue was opened. Contracts
+/// speak of these packets, kept or not.
 #[derive(Drop)]
 pub struct Tap {
-    bare: BareTap,
-    taken: Vec<Packet>,
+    pass: Pass<Packet, View>,
+    taken: Taken,
 }
 
 impl Model for Tap {
-    ghost use Rattle.std.specs.Prelude.{◌≡◌, ◌≤◌, vec_capacity};
+    ghost use Rattle.std.specs.Prelude.{◌≡◌, ◌≤◌, [], true, vec_capacity};
+    ghost use Rattle.crossbeam_queue.specs.Passes.{view as known};
     ghost use Rattle.clk_ruled.specs.Rooms.{rooms_in_all};
     ghost use Rattle.clk_ruled.specs.Queue.{TapLists};
+    ghost use Rattle.clk_ruled.specs.inside.Parts.{TapKeeps};
 
     ghost Value = { TapLists };
 
-    ghost view = { λ t. t.bare };
+    ghost view = { λ t. record {
+      id = t.pass.table_id;
+      setup = (known t.pass).setup;
+      keeps = t.taken.keeps;
+      taken = (known t.pass).taken;
+      gathered = (known t.pass).gathered;
+    } };
 
-    ghost invariant = { λ t. (t.bare.taken ≡ t.taken.items) × (rooms_in_all t.bare.setup.rooms ≤ vec_capacity t.taken) };
+    ghost invariant = { λ t. TapKeeps (known t.pass) × (t.pass.me.1 ≡ [])
+        × (t.taken.keeps ≡ true → t.taken.packets.items ≡ (known t.pass).taken)
+        × (t.taken.keeps ≡ true → rooms_in_all (known t.pass).setup.rooms ≤ vec_capacity t.taken.packets) };
 }
 
 impl Tap {
-    ghost use Rattle.std.specs.Prelude.{◌≡◌, ℕ, ◌≤◌, ◌+◌, true, false, List, [], length, None, IfOk, IsOkUnless};
+    ghost use Rattle.std.specs.Prelude.{◌≡◌, ℕ, ◌≤◌, ◌+◌, true, false, List, [], length, None, vec_capacity};
+    ghost use Rattle.crossbeam_queue.specs.Passes.{view as known, IsPassOf};
     ghost use Rattle.clk_packet.specs.Lists.{of_sender, AreRising};
     ghost use Rattle.clk_ruled.specs.PacketLists.{packet_numbers};
     ghost use Rattle.clk_ruled.specs.Rooms.{rooms_in_all};
-    ghost use Rattle.clk_ruled.specs.Queue.{ClosedLists, IsTapOf, IsPulled, AreOfSenders, AreAllGathered, accepted_in_all, evicted_in_all, gathering};
-    ghost use Rattle.clk_ruled.specs.Settle.{HasAllSeats, IsTakenWithin, IsAllTaken};
+    ghost use Rattle.clk_ruled.specs.Queue.{ClosedLists, IsTapOf, IsPulled, AreOfSenders, AreAllGathered, accepted_in_all, evicted_in_all, gathering, empty_tap};
+    ghost use Rattle.clk_ruled.specs.Settle.{HasAllSeats, IsAccounted, IsTakenWithin, IsAllTaken};
 
-    // Keeps what a bare tap will pull, which has pulled nothing so far and may pull so many packets. Fault 1 if an allocation fails.
-    pub(crate) fn keeping(alloc: Global, bare: BareTap, room: usize) -> Result<Tap, Fault>
-        requires none { bare.taken ≡ [] }
-        requires room { rooms_in_all bare.setup.rooms ≤ room }
-        ensures same { IfOk result (λ tap. tap ≡ bare) }
-        ensures fault { IsOkUnless result Fault.Memory }
+    // The tap of a queue that is open. `taken` has room for all packets that it may pull, if it keeps them.
+    pub(crate) fn fresh(line: &Line, pass: Pass<Packet, View>, taken: Taken) -> Tap
+        requires queue { IsPassOf line.now pass }
+        requires taps { ((known pass).taps ≡ true) × ((known pass).taken ≡ []) × ((known pass).gathered ≡ []) × (1 ≤ (known pass).setup.capacity) }
+        requires none { taken.packets.items ≡ [] }
+        requires room { taken.keeps ≡ true → rooms_in_all (known pass).setup.rooms ≤ vec_capacity taken.packets }
+        ensures { result ≡ empty_tap taken.keeps pass.table_id (known pass).setup }
     {
-        Ok(Tap {
-            bare,
-            taken: Vec::with_capacity(alloc, room)?,
-        })
+        let mut pass = pass;
+        line.learn_as::<Pull>(&mut pass);
+        Tap { pass, taken }
     }
 
     /// Pulls the packet at the front of the queue that the tap was opened with, or returns `None` if it finds the queue empty. Does not
@@ -58,6 +69,8 @@ impl Tap {
         ensures pulled { IsPulled self.old result self.new }
         ensures rises { (s : ℕ) → AreRising (packet_numbers (of_sender s self.new.taken)) }
         ensures known { AreOfSenders self.new.setup self.new.taken }
+        // No more packets are pulled than may be offered.
+        ensures room { length self.new.taken ≤ rooms_in_all self.new.setup.rooms }
         // With every seat gathered, no more packets are pulled than were accepted and not evicted. A pull returns `None` only if they are
         // as many.
         ensures within { AreAllGathered self.new → length self.new.taken + evicted_in_all self.new.gathered ≤ accepted_in_all self.new.gathered }
@@ -66,10 +79,8 @@ impl Tap {
         ensures seats_within { (closed : List ClosedLists) → HasAllSeats self.new closed → IsTakenWithin self.new closed }
         ensures seats_none { result ≡ None → (closed : List ClosedLists) → HasAllSeats self.new closed → IsAllTaken self.new closed }
     {
-        let pulled = self.bare.pull(queue, wait);
-        if let Some(packet) = pulled {
-            note(&mut self.taken, packet);
-        }
+        let pulled = queue.line.pop_as::<Pull, _>(wait, &mut self.pass);
+        self.taken.add(pulled);
         pulled
     }
 
@@ -84,24 +95,38 @@ impl Tap {
         // With every seat gathered, no more packets are pulled than were accepted and not evicted.
         ensures within { AreAllGathered self.new → length self.new.taken + evicted_in_all self.new.gathered ≤ accepted_in_all self.new.gathered }
     {
-        self.bare.gather(queue, seat);
+        // Reading a field brings the type invariant into scope, also if the seat was gathered before.
+        let _pass = &self.pass;
+        if seat.gathered {
+            return;
+        }
+        let theirs = seat.give_up(&queue.line);
+        queue.line.absorb::<Gather>(&mut self.pass, theirs);
+        queue.line.learn_as::<Pull>(&mut self.pass);
     }
 
-    /// The packets that the tap pulled, in order.
+    /// Does nothing. Its contract says that packets are accounted for, and that no more are pulled than were accepted and not evicted.
+    pub fn stays_within(&self)
+        ensures accounted { IsAccounted self.now }
+        ensures seats_within { (closed : List ClosedLists) → HasAllSeats self.now closed → IsTakenWithin self.now closed }
+    {
+        // Reading a field brings the type invariant into scope.
+        let _pass = &self.pass;
+    }
+    /// The packets that the tap pulled, in order, if it keeps them.
     pub fn taken(&self) -> &[Packet]
-        ensures taken { result.now ≡ self.now.taken }
+        ensures taken { self.now.keeps ≡ true → result.now ≡ self.now.taken }
         // With closed seats that are all gathered, no more packets were pulled than their lists have accepted and not evicted.
         ensures seats_within { (closed : List ClosedLists) → HasAllSeats self.now closed → IsTakenWithin self.now closed }
     {
-        self.bare.stays_within();
-        self.taken.as_slice()
+        self.stays_within();
+        self.taken.packets.as_slice()
     }
 
-    // The bare tap, and the packets that the tap pulled. Does not allocate.
-    pub(crate) fn into_parts(self) -> (BareTap, Vec<Packet>)
-        ensures tap { result.0 ≡ self }
-        ensures taken { result.1.items ≡ self.taken }
+    // The packets that the tap pulled, if it keeps them. Does not allocate.
+    pub(crate) fn into_taken(self) -> Vec<Packet>
+        ensures { self.keeps ≡ true → result.items ≡ self.taken }
     {
-        (self.bare, self.taken)
+        self.taken.packets
     }
 }

@@ -59,6 +59,28 @@ fn a_full_front_drop_queue_evicts_its_front(rt: HostRuntime) -> Result<(), Fault
     assert_row(&rt, rt.alloc(), shared, &calls, &tallies, &sent[1..])
 }
 
+// It pulls the same packets, and the tallies are the same.
+#[test]
+fn a_tap_may_keep_none_of_its_packets(rt: HostRuntime) -> Result<(), Fault> {
+    let alloc = rt.alloc();
+    let mut shared = Shared::open_keeping_none(alloc, Kind::FrontDrop, 2, &[(0, 3)])?;
+    let sent = [packet(0, 0, 10), packet(0, 1, 20), packet(0, 2, 30)];
+    let calls = [
+        Offer(0, 10, Accepted),
+        Offer(0, 20, Accepted),
+        Offer(0, 30, Evicted(sent[0])),
+        Pull(Some(sent[1])),
+        Pull(Some(sent[2])),
+        Pull(None),
+    ];
+    shared.make(&rt, &calls);
+    shared.assert_taken(&rt, &[]);
+    let settled = shared.close(alloc)?.settle(alloc)?;
+    let tallies = [(0, &sent[..], &[][..], &sent[..1])];
+    assert_settled(&rt, &settled, &tallies, &[]);
+    Ok(())
+}
+
 #[test]
 fn an_evicted_packet_is_its_own_senders(rt: HostRuntime) -> Result<(), Fault> {
     let mut shared = Shared::open(rt.alloc(), Kind::FrontDrop, 1, &[(0, 1), (1, 1)])?;

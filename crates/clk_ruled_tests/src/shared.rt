@@ -69,6 +69,24 @@ impl Shared {
         Ok(Shared { queue, seats, tap })
     }
 
+    /// Opens a queue whose tap keeps none of the packets that it pulls.
+    pub fn open_keeping_none(
+        alloc: Global,
+        kind: Kind,
+        capacity: u32,
+        senders: &[(u16, u32)],
+    ) -> Result<Shared, Fault>
+        requires capacity { (1 ≤ capacity) × (capacity ≤ most_capacity) }
+        requires rising { AreRising (named_in senders.now) }
+        requires room { rooms_in_all senders.now ≤ most_capacity }
+    {
+        calls_keep_together();
+        let Opened { queue, seats, tap } = RuledQueue::open_keeping(
+            alloc, kind, capacity, senders, false,
+        )?;
+        Ok(Shared { queue, seats, tap })
+    }
+
     /// The seat at this place offers its sender's next packet, of this length.
     pub fn offer<R: Abort + Wait>(&mut self, rt: &R, place: usize, length: u16) -> Offered
         requires { 1 ≤ length }

@@ -54,4 +54,5 @@ pub record IsDrainOf (session : Progress) (lines : List LineLists) (moment left 
 pub record IsSettledLine (l : LineLists) : Type 0 where
   pub together : AreTogether l.tap l.closed
   pub tallies : List Tally
-  pub is : IsSettled l.tap l.closed l.tap.taken tallies
+  pub pulled : List Packet
+  pub is : IsSettled l.tap l.closed pulled tallies

@@ -11,7 +11,7 @@ use crate::running::open_lines::{OpenLine, OpenLines};
 use crate::running::opening::{Ends, LeafQueue};
 use crate::running::producer::Producer;
 use clk_packet::Fault;
-use clk_ruled::{BareTap, Seat};
+use clk_ruled::{Seat, Tap};
 use std::alloc::Global;
 use std::sync::Wait;
 
@@ -83,7 +83,7 @@ fn hand_out_device<'a, W: Wait>(
 fn open_lines_for<'a>(
     alloc: Global,
     queues: &'a [LeafQueue],
-    taps: Vec<BareTap>,
+    taps: Vec<Tap>,
 ) -> Result<Vec<OpenLine<'a>>, Fault>
     requires taps { AreTapsOf queues.now taps.items }
     ensures open_lines { IfOk result (λ open_lines. open_lines.items ≡ lines_from queues.now taps.items) }

@@ -9,7 +9,7 @@ use crate::device::DeviceSession;
 use crate::line::Line;
 use crate::running::opening::LeafQueue;
 use clk_packet::Fault;
-use clk_ruled::{BareTap, ClosedSeat};
+use clk_ruled::{ClosedSeat, Tap};
 use std::alloc::Global;
 use std::marker::Model;
 use std::vec::IntoIter;
@@ -18,7 +18,7 @@ use std::vec::IntoIter;
 #[derive(Drop)]
 pub struct Pulled {
     pub session: DeviceSession,
-    pub taps: Vec<BareTap>,
+    pub taps: Vec<Tap>,
 }
 
 impl Model for Pulled {
@@ -83,7 +83,7 @@ pub fn join_devices(
 fn join_lines(
     alloc: Global,
     queues: Vec<LeafQueue>,
-    taps: Vec<BareTap>,
+    taps: Vec<Tap>,
     closed: &mut IntoIter<ClosedSeat, Global>,
 ) -> Result<Vec<Line>, Fault>
     requires joinable { AreJoinable queues.items taps.items (into_iter_items closed.old) }

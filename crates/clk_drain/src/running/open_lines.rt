@@ -7,7 +7,7 @@ ghost use Rattle.clk_drain.specs.inside.Parts.{IsPlaceOf};
 
 use crate::device::DeviceSession;
 use clk_packet::{Fault, Packet};
-use clk_ruled::{BareTap, RuledQueue};
+use clk_ruled::{RuledQueue, Tap};
 use clk_sched::Ask;
 use std::alloc::Global;
 use std::marker::Model;
@@ -18,7 +18,7 @@ use std::sync::Wait;
 pub struct OpenLine<'a> {
     pub leaf: u16,
     pub queue: &'a RuledQueue,
-    pub tap: BareTap,
+    pub tap: Tap,
 }
 
 impl<'a> Model for OpenLine<'a> {
@@ -53,7 +53,7 @@ impl<'a> OpenLine<'a> {
     }
 
     /// The tap.
-    pub fn into_tap(self) -> BareTap
+    pub fn into_tap(self) -> Tap
         ensures { result ≡ self.entry.tap }
     {
         self.tap
@@ -124,7 +124,7 @@ impl<'a, W: Wait> OpenLines<'a, W> {
     /// # Errors
     ///
     /// Fault 1 if an allocation fails.
-    pub fn into_taps(self, alloc: Global) -> Result<Vec<BareTap>, Fault>
+    pub fn into_taps(self, alloc: Global) -> Result<Vec<Tap>, Fault>
         ensures taps { IfOk result (λ taps. taps.items ≡ map (λ (l : LineLists). l.tap) self.entry) }
         ensures fault { IsOkUnless result Fault.Memory }
     {

@@ -11,7 +11,7 @@ ghost use Rattle.clk_drain.specs.inside.Opening.{rooms_for, IsAdded};
 use crate::device::DeviceSession;
 use crate::running::baton::Baton;
 use clk_packet::{Fault, Traces};
-use clk_ruled::{BareTap, OpenedBare, RuledQueue, Seat};
+use clk_ruled::{Opened, RuledQueue, Seat, Tap};
 use clk_tree::QueueSpec;
 use std::alloc::Global;
 use std::marker::Model;
@@ -32,7 +32,7 @@ pub struct LeafQueue {
 pub struct Ends {
     pub device: u16,
     pub session: DeviceSession,
-    pub taps: Vec<BareTap>,
+    pub taps: Vec<Tap>,
     pub seats: Vec<Vec<Seat>>,
 }
 
@@ -64,11 +64,12 @@ pub fn open_queue(
     ensures fault { IsOkUnless result Fault.Memory }
 {
     let rooms = rooms_for(alloc, &queue.senders, traces)?;
-    let OpenedBare { queue, seats, tap } = RuledQueue::open_bare(
+    let Opened { queue, seats, tap } = RuledQueue::open_keeping(
         alloc,
         queue.kind,
         queue.capacity,
         &rooms,
+        false,
     )?;
     queues.push(LeafQueue {
         leaf,

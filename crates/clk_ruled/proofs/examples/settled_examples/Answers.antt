@@ -13,7 +13,7 @@ accepted a b = of_seats a b (p0_0 ∷ p0_1 ∷ []) (p1_0 ∷ p1_1 ∷ [])
 pub returns-clause-is_front_dropped : goal.returns-clause-is_front_dropped
 returns-clause-is_front_dropped c =
     λ id. record {
-      taken = refl;
+      taken = λ _. refl;
       tallies = λ i. front_tallies;
       held = held;
       account = front-account-by-seats 2 (lit≤ tt);
@@ -31,7 +31,7 @@ accepted_alone a b = of_seats a false (p0_0 ∷ []) []
 pub returns-clause-is_tail_dropped : goal.returns-clause-is_tail_dropped
 returns-clause-is_tail_dropped c =
     λ id. record {
-      taken = refl;
+      taken = λ _. refl;
       tallies = λ i. tail_tallies;
       held = [];
       account = tail-account 1;

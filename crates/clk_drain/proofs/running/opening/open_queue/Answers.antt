@@ -7,12 +7,12 @@ use Rattle.clk_drain.specs.inside.Opening.{rooms_for}
 use Rattle.clk_drain.proofs.Rooms.{rooms-named, rooms-few}
 use Rattle.clk_drain.proofs.running.opening.open_queue.Goals as goal
 
-pub open_bare-requires-clause-rising : goal.open_bare-requires-clause-rising
-open_bare-requires-clause-rising c =
+pub open_keeping-requires-clause-rising : goal.open_keeping-requires-clause-rising
+open_keeping-requires-clause-rising c =
     let rooms = c.deref-2.ensures.value ∙ c.in_ok-rooms.ensures.rooms ∙ ap (rooms_for c.args.traces.now) c.deref.ensures.value in
     subst AreRising (sym (ap named_in rooms ∙ rooms-named c.args.traces.now c.args.queue.now.senders.items)) c.requires.rising
 
-pub open_bare-requires-clause-room : goal.open_bare-requires-clause-room
-open_bare-requires-clause-room c =
+pub open_keeping-requires-clause-room : goal.open_keeping-requires-clause-room
+open_keeping-requires-clause-room c =
     subst (λ rooms. rooms_in_all rooms ≤ most_capacity) (sym (c.deref-2.ensures.value ∙ c.in_ok-rooms.ensures.rooms ∙ ap (rooms_for c.args.traces.now) c.deref.ensures.value))
     (rooms-few c.args.traces.now c.args.queue.now.senders.items c.requires.rising (subst (λ senders. 0 < length senders → packets_in c.args.traces.now ≤ most_records) c.deref.ensures.value c.in_ok-rooms.ensures.within))

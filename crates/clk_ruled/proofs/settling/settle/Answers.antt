@@ -9,7 +9,7 @@ use Rattle.clk_ruled.specs.inside.Marks.{is_marked, telling, untold}
 use Rattle.clk_ruled.specs.Queue.{Queue, SeatLists, IsSharedOut}
 use Rattle.clk_ruled.specs.Settle.{lists_of, all_evicted, accepted_count, lost_count}
 use Rattle.clk_ruled.proofs.Settlement.{settles, lost-below, tallies-told}
-use Rattle.clk_ruled.proofs.settling.settle_bare.Goals as goal
+use Rattle.clk_ruled.proofs.settling.settle.Goals as goal
 
 pub returns-clause-settled : goal.returns-clause-settled
 returns-clause-settled c =
@@ -20,7 +20,7 @@ returns-clause-settled c =
     let marks = c.take_apart.new.marks in
     let marked : (p : Packet) → is_marked marks p ≡ has_packet (all_evicted seats) p =
     λ p. c.in_ok-tallies.ensures.marked p ∙ (λ i. has_packet (all_evicted (gathered.lists i)) p || c.none-marks.ensures p i) ∙ or_comm (has_packet (all_evicted seats) p) false in
-    settles c.args.tap c.gather_all.new.tap c.args.closed.items _ c.requires.together.1 gathered.tap gathered.gathered c.stays_within.ensures.accounted
+    settles c.args.tap c.gather_all.new.tap c.args.closed.items _ _ (λ keeps. c.into_taken.ensures (gathered.keeps ∙ keeps) ∙ gathered.tap.1) c.requires.together.1 gathered.tap gathered.gathered c.stays_within.ensures.accounted
     (c.in_ok-tell_evicted.ensures.told ∙ ap (map (telling (is_marked marks))) (c.in_ok-tallies.ensures.tallies ∙ ap (map untold) gathered.lists) ∙ tallies-told (all_evicted seats) (is_marked marks) marked seats)
     (subst (AllByRecursion IsSharedOut) gathered.lists c.in_ok-tallies.ensures.shared)
     (subst (λ (x : List SeatLists × ℕ). 0 < lost_count x.0 → x.1 ≤ accepted_count x.0) (λ i. (seen i, capacity i)) c.in_ok-check_reached.ensures.reached)

@@ -6,7 +6,7 @@ use Rattle.clk_ruled.specs.inside.Parts.{IsSeated}
 use Rattle.clk_ruled.specs.Queue.{setup_of}
 use Rattle.clk_ruled.proofs.Begins.{begins}
 use Rattle.clk_ruled.proofs.Opening.{seated-first}
-use Rattle.clk_ruled.proofs.queue.RuledQueue.open_bare.Goals as goal
+use Rattle.clk_ruled.proofs.queue.RuledQueue.open_keeping.Goals as goal
 
 pub ruled-requires-clause-rule : goal.ruled-requires-clause-rule
 ruled-requires-clause-rule c = begins

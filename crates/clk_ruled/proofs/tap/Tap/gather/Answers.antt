@@ -2,7 +2,7 @@ use Rattle.std.proofs.Common.{◌+◌, ◌≤◌, length, subst}
 use Rattle.clk_ruled.specs.Queue.{TapLists, AreAllGathered, accepted_in_all, evicted_in_all}
 use Rattle.clk_ruled.proofs.Steps.{gathers, learns}
 use Rattle.clk_ruled.proofs.TapSteps.{keeps-gathered, taken-fewer}
-use Rattle.clk_ruled.proofs.bare.BareTap.gather.Goals as goal
+use Rattle.clk_ruled.proofs.tap.Tap.gather.Goals as goal
 
 pub absorb-requires-clause-rule : goal.absorb-requires-clause-rule
 absorb-requires-clause-rule c = gathers _ _ _ _ c.self.invariant.0.taps c.give_up-theirs.ensures.sits
