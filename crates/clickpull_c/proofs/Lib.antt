@@ -10,4 +10,5 @@ mod LiveTakes
 mod LiveSteps
 mod Batches
 mod Records
+mod Offered
 pub mod SoFar

@@ -21,13 +21,7 @@ pub extern "C" fn clk_router_offer(
 ) -> u32
     ensures answer { ((result ≡ OK) × IsOffered router.old.router router.new.router sender length offered.new) ⊎ (RefusesOffer router.old.router sender length result × (router.new.router ≡ router.old.router) × (offered.new ≡ offered.old)) }
 {
-    match offer(router.get_mut(), sender, length) {
-        Ok(filled) => {
-            *offered = filled;
-            OK
-        }
-        Err(status) => status,
-    }
+    offer(router.get_mut(), sender, length, offered)
 }
 
 /// Offers packets in the order of these offers, up to the first that can't be made. Fills in how many were made, and each packet with its
@@ -61,35 +55,33 @@ fn offer_each(
     let mut done = 0;
     while done < offers.len() {
         let wanted = offers[done];
-        match offer(router, wanted.sender, wanted.length) {
-            Ok(filled) => {
-                offered[done] = filled;
-                done += 1;
-            }
-            Err(status) => return (done, status),
+        let status = offer(router, wanted.sender, wanted.length, &mut offered[done]);
+        if status != OK {
+            return (done, status);
         }
+        done += 1;
     }
     (done, OK)
 }
 
-/// Makes one offer to this router. Returns the packet with its outcome, or the status that says why the offer can't be made.
-fn offer(router: &mut CountingRouter, sender: u32, length: u32) -> Result<COffered, u32>
-    ensures offered { IfOk result (IsOffered router.old router.new sender length) }
-    ensures refused { IfErr result (RefusesOffer router.old sender length) }
-    ensures unchanged { OnErr result (router.new ≡ router.old) }
+/// Makes one offer to this router, if it can be made, and fills in the packet with its outcome. Returns the status. It fills the place
+/// itself, since a result of this size would be copied through memory.
+fn offer(router: &mut CountingRouter, sender: u32, length: u32, offered: &mut COffered) -> u32
+    ensures answer { ((result ≡ OK) × IsOffered router.old router.new sender length offered.new) ⊎ (RefusesOffer router.old sender length result × (router.new ≡ router.old) × (offered.new ≡ offered.old)) }
 {
     let Some(length) = length_of(length) else {
-        return Err(BAD_LENGTH);
+        return BAD_LENGTH;
     };
     let Some(place) = place_of(router, sender) else {
-        return Err(UNKNOWN_SENDER);
+        return UNKNOWN_SENDER;
     };
     let place = usize::from(place);
     if !router.can_offer(place) {
-        return Err(AT_END);
+        return AT_END;
     }
     let (packet, outcome) = router.offer(place, length);
-    Ok(offered_for_c(packet, outcome))
+    *offered = offered_for_c(packet, outcome);
+    OK
 }
 
 /// The place of the sender with this number, if there is one.

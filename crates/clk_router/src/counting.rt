@@ -150,6 +150,7 @@ impl CountingRouter {
     }
 
     /// The sender at this place offers its next packet, of this length in bytes, to its queue. Returns the packet and the outcome.
+    #[inline(always)]
     pub fn offer(&mut self, place: usize, length: u16) -> (Packet, Offered)
         requires can { CanOffer self.old place }
         requires has_length { 1 ≤ length }
@@ -182,6 +183,7 @@ impl CountingRouter {
     }
 
     /// Pulls a device once, at this moment in ticks, or at the device's latest moment if that is later.
+    #[inline(always)]
     pub fn pull(&mut self, device: u16, moment: u64) -> Option<Packet>
         requires can { CanPull self.old device moment }
         ensures pulled { IsPulled self.old self.new device moment result }

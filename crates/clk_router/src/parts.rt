@@ -69,6 +69,7 @@ impl Parts {
     }
 
     /// The sender at this place offers its next packet, of this length in bytes, to its queue. Returns the packet and the outcome.
+    #[inline(always)]
     pub fn offer(&mut self, place: usize, length: u16) -> (Packet, Offered)
         requires can { CanOfferAt self.old place }
         requires has_length { 1 ≤ length }
@@ -101,6 +102,7 @@ impl Parts {
 
     /// Pulls a device once, at this moment in ticks, or at the device's latest moment if that is later. Fault 1 if an allocation for what
     /// it keeps fails.
+    #[inline(always)]
     pub fn pull(&mut self, device: u16, moment: u64) -> Result<Option<Packet>, Fault>
         requires can { CanPullAt self.old.keeps (slice_get self.old.devices.items device) }
         requires moment { moment < end_of_moments }

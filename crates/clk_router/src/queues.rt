@@ -97,6 +97,7 @@ impl Backlog for Queues {
 }
 
 /// How many of these marks stand before the first mark of a queue that may hold a packet.
+#[inline(never)]
 fn count_idle(marks: &[u8]) -> usize
     ensures within { result ≤ length marks.now }
     ensures idle { (k : ℕ) → k < result → slice_index marks.now k ≢ FILLED }

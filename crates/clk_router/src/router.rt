@@ -162,6 +162,7 @@ impl Router {
     }
 
     /// The sender at this place offers its next packet, of this length in bytes, to its queue. Returns the packet and the outcome.
+    #[inline(always)]
     pub fn offer(&mut self, place: usize, length: u16) -> (Packet, Offered)
         requires can { CanOffer self.old place }
         requires has_length { 1 ≤ length }
@@ -194,6 +195,7 @@ impl Router {
     /// # Errors
     ///
     /// Fault 1 if an allocation for what the devices keep fails. Then nothing has happened. It never fails if they keep nothing.
+    #[inline(always)]
     pub fn pull(&mut self, device: u16, moment: u64) -> Result<Option<Packet>, Fault>
         requires can { CanPull self.old device moment }
         ensures pulled { IfOk result (IsPulled self.old self.new device moment) }

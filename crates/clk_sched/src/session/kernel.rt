@@ -96,6 +96,7 @@ impl Kernel {
     /// # Errors
     ///
     /// Fault 1 if an allocation fails. Then nothing has changed. A session that keeps nothing never fails.
+    #[inline(always)]
     pub fn pull<Q: Ask>(&mut self, q: &mut Q, moment: u64) -> Result<Option<Packet>, Fault>
         requires moment { moment < end_of_moments }
         requires pulls { IsEndless self.old → pulls_made (progress_of self.old) < end_of_pulls }

@@ -88,6 +88,24 @@ impl Log {
         self.packed.reserve_packed(visits)
     }
 
+    /// Whether visits are kept, as a list or packed.
+    #[inline]
+    pub fn keeps_any(&self) -> bool
+        ensures { result ≡ (self.now.kind.keeps || self.now.kind.packs) }
+    {
+        self.keeps || self.packs
+    }
+
+    /// Adds a visit that isn't kept: only contracts see it.
+    #[inline]
+    pub fn pass(&mut self, visit: &Visit)
+        requires unkept { self.old.kind.keeps || self.old.kind.packs ≡ false }
+        requires room { 1 ≤ self.old.spare }
+        ensures { self.new ≡ with_visit self.old visit.now }
+    {
+        self.all.push(visit);
+    }
+
     /// Adds a visit, for which there is room.
     #[inline]
     pub fn push(&mut self, visit: Visit)

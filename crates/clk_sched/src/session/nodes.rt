@@ -49,7 +49,7 @@ impl Nodes {
 
     /// Pulls a node, as its class does, and returns its result.
     #[cycle(pull)]
-    #[inline(never)]
+    #[inline(always)]
     pub fn pull<Q: Ask>(&mut self, q: &mut Q, node: u16) -> Option<Packet>
         requires can_pull { CanPull self.old node (edges_of self.old.inputs.items node) }
         ensures { WasPulled Q.gives self.old self.new q.old q.new node result }
@@ -85,7 +85,7 @@ impl Nodes {
 
     /// Asks inputs of a node in this order until one gives a packet, and returns its place in the order and the packet.
     #[cycle(pull)]
-    #[inline(never)]
+    #[inline(always)]
     pub fn ask_in_order<Q: Ask>(
         &mut self,
         q: &mut Q,
@@ -137,6 +137,7 @@ impl Nodes {
 
     /// Asks `count` inputs of a node, from `first` on, until one gives a packet. Returns its place among them and the packet.
     #[cycle(pull)]
+    #[inline(always)]
     pub fn ask_in_turn<Q: Ask>(
         &mut self,
         q: &mut Q,
@@ -218,7 +219,7 @@ impl Nodes {
 
     /// Asks what stands at an input of a node, records the visit, and returns what it got.
     #[cycle(pull)]
-    #[inline]
+    #[inline(always)]
     pub fn look<Q: Ask>(&mut self, q: &mut Q, node: u16, input: u16) -> Option<Packet>
         requires can_pull { CanPull self.old node (edges_at self.old.inputs.items node input) }
         requires within { IsSome (input_at self.old.inputs.items node input) }
@@ -230,8 +231,23 @@ impl Nodes {
     }
 
     /// Records that an input of a node was asked, and what it gave.
-    #[inline]
+    #[inline(always)]
     pub fn record(&mut self, node: u16, input: u16, got: Option<Packet>)
+        requires { 1 ≤ self.old.log.spare }
+        ensures { Logs self.old self.new (asking self.old.pull self.old.moment node input got) }
+    {
+        if self.log.keeps_any() {
+            self.record_kept(node, input, got);
+            return;
+        }
+        self.log
+            .pass(&Visit::asking(self.pull, self.moment, node, input, got));
+    }
+
+    /// Records it as `record` does, in a log that keeps visits. It is a call of its own, so that a pull whose visits aren't kept puts none
+    /// together.
+    #[inline(never)]
+    fn record_kept(&mut self, node: u16, input: u16, got: Option<Packet>)
         requires { 1 ≤ self.old.log.spare }
         ensures { Logs self.old self.new (asking self.old.pull self.old.moment node input got) }
     {
@@ -257,6 +273,7 @@ impl Nodes {
 
     /// Asks what stands at an input of a node.
     #[cycle(pull)]
+    #[inline(always)]
     pub fn ask<Q: Ask>(&mut self, q: &mut Q, node: u16, input: u16) -> Option<Packet>
         requires can_pull { CanPull self.old node (edges_at self.old.inputs.items node input) }
         requires within { IsSome (input_at self.old.inputs.items node input) }
