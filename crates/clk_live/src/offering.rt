@@ -17,7 +17,7 @@ use clk_inlet::Item;
 use clk_router::CountingRouter;
 
 // Offers the packet that comes next from the inlet of the sender at a place, and notes its token.
-#[inline]
+#[inline(always)]
 pub(crate) fn offer_next(
     router: &mut CountingRouter,
     tokens: &mut Vec<HeapCircularBuffer<u64>>,

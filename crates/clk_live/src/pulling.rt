@@ -19,7 +19,7 @@ impl Live {
     ghost use Rattle.clk_live.specs.Pulling.{IsPulledLive, ArePulled};
 
     /// Pulls a device once, at this moment in ticks, or at the device's latest moment if that is later.
-    #[inline]
+    #[inline(always)]
     pub fn pull(&mut self, device: u16, moment: u64) -> Option<Emitted>
         requires can { CanPull self.old.course device moment }
         ensures pulled { IsPulledLive device moment (seen self.old) result (seen self.new) }
