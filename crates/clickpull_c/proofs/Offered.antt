@@ -1,15 +1,10 @@
 -- What the status of an offer tells.
-use Rattle.std.proofs.Common.{◌≡◌, ◌⊎◌, ℕ, inl, inr, arith}
+use Rattle.std.proofs.Common.{◌≡◌, ℕ, inl, inr, arith}
 use Rattle.clk_router.specs.Course.{Course}
 use Rattle.clickpull_c.specs.Answers.{RefusesOffer, bad_length, unknown_sender, at_end}
-use Rattle.clickpull_c.specs.Calls.{IsOffered}
+use Rattle.clickpull_c.specs.Calls.{IsOffered, AnswersOffer}
 use Rattle.clickpull_c.specs.declared.statuses.TheConstants.{OK}
 use Rattle.clickpull_c.specs.declared.values.COffered.{COffered}
-
--- what an offer returns, with what it fills in
-abbrev pub AnswersOffer : (old new : Course) (sender length : ℕ) (before filled : COffered) (status : ℕ) → Type 0
-AnswersOffer old new sender length before filled status =
-    ((status ≡ OK) × IsOffered old new sender length filled) ⊎ (RefusesOffer old sender length status × (new ≡ old) × (filled ≡ before))
 
 -- An offer that isn't made has another status than OK.
 not-ok : (c : Course) (sender length status : ℕ) → RefusesOffer c sender length status → status ≡ OK → ⊥

@@ -24,6 +24,11 @@ pub record IsOffered (old new : Course) (sender length : ℕ) (filled : COffered
   pub filled_is : filled ≡ offered_in_c packet outcome
   pub goes_on : new ≡ after old (offered packet outcome ∷ [])
 
+-- An offer was made, and its packet and outcome were filled in; or it is refused, and nothing changed. This status was returned.
+abbrev pub AnswersOffer : (old new : Course) (sender length : ℕ) (before filled : COffered) (status : ℕ) → Type 0
+AnswersOffer old new sender length before filled status =
+    ((status ≡ OK) × IsOffered old new sender length filled) ⊎ (RefusesOffer old sender length status × (new ≡ old) × (filled ≡ before))
+
 -- what a pull with this result returns
 abbrev pub pull_status : Option Packet → ℕ
 pull_status None = NONE

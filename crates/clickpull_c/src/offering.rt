@@ -1,10 +1,9 @@
 //! Offers of packets.
 
-ghost use Rattle.std.specs.Prelude.{◌≡◌, ◌<◌, ◌≤◌, ◌⊎◌, ◌^◌, None, Some, length, slice_get, IfSome, IfOk, IfErr, OnErr};
+ghost use Rattle.std.specs.Prelude.{◌≡◌, ◌<◌, ◌≤◌, ◌^◌, None, Some, length, slice_get, IfSome};
 ghost use Rattle.clk_router.specs.Course.{sender_at};
-ghost use Rattle.clickpull_c.specs.Answers.{IsUnknown, RefusesOffer};
-ghost use Rattle.clickpull_c.specs.Calls.{EndsOffers, IsOffered, IsOfferedSoFar};
-ghost use Rattle.clickpull_c.specs.declared.statuses.TheConstants.{OK};
+ghost use Rattle.clickpull_c.specs.Answers.{IsUnknown};
+ghost use Rattle.clickpull_c.specs.Calls.{AnswersOffer, EndsOffers, IsOfferedSoFar};
 
 use crate::handle::Handle;
 use crate::statuses::{AT_END, BAD_LENGTH, OK, UNKNOWN_SENDER};
@@ -19,7 +18,7 @@ pub extern "C" fn clk_router_offer(
     length: u32,
     offered: &mut COffered,
 ) -> u32
-    ensures answer { ((result ≡ OK) × IsOffered router.old.router router.new.router sender length offered.new) ⊎ (RefusesOffer router.old.router sender length result × (router.new.router ≡ router.old.router) × (offered.new ≡ offered.old)) }
+    ensures answer { AnswersOffer router.old.router router.new.router sender length offered.old offered.new result }
 {
     offer(router.get_mut(), sender, length, offered)
 }
@@ -67,7 +66,7 @@ fn offer_each(
 /// Makes one offer to this router, if it can be made, and fills in the packet with its outcome. Returns the status. It fills the place
 /// itself, since a result of this size would be copied through memory.
 fn offer(router: &mut CountingRouter, sender: u32, length: u32, offered: &mut COffered) -> u32
-    ensures answer { ((result ≡ OK) × IsOffered router.old router.new sender length offered.new) ⊎ (RefusesOffer router.old sender length result × (router.new ≡ router.old) × (offered.new ≡ offered.old)) }
+    ensures answer { AnswersOffer router.old router.new sender length offered.old offered.new result }
 {
     let Some(length) = length_of(length) else {
         return BAD_LENGTH;

@@ -1,4 +1,4 @@
-use Rattle.std.proofs.Common.{◌≡◌, ℕ, ◌+◌, List, length, map, codes, sym, ap, ◌∙◌, arith, length-append}
+use Rattle.std.proofs.Common.{◌≡◌, ℕ, List, length, map, codes, ap, arith, length-append}
 use Rattle.clk_packet.specs.declared.fault.Fault.{Fault}
 use Rattle.clk_explain.specs.Explanation.{Explains, wrong_at, place_of, line_of, shown}
 use Rattle.clickpull_c.specs.Explains.{whole, front, nothing}

@@ -1,5 +1,4 @@
-use Rattle.std.proofs.Common.{◌≡◌, ℕ, ◌+◌, ◌<◌, List, length, Option, Some, None, refl, arith}
-use Rattle.clickpull_c.specs.Examples.{a_line, line_room, line_added}
+use Rattle.std.proofs.Common.{◌≡◌, ℕ, ◌+◌, ◌<◌, List, length, Option, refl, arith}
 use Rattle.clickpull_c.specs.Recording.{AddsLines, IsAdded, MayGoOn, added, full, at_end}
 use Rattle.clickpull_c.specs.declared.statuses.TheConstants.{OK, FULL, AT_END}
 use Rattle.clickpull_c.proofs.examples.record_examples.Goals as goal
