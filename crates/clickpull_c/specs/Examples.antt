@@ -6,7 +6,7 @@ use Rattle.clk_packet.specs.declared.packet.Packet.{Packet}
 use Rattle.clk_packet.specs.declared.packet.Kind.TheVariants.{TailDrop}
 use Rattle.clk_packet.specs.declared.packet.Offered.TheVariants.{Accepted}
 use Rattle.clk_sched.specs.Examples.{look}
-use Rattle.clk_sched.specs.Kinds.{keeps_nothing}
+use Rattle.clk_sched.specs.Keeps.{keeps_nothing}
 use Rattle.clk_sched.specs.Log.{asking}
 use Rattle.clk_sched.specs.Tree.{queue, scheduler, drr, leaf, end}
 use Rattle.clk_router.specs.Events.{Setup, offered, pulled}

@@ -4,7 +4,7 @@ use Rattle.clk_packet.specs.declared.fault.Fault.{Fault}
 use Rattle.clk_packet.specs.declared.fault.Fault.TheVariants.{Memory}
 use Rattle.clk_syntax.specs.Reading.{HasFault}
 use Rattle.clk_tree.specs.Plan.{Planned, Denotes}
-use Rattle.clk_sched.specs.Kinds.{keeps_nothing}
+use Rattle.clk_sched.specs.Keeps.{keeps_nothing}
 use Rattle.clk_router.specs.Course.{Course, IsOpened}
 use Rattle.clickpull_c.specs.declared.values.CFault.{CFault}
 use Rattle.clickpull_c.specs.declared.statuses.TheConstants.{FAULT}

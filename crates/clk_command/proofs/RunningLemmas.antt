@@ -9,7 +9,8 @@ use Rattle.clk_packet.specs.Trace.{pairs_of, sent, sent_by, shown, trace_fault}
 use Rattle.clk_sched.specs.declared.visit.Visit.{Visit}
 use Rattle.clk_tree.specs.Plan.{Planned}
 use Rattle.clk_tree.specs.PlanTree.{device_count}
-use Rattle.clk_drain.specs.declared.outcome.PackedOutcome.{PackedOutcome}
+use Rattle.clk_sched.specs.declared.session.packed.PackedLog.{PackedLog}
+use Rattle.clk_drain.specs.declared.outcome.Outcome.{Outcome}
 use Rattle.clk_drain.specs.Outcome.{Device}
 use Rattle.clk_drain.specs.Run.{AreDevicesFrom, IsRunWith}
 use Rattle.clk_report.specs.Devices.{all_emitted}
@@ -41,7 +42,7 @@ all-joined [] = refl
 all-joined (packets ∷ emitted) = ap (λ rest. packets.items ++ rest) (all-joined emitted)
 
 -- what a run over it writes
-pub run-writes : (plan : List Planned) (pace : Pace) (known : Option (List ℕ)) (traces : List (List Packet)) (logs : List (List Visit)) (outcome : PackedOutcome) → IfSome known (λ text. Tells text traces)
+pub run-writes : (plan : List Planned) (pace : Pace) (known : Option (List ℕ)) (traces : List (List Packet)) (logs : List (List Visit)) (outcome : Outcome PackedLog) → IfSome known (λ text. Tells text traces)
     → IsRunWith plan traces pace.step pace.limit logs (map (λ packets. packets.items) outcome.emitted.items) outcome.tallies.items → RunWrites plan pace known (report_text (all_emitted outcome.emitted.items) outcome.tallies.items) logs
 run-writes plan pace known traces logs outcome tells is = record {
   traces = traces;

@@ -8,7 +8,7 @@ ghost use Rattle.clk_packet.specs.Written.{WroteWhat};
 ghost use Rattle.clk_command.specs.Running.{ExplainsRun, RunWrites};
 
 use crate::pace::Pace;
-use clk_drain::{Free, PackedOutcome, run_with};
+use clk_drain::{Free, Outcome, run_with};
 use clk_packet::{Fault, Sink, Source, Traces, keep_freed};
 use clk_report::report;
 use clk_sched::PackedLog;
@@ -61,7 +61,7 @@ pub fn run_trace<H: Threads + Wait, P: Wait + Sync, R: Source, W: Sink>(
     )?;
     // Counting devices brings into scope how many there are at most.
     let _ = plan.devices();
-    let PackedOutcome {
+    let Outcome {
         emitted,
         logs,
         tallies,

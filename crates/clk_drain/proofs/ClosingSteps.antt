@@ -15,8 +15,9 @@ use Rattle.clk_sched.specs.Limits.{end_of_drains}
 use Rattle.clk_sched.specs.Log.{pulls, moment_of}
 use Rattle.clk_sched.specs.Session.{counted_moment}
 use Rattle.clk_sched.specs.Packed.{logged}
-use Rattle.clk_drain.specs.declared.drained.PackedDrained.{PackedDrained}
-use Rattle.clk_drain.specs.declared.outcome.PackedOutcome.{PackedOutcome}
+use Rattle.clk_sched.specs.declared.session.packed.PackedLog.{PackedLog}
+use Rattle.clk_drain.specs.declared.drained.Drained.{Drained}
+use Rattle.clk_drain.specs.declared.outcome.Outcome.{Outcome}
 use Rattle.clk_drain.specs.Line.{seats_in, senders_at}
 use Rattle.clk_drain.specs.Outcome.{SharedQueue, Device, senders_to}
 use Rattle.clk_drain.specs.Closing.{device_of, seated, AreInOrder, IsDrainedTo, IsFaultOfDrain}
@@ -31,7 +32,7 @@ use Rattle.clk_drain.proofs.Settling.{all-join, senders-same}
 use Rattle.clk_drain.proofs.Pulling.{steps-count}
 
 -- Some of the devices are closed, this is what they came to, and the others are to come.
-pub record AreClosing (terms : Terms) (all done left : List Feed) (outcome : PackedOutcome) : Type 0 where
+pub record AreClosing (terms : Terms) (all done left : List Feed) (outcome : Outcome PackedLog) : Type 0 where
   pub parts : List Part
   pub closed : AreClosedDevices terms done (devices_of parts)
   pub settled : AreSettled (sent_by terms.traces) parts
@@ -88,12 +89,12 @@ seated-more : (done : List Feed) (f : Feed) → seated_in (done ++ f ∷ []) ≡
 seated-more done f = flat_map-append (λ (g : Feed). map seated g.lines) done (f ∷ []) ∙ ap (λ rest. seated_in done ++ rest) (append-nil (map seated f.lines))
 
 -- What a device came to is added.
-pub record IsNoted (drained : PackedDrained) (old new : PackedOutcome) : Type 0 where
+pub record IsNoted (drained : Drained PackedLog) (old new : Outcome PackedLog) : Type 0 where
   pub logs : new.logs.items ≡ old.logs.items ++ drained.log ∷ []
   pub emitted : new.emitted.items ≡ old.emitted.items ++ drained.emitted ∷ []
   pub tallies : new.tallies.items ≡ old.tallies.items ++ drained.tallies.items
 
-pub closing-more : (terms : Terms) (all done left before : List Feed) (f : Feed) (drained : PackedDrained) (old new : PackedOutcome) → before ≡ f ∷ left → IsReadyToClose terms f → IsDrainedAs (record { session = f.session; visits = f.visits }) f.lines 0 drained → AllByRecursion HasReached (map seated f.lines) → IsNoted drained old new
+pub closing-more : (terms : Terms) (all done left before : List Feed) (f : Feed) (drained : Drained PackedLog) (old new : Outcome PackedLog) → before ≡ f ∷ left → IsReadyToClose terms f → IsDrainedAs f.session f.visits f.lines 0 drained → AllByRecursion HasReached (map seated f.lines) → IsNoted drained old new
     → AreClosing terms all done before old → AreClosing terms all (done ++ f ∷ []) left new
 closing-more terms all done left before f drained old new next ready over reached noted h =
     let p : Part = record { device = device_of f.session f.lines over.log drained.emitted.items; tallies = drained.tallies.items } in record {
@@ -124,7 +125,7 @@ moment-within terms f step limit ready =
     let counted = ready.counted in
     omega (arith, counted, product, most)
 
-pub next-ready : (terms : Terms) (all done left before : List Feed) (f : Feed) (outcome : PackedOutcome) → before ≡ f ∷ left → AreClosing terms all done before outcome → AllByRecursion (IsReadyToClose terms) all → IsReadyToClose terms f
+pub next-ready : (terms : Terms) (all done left before : List Feed) (f : Feed) (outcome : Outcome PackedLog) → before ≡ f ∷ left → AreClosing terms all done before outcome → AllByRecursion (IsReadyToClose terms) all → IsReadyToClose terms f
 next-ready terms all done left before f outcome next h ready =
     ready-behind terms done left f (subst (AllByRecursion (IsReadyToClose terms)) (sym h.all_are ∙ ap (λ rest. done ++ rest) next) ready)
 
@@ -150,7 +151,7 @@ fault-behind done left f fault reached (inl memory) = inl memory
 fault-behind done left f fault reached (inr names) =
     inr (subst (λ queues. NamesFirstLost queues fault) (sym (flat_map-append (λ (g : Feed). map seated g.lines) done (f ∷ left))) (lost-behind (seated_in done) (map seated f.lines) (seated_in left) fault reached names))
 
-pub next-fault : (terms : Terms) (all done left before : List Feed) (f : Feed) (outcome : PackedOutcome) (fault : Fault) → before ≡ f ∷ left → AreClosing terms all done before outcome → IsFaultOfDrain f.lines fault → IsFaultOfClosing all fault
+pub next-fault : (terms : Terms) (all done left before : List Feed) (f : Feed) (outcome : Outcome PackedLog) (fault : Fault) → before ≡ f ∷ left → AreClosing terms all done before outcome → IsFaultOfDrain f.lines fault → IsFaultOfClosing all fault
 next-fault terms all done left before f outcome fault next h is =
     subst (λ feeds. IsFaultOfClosing feeds fault) (ap (λ rest. done ++ rest) (sym next) ∙ h.all_are) (fault-behind done left f fault h.reached is)
 
@@ -163,7 +164,7 @@ closed-senders terms (f ∷ feeds) (d ∷ devices) h =
     let here : senders_to d ≡ senders_at (seats_in f.lines) = ap (flat_map (λ (q : SharedQueue). q.senders)) h.0.queues ∙ senders-same f.lines in
     λ i. here i ++ closed-senders terms feeds devices h.1 i
 
-pub all-closed : (terms : Terms) (all done left : List Feed) (old new : PackedOutcome) → left ≡ [] → new.logs.items ≡ old.logs.items → new.emitted.items ≡ old.emitted.items → AreInOrder old.tallies.items new.tallies.items → AreApartDevices all
+pub all-closed : (terms : Terms) (all done left : List Feed) (old new : Outcome PackedLog) → left ≡ [] → new.logs.items ≡ old.logs.items → new.emitted.items ≡ old.emitted.items → AreInOrder old.tallies.items new.tallies.items → AreApartDevices all
     → AreClosing terms all done left old → AreSettledTogether terms all new
 all-closed terms all done left old new none logs emitted order apart h =
     let done_are : done ≡ all = sym (append-nil done) ∙ ap (λ rest. done ++ rest) (sym none) ∙ h.all_are in

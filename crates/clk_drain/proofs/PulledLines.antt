@@ -8,8 +8,7 @@ use Rattle.clk_sched.specs.declared.visit.Visit.{Visit}
 use Rattle.clk_sched.specs.Tree.{Tree}
 use Rattle.clk_sched.specs.Places.{at_queue, Answers, tree_queue}
 use Rattle.clk_sched.specs.Results.{leaf_packets}
-use Rattle.clk_sched.specs.Session.{Progress, newly, counted_moment, IsPulledOnce, IsDrained, GivesAll}
-use Rattle.clk_drain.specs.inside.DeviceSession.{DeviceLists}
+use Rattle.clk_sched.specs.Session.{Progress, SessionLists, progress_of, newly, counted_moment, IsPulledOnce, IsDrained, GivesAll}
 use Rattle.clk_drain.specs.Line.{LineLists, PullsAt, pulling_all, AreLinesOf, lasting_of, AreStill}
 use Rattle.clk_drain.specs.inside.Parts.{IsDrainOf}
 use Rattle.clk_drain.proofs.Growing.{grown, lines-grown}
@@ -27,9 +26,9 @@ lines-pulled old new before after moment (Ok got) pulled answers same still h = 
 lines-pulled old new before after moment (Err fault) pulled answers same still h = subst (λ (x : Progress × List LineLists). AreLinesOf x.0 x.1) (λ i. (sym same i, sym still i)) h
 
 -- Where nothing has changed, the session hasn't.
-pub session-same : (old new : DeviceLists) (result : Result (Option Packet) Fault) → OnErr result (new ≡ old) → OnErr result (new.session ≡ old.session)
+pub session-same : (old new : SessionLists) (result : Result (Option Packet) Fault) → OnErr result (new ≡ old) → OnErr result (progress_of new ≡ progress_of old)
 session-same old new (Ok got) same = tt
-session-same old new (Err fault) same = ap (λ (s : DeviceLists). s.session) same
+session-same old new (Err fault) same = ap progress_of same
 
 -- Lines that were pulled stay what they are.
 still-answered : (tree : Tree) (before : List LineLists) (more : List Visit) (after : List LineLists) → Answers PullsAt (tree_queue tree) before more after → AreStill before after

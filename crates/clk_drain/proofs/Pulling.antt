@@ -4,11 +4,10 @@ use Rattle.std.proofs.Math.Nat.{suc-mul, zero-mul}
 use Rattle.std.proofs.lemmas.List.{reverse-append, map-append, length-map}
 use Rattle.clk_packet.specs.declared.packet.Packet.{Packet}
 use Rattle.clk_sched.specs.declared.visit.Visit.{Visit}
-use Rattle.clk_sched.specs.Kinds.{pulls_made}
 use Rattle.clk_sched.specs.Limits.{end_of_drained_pulls}
 use Rattle.clk_sched.specs.Log.{pulls, moment_of}
 use Rattle.clk_sched.specs.Results.{leaf_packets}
-use Rattle.clk_sched.specs.Session.{Progress, latest_moment, counted_moment, newly, IsPulledOnce}
+use Rattle.clk_sched.specs.Session.{Progress, latest_moment, counted_moment, newly, IsPulledOnce, pulls_made}
 use Rattle.clk_drain.specs.Line.{LineLists, pulling_all, AreLinesOf}
 use Rattle.clk_gate.specs.Limits.{most_limit}
 use Rattle.clk_drain.specs.Moments.{steps}

@@ -1,6 +1,7 @@
 -- What a run comes to, from what each of its parts says.
-use Rattle.std.proofs.Common.{◌≡◌, ℕ, ◌≤◌, Bool, true, List, [], ◌∷◌, length, map, Result, Ok, Err, IfOk, IfErr, refl, sym, ap, ◌∙◌, subst}
+use Rattle.std.proofs.Common.{◌≡◌, ℕ, ◌≤◌, Bool, true, List, [], ◌∷◌, length, map, Result, Ok, Err, IfOk, IfErr, refl, sym, ap, ◌∙◌, subst, Vec}
 use Rattle.std.specs.List.{AllByRecursion}
+use Rattle.std.specs.declared.alloc.Global.{Global}
 use Rattle.clk_packet.specs.declared.packet.Packet.{Packet}
 use Rattle.clk_packet.specs.Trace.{packets_in}
 use Rattle.clk_packet.specs.declared.tally.Tally.{Tally}
@@ -14,7 +15,7 @@ use Rattle.clk_tree.specs.PlanParts.{queues_of, senders_of, number_of}
 use Rattle.clk_packet.specs.Lists.{AreRising}
 use Rattle.clk_sched.specs.Packed.{logged}
 use Rattle.clk_drain.specs.declared.outcome.Outcome.{Outcome}
-use Rattle.clk_drain.specs.declared.outcome.PackedOutcome.{PackedOutcome}
+use Rattle.clk_sched.specs.declared.session.packed.PackedLog.{PackedLog}
 use Rattle.clk_drain.specs.declared.running.opening.LeafQueue.{LeafQueue}
 use Rattle.clk_drain.specs.inside.Threads.{Terms, Feed, HaveSentAll}
 use Rattle.clk_drain.specs.inside.Handed.{EndLists, PulledLists, HavePulled, AreAllJoinable, IsReadyToClose, AreApartDevices, AreKeptLogs, AreSettledTogether, IsFaultOfClosing, seats_given, feeds_from, joined_feeds}
@@ -79,7 +80,7 @@ logs-kept (f ∷ feeds) [] devices kept h = absurd h
 logs-kept (f ∷ feeds) (log ∷ logs) [] kept h = absurd h
 logs-kept (f ∷ feeds) (log ∷ logs) (d ∷ devices) kept h = λ i. h.0 kept.0 i ∷ logs-kept feeds logs devices kept.1 h.1 i
 
-pub run-settled : (visits : Bool) (plan : List Planned) (terms : Terms) (queues : List (List LeafQueue)) (ends : List EndLists) (closed : List ClosedLists) (pulled : List PulledLists) (outcome : PackedOutcome) → HasEnded visits plan terms queues ends closed pulled
+pub run-settled : (visits : Bool) (plan : List Planned) (terms : Terms) (queues : List (List LeafQueue)) (ends : List EndLists) (closed : List ClosedLists) (pulled : List PulledLists) (outcome : Outcome PackedLog) → HasEnded visits plan terms queues ends closed pulled
     → AreSettledTogether terms (joined_feeds queues pulled closed) outcome → IsKeptRun visits plan terms.traces terms.step terms.limit outcome
 run-settled visits plan terms queues ends closed pulled outcome h settled =
     let feeds = joined_feeds queues pulled closed in
@@ -98,13 +99,13 @@ run-settled visits plan terms queues ends closed pulled outcome h settled =
     }
 
 -- What closing the devices answers is what the run answers.
-pub answered-ok : (visits : Bool) (plan : List Planned) (terms course : Terms) (queues : List (List LeafQueue)) (ends : List EndLists) (closed : List ClosedLists) (pulled : List PulledLists) (feeds : List Feed) (result : Result PackedOutcome Fault) → course ≡ terms
+pub answered-ok : (visits : Bool) (plan : List Planned) (terms course : Terms) (queues : List (List LeafQueue)) (ends : List EndLists) (closed : List ClosedLists) (pulled : List PulledLists) (feeds : List Feed) (result : Result (Outcome PackedLog) Fault) → course ≡ terms
     → feeds ≡ joined_feeds queues pulled closed → HasEnded visits plan terms queues ends closed pulled → IfOk result (AreSettledTogether course feeds) → IfOk result (IsKeptRun visits plan terms.traces terms.step terms.limit)
 answered-ok visits plan terms course queues ends closed pulled feeds (Ok outcome) same are h settled =
     run-settled visits plan terms queues ends closed pulled outcome h (subst (λ (x : Terms × List Feed). AreSettledTogether x.0 x.1 outcome) (λ i. (same i, are i)) settled)
 answered-ok visits plan terms course queues ends closed pulled feeds (Err fault) same are h settled = tt
 
-pub answered-err : (visits : Bool) (plan : List Planned) (terms : Terms) (queues : List (List LeafQueue)) (ends : List EndLists) (closed : List ClosedLists) (pulled : List PulledLists) (feeds : List Feed) (result : Result PackedOutcome Fault) → feeds ≡ joined_feeds queues pulled closed
+pub answered-err : (visits : Bool) (plan : List Planned) (terms : Terms) (queues : List (List LeafQueue)) (ends : List EndLists) (closed : List ClosedLists) (pulled : List PulledLists) (feeds : List Feed) (result : Result (Outcome PackedLog) Fault) → feeds ≡ joined_feeds queues pulled closed
     → HasEnded visits plan terms queues ends closed pulled → AreKnown (senders_in plan) terms.traces → IfErr result (IsFaultOfClosing feeds) → IfErr result (IsFaultOfRun plan terms.traces)
 answered-err visits plan terms queues ends closed pulled feeds (Ok outcome) are h known fault = tt
 answered-err visits plan terms queues ends closed pulled feeds (Err fault) are h known refused =
@@ -117,14 +118,14 @@ run-same plan traces step limit logs other_logs emitted other_emitted tallies ot
     subst (λ (x : List (List Visit) × (List (List Packet) × List Tally)). IsRunWith plan traces step limit x.0 x.1.0 x.1.1) (λ i. (l i, (e i, t i))) h
 
 -- A run whose visits are kept has its logs, and what it answers with its logs as lists is the outcome.
-pub with-logs : (plan : List Planned) (traces : List (List Packet)) (step limit : ℕ) (packed : PackedOutcome) (result : Result Outcome Fault) → IfOk result (λ outcome. outcome.emitted.items ≡ packed.emitted.items) → IfOk result (λ outcome. map (λ log. log.items) outcome.logs.items ≡ map logged packed.logs.items)
+pub with-logs : (plan : List Planned) (traces : List (List Packet)) (step limit : ℕ) (packed : Outcome PackedLog) (result : Result (Outcome (Vec Visit Global)) Fault) → IfOk result (λ outcome. outcome.emitted.items ≡ packed.emitted.items) → IfOk result (λ outcome. map (λ log. log.items) outcome.logs.items ≡ map logged packed.logs.items)
     → IfOk result (λ outcome. outcome.tallies.items ≡ packed.tallies.items) → IsKeptRun true plan traces step limit packed → IfOk result (IsRunOutcome plan traces step limit)
 with-logs plan traces step limit packed (Ok outcome) emitted logs tallies h =
     run-same plan traces step limit h.logs _ _ _ _ _ (sym (logs ∙ h.kept refl)) (ap (map (λ packets. packets.items)) (sym emitted)) (sym tallies) h.is
 with-logs plan traces step limit packed (Err fault) emitted logs tallies h = tt
 
 -- An outcome with the same packets and tallies, and with the same logs where visits are kept.
-pub kept-same : (visits : Bool) (plan : List Planned) (traces : List (List Packet)) (step limit : ℕ) (outcome same : PackedOutcome) → same.emitted.items ≡ outcome.emitted.items → same.tallies.items ≡ outcome.tallies.items → (visits ≡ true → same.logs.items ≡ outcome.logs.items)
+pub kept-same : (visits : Bool) (plan : List Planned) (traces : List (List Packet)) (step limit : ℕ) (outcome same : Outcome PackedLog) → same.emitted.items ≡ outcome.emitted.items → same.tallies.items ≡ outcome.tallies.items → (visits ≡ true → same.logs.items ≡ outcome.logs.items)
     → IsKeptRun visits plan traces step limit outcome → IsKeptRun visits plan traces step limit same
 kept-same visits plan traces step limit outcome same emitted tallies logs h = record {
   logs = h.logs;

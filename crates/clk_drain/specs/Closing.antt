@@ -1,7 +1,8 @@
 -- What draining a session over its lines returns.
-use Rattle.std.specs.Prelude.{◌≡◌, ◌⊎◌, ℕ, ◌+◌, ◌-◌, List, [], ◌∷◌, length, map, max}
+use Rattle.std.specs.Prelude.{◌≡◌, ◌⊎◌, ℕ, ◌+◌, ◌-◌, List, [], ◌∷◌, length, map, max, Vec}
 use Rattle.std.specs.List.{flat_map, AllByRecursion}
 use Rattle.std.specs.List.Sorted.{IsPermutation, IsNonDecreasingBy}
+use Rattle.std.specs.declared.alloc.Global.{Global}
 use Rattle.clk_packet.specs.declared.packet.Packet.{Packet}
 use Rattle.clk_packet.specs.declared.tally.Tally.{Tally}
 use Rattle.clk_packet.specs.declared.fault.Fault.{Fault}
@@ -75,7 +76,7 @@ pub record IsDrainedTo (session : Progress) (lines : List LineLists) (moment : �
   pub goes_on : GivesAll session (record { tree = session.tree; log = log }) (max (counted_moment session) moment) made (left_over session lines)
 
 -- What a drain returns meets `IsDrainedTo`: its log, its emitted packets and its tallies.
-abbrev pub IsDrainedOver : Progress → List LineLists → ℕ → Drained → Type 0
+abbrev pub IsDrainedOver : Progress → List LineLists → ℕ → Drained (Vec Visit Global) → Type 0
 IsDrainedOver session lines moment drained = IsDrainedTo session lines moment drained.log.items drained.emitted.items drained.tallies.items
 
 -- the queue of a line, with its seats

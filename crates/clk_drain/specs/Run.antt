@@ -1,21 +1,20 @@
 -- What a run of producers on threads returns (this project's own definition).
-use Rattle.std.specs.Prelude.{◌≡◌, ℕ, ◌==◌, ◌<◌, Bool, false, true, List, [], ◌∷◌, length, map, suc, ⊤, if◌then◌else◌}
+use Rattle.std.specs.Prelude.{◌≡◌, ℕ, ◌==◌, Bool, true, List, [], ◌∷◌, map, suc, ⊤, if◌then◌else◌, Vec}
 use Rattle.std.specs.List.{flat_map, range_with_len, AllByRecursion}
+use Rattle.std.specs.declared.alloc.Global.{Global}
 use Rattle.clk_packet.specs.declared.packet.Packet.{Packet}
 use Rattle.clk_packet.specs.declared.tally.Tally.{Tally}
 use Rattle.clk_packet.specs.declared.fault.Fault.{Fault}
 use Rattle.clk_packet.specs.declared.fault.Fault.TheVariants.{Memory, UnknownSender, Unsettled}
-use Rattle.clk_packet.specs.Limits.{most_sender}
 use Rattle.clk_packet.specs.Trace.{sent_by}
-use Rattle.clk_packet.specs.Lists.{stands_in}
 use Rattle.clk_sched.specs.declared.visit.Visit.{Visit}
 use Rattle.clk_sched.specs.Packed.{logged}
 use Rattle.clk_tree.specs.Plan.{Planned}
 use Rattle.clk_tree.specs.PlanTree.{IsTreeOf, device_count}
-use Rattle.clk_tree.specs.PlanParts.{Queued, queues_of, senders_of, number_of}
+use Rattle.clk_tree.specs.PlanParts.{Queued, queues_of}
 use Rattle.clk_gate.specs.Known.{senders_in, AreKnown, IsFirstUnknown}
 use Rattle.clk_drain.specs.declared.outcome.Outcome.{Outcome}
-use Rattle.clk_drain.specs.declared.outcome.PackedOutcome.{PackedOutcome}
+use Rattle.clk_sched.specs.declared.session.packed.PackedLog.{PackedLog}
 use Rattle.clk_drain.specs.Closing.{HasSent}
 use Rattle.clk_drain.specs.Line.{senders_at}
 use Rattle.clk_drain.specs.Lost.{SeatedQueue, NamesFirstLost}
@@ -50,12 +49,12 @@ pub record IsRunWith (plan : List Planned) (traces : List (List Packet)) (step l
   pub moments : AllByRecursion (λ (d : Device). HasMoments step limit d.tree d.log) devices
 
 -- What `run` returns meets `IsRunWith`: its logs, its emitted packets and its tallies.
-abbrev pub IsRunOutcome : List Planned → List (List Packet) → ℕ → ℕ → Outcome → Type 0
+abbrev pub IsRunOutcome : List Planned → List (List Packet) → ℕ → ℕ → Outcome (Vec Visit Global) → Type 0
 IsRunOutcome plan traces step limit outcome =
     IsRunWith plan traces step limit (map (λ log. log.items) outcome.logs.items) (map (λ packets. packets.items) outcome.emitted.items) outcome.tallies.items
 
 -- What `run_with` returns meets `IsRunWith`. If visits are kept, the logs are those of the outcome; otherwise only contracts know them.
-pub record IsKeptRun (visits : Bool) (plan : List Planned) (traces : List (List Packet)) (step limit : ℕ) (outcome : PackedOutcome) : Type 0 where
+pub record IsKeptRun (visits : Bool) (plan : List Planned) (traces : List (List Packet)) (step limit : ℕ) (outcome : Outcome PackedLog) : Type 0 where
   pub logs : List (List Visit)
   pub kept : visits ≡ true → map logged outcome.logs.items ≡ logs
   pub is : IsRunWith plan traces step limit logs (map (λ packets. packets.items) outcome.emitted.items) outcome.tallies.items

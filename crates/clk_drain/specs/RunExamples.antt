@@ -1,5 +1,6 @@
 -- Runs of a worked plan with two devices, and lists that no run of it returns.
-use Rattle.std.specs.Prelude.{◌≡◌, ℕ, List, [], ◌∷◌, map, Some, None, codes}
+use Rattle.std.specs.Prelude.{◌≡◌, ℕ, List, [], ◌∷◌, map, Some, None, codes, Vec}
+use Rattle.std.specs.declared.alloc.Global.{Global}
 use Rattle.clk_packet.specs.declared.packet.Packet.{Packet}
 use Rattle.clk_packet.specs.declared.packet.Kind.TheVariants.{TailDrop}
 use Rattle.atomic_table.specs.Seated.{TableId}
@@ -49,18 +50,18 @@ pub record Lists : Type 0 where
   pub tallies : List Tally
 
 -- An outcome has these lists.
-pub record HasLists (lists : Lists) (outcome : Outcome) : Type 0 where
+pub record HasLists (lists : Lists) (outcome : Outcome (Vec Visit Global)) : Type 0 where
   pub emitted : map (λ packets. packets.items) outcome.emitted.items ≡ lists.emitted
   pub logs : map (λ log. log.items) outcome.logs.items ≡ lists.logs
   pub tallies : outcome.tallies.items ≡ lists.tallies
 
 -- A run of a plan over the trace, with a pull each three ticks and at most two pulls, may return these lists.
 abbrev pub MayComeTo : List Planned → Lists → Type 0
-MayComeTo plan lists = (outcome : Outcome) → HasLists lists outcome → IsRunOutcome plan traces 3 2 outcome
+MayComeTo plan lists = (outcome : Outcome (Vec Visit Global)) → HasLists lists outcome → IsRunOutcome plan traces 3 2 outcome
 
 -- A run of a plan over the trace, with a pull each three ticks and at most two pulls, never returns these lists.
 abbrev pub NeverComesTo : List Planned → Lists → Type 0
-NeverComesTo plan lists = (outcome : Outcome) → HasLists lists outcome → ¬ (IsRunOutcome plan traces 3 2 outcome)
+NeverComesTo plan lists = (outcome : Outcome (Vec Visit Global)) → HasLists lists outcome → ¬ (IsRunOutcome plan traces 3 2 outcome)
 
 -- these lists, as a run returns them
 abbrev came_to : List (List Packet) → List (List Visit) → List Tally → Lists

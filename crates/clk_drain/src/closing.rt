@@ -1,24 +1,24 @@
 //! Draining a session: what its lines hold goes to the device, and each queue is settled.
 
-ghost use Rattle.std.specs.Prelude.{◌≡◌, ◌⊎◌, ◌<◌, ◌≤◌, ◌++◌, false, map, max, IfOk, IfErr, OnOk, IsOkUnless};
+ghost use Rattle.std.specs.Prelude.{◌≡◌, ◌⊎◌, ◌<◌, ◌≤◌, ◌++◌, true, map, IfOk, IfErr, OnOk, IsOkUnless};
 ghost use Rattle.std.specs.List.{AllByRecursion};
 ghost use Rattle.clk_packet.specs.declared.fault.Fault.TheVariants.{Memory};
 ghost use Rattle.clk_sched.specs.Closing.{left_in};
-ghost use Rattle.clk_sched.specs.Kinds.{pulls_made};
+ghost use Rattle.clk_sched.specs.Drain.{drain_start};
+ghost use Rattle.clk_sched.specs.Keeps.{keeps_visits, IsEndless, TellsEmitted};
 ghost use Rattle.clk_sched.specs.Limits.{most_left, end_of_drains, end_of_drained_pulls};
-ghost use Rattle.clk_sched.specs.Session.{counted_moment};
+ghost use Rattle.clk_sched.specs.Session.{progress_of, pulls_made};
 ghost use Rattle.clk_drain.specs.Line.{AreLinesOf, HaveOwnSenders};
 ghost use Rattle.clk_drain.specs.Closing.{accepted_over, evicted_over, left_over, seated, AreInOrder, tallies_in, IsDrainedOver, IsFaultOfDrain};
 ghost use Rattle.clk_drain.specs.Lost.{HasReached, NamesFirstLost};
 ghost use Rattle.clk_drain.specs.inside.Closing.{IsDrainedAs};
 ghost use Rattle.clk_drain.specs.inside.Parts.{IsGathered, held_at, AreGatheredFrom, IsDrainOf, IsSettledLine};
 
-use crate::device::DeviceSession;
-use crate::drained::{Drained, PackedDrained};
+use crate::drained::Drained;
 use crate::line::Line;
 use crate::lines::GatheredLines;
 use clk_packet::{Fault, Tally};
-use clk_sched::{Session, runs_conserve_packets};
+use clk_sched::{PackedLog, Session, runs_conserve_packets};
 use std::alloc::Global;
 use std::sync::Wait;
 
@@ -27,7 +27,8 @@ use std::sync::Wait;
 /// the first pull, so the drain always ends: a tap that gives none has then given all.
 ///
 /// The device emits, before or in the drain, exactly those packets of each sender that its queue accepted and didn't evict. It emits each
-/// once, in the order in which they were sent.
+/// once, in the order in which they were sent. The session keeps all of its visits, and none was dropped: of any other, nothing is promised
+/// of what is returned.
 ///
 /// # Errors
 ///
@@ -40,14 +41,15 @@ pub fn close_and_drain<W: Wait>(
     lines: Vec<Line>,
     moment: u64,
 ) -> Result<Drained, Fault>
-    requires lines { AreLinesOf session lines.items }
+    requires lines { AreLinesOf (progress_of session) lines.items }
     requires senders { HaveOwnSenders lines.items }
     requires few { accepted_over lines.items ≤ most_left }
-    requires moment { max (counted_moment session) moment < end_of_drains }
-    ensures drained { IfOk result (IsDrainedOver session lines.items moment) }
+    requires moment { drain_start session moment < end_of_drains }
+    requires pulls { IsEndless session → pulls_made (progress_of session) < end_of_drained_pulls }
+    ensures drained { keeps_visits session.keeps ≡ true → session.gone ≡ 0 → IfOk result (IsDrainedOver (progress_of session) lines.items moment) }
     ensures fault { IfErr result (IsFaultOfDrain lines.items) }
 {
-    close(alloc, wait, DeviceSession::of(session), lines, moment)?.unpack(alloc)
+    close(alloc, wait, session, lines, moment)?.unpack(alloc)
 }
 
 /// Drains a session as `close_and_drain` does. The session may keep its visits packed, or keep none. If it keeps none, contracts speak of a
@@ -59,16 +61,16 @@ pub fn close_and_drain<W: Wait>(
 pub(crate) fn close<W: Wait>(
     alloc: Global,
     wait: &W,
-    session: DeviceSession,
+    session: Session,
     lines: Vec<Line>,
     moment: u64,
-) -> Result<PackedDrained, Fault>
-    requires lines { AreLinesOf session.session lines.items }
+) -> Result<Drained<PackedLog>, Fault>
+    requires lines { AreLinesOf (progress_of session) lines.items }
     requires senders { HaveOwnSenders lines.items }
     requires few { accepted_over lines.items ≤ most_left }
-    requires moment { max (counted_moment session.session) moment < end_of_drains }
-    requires pulls { session.visits ≡ false → pulls_made session.session < end_of_drained_pulls }
-    ensures drained { IfOk result (IsDrainedAs session lines.items moment) }
+    requires moment { drain_start session moment < end_of_drains }
+    requires pulls { IsEndless session → pulls_made (progress_of session) < end_of_drained_pulls }
+    ensures drained { TellsEmitted session → IfOk result (IsDrainedAs (progress_of session) (keeps_visits session.keeps) lines.items moment) }
     ensures reached { OnOk result (AllByRecursion HasReached (map seated lines.items)) }
     ensures fault { IfErr result (IsFaultOfDrain lines.items) }
 {
@@ -77,8 +79,10 @@ pub(crate) fn close<W: Wait>(
     let left = left(&session, &lines);
     let (session, lines) = drain(wait, session, lines, left, moment)?;
     let tallies = settle_all(alloc, lines)?;
-    let (log, emitted) = session.into_parts(alloc)?;
-    Ok(PackedDrained {
+    // The contract of `log` says that no queue stands twice in the tree.
+    let _ = session.log();
+    let (log, emitted) = session.into_packed(alloc)?;
+    Ok(Drained {
         emitted,
         log,
         tallies,
@@ -106,19 +110,20 @@ fn gather_all(lines: &mut [Line])
 // Drains a session over its lines, whose seats are all gathered, of all packets that queues and heads hold.
 fn drain<W: Wait>(
     wait: &W,
-    session: DeviceSession,
+    session: Session,
     lines: Vec<Line>,
     left: u64,
     moment: u64,
-) -> Result<(DeviceSession, Vec<Line>), Fault>
-    requires lines { AreLinesOf session.session lines.items }
+) -> Result<(Session, Vec<Line>), Fault>
+    requires lines { AreLinesOf (progress_of session) lines.items }
     requires gathered { AllByRecursion IsGathered lines.items }
     requires few { left ≤ most_left }
-    requires left { left ≡ left_in session.session.tree session.session.log (held_at lines.items) }
-    requires moment { max (counted_moment session.session) moment < end_of_drains }
-    requires pulls { session.visits ≡ false → pulls_made session.session < end_of_drained_pulls }
-    ensures drained { IfOk result (λ drained. IsDrainOf session.session lines.items moment left drained.0.session drained.1.items) }
-    ensures kind { IfOk result (λ drained. drained.0.visits ≡ session.visits) }
+    requires left { left ≡ left_in session.tree session.log (held_at lines.items) }
+    requires moment { drain_start session moment < end_of_drains }
+    requires pulls { IsEndless session → pulls_made (progress_of session) < end_of_drained_pulls }
+    ensures drained { IfOk result (λ drained. IsDrainOf (progress_of session) lines.items moment left (progress_of drained.0) drained.1.items) }
+    ensures keeps { IfOk result (λ drained. drained.0.keeps ≡ session.keeps) }
+    ensures gone { IfOk result (λ drained. drained.0.gone ≡ session.gone) }
     ensures fault { IsOkUnless result Fault.Memory }
 {
     let mut session = session;
@@ -129,14 +134,16 @@ fn drain<W: Wait>(
 
 // How many packets are left: those that all queues accepted, less those that they evicted and those that were emitted. Queues and heads
 // hold as many.
-fn left(session: &DeviceSession, lines: &[Line]) -> u64
-    requires lines { AreLinesOf session.now.session lines.now }
+fn left(session: &Session, lines: &[Line]) -> u64
+    requires lines { AreLinesOf (progress_of session.now) lines.now }
     requires gathered { AllByRecursion IsGathered lines.now }
     requires few { accepted_over lines.now ≤ most_left }
-    ensures over { result ≡ left_over session.now.session lines.now }
-    ensures held { result ≡ left_in session.now.session.tree session.now.session.log (held_at lines.now) }
+    ensures over { result ≡ left_over (progress_of session.now) lines.now }
+    ensures held { result ≡ left_in session.now.tree session.now.log (held_at lines.now) }
 {
     runs_conserve_packets();
+    // The contract of `log` says that the log is a run, and that no queue stands twice in the tree.
+    let _ = session.log();
     let emitted = session.count_emitted();
     accepted(lines) - evicted(lines) - emitted
 }

@@ -3,7 +3,6 @@
 #![tactic(auto)]
 
 mod closing;
-mod device;
 mod drained;
 mod examples;
 mod laws;
@@ -19,5 +18,5 @@ pub use examples::{moment_examples, outcome_examples, run_examples};
 pub use laws::taps_take_what_leaves_give;
 pub use line::Line;
 pub use lines::Lines;
-pub use outcome::{Outcome, PackedOutcome};
+pub use outcome::Outcome;
 pub use running::{run, run_with};

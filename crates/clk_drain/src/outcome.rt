@@ -7,29 +7,18 @@ use clk_packet::{Fault, Packet, Tally};
 use clk_sched::{PackedLog, Visit};
 use std::alloc::Global;
 
-/// The outcome of a run, after all producers had closed their seats and every device was drained.
+/// The outcome of a run, after all producers had closed their seats and every device was drained. Its logs may be packed.
 #[derive(Drop)]
-pub struct Outcome {
+pub struct Outcome<L = Vec<Visit>> {
     /// For each device, by its number, the packets that it emitted, in order.
     pub emitted: Vec<Vec<Packet>>,
     /// For each device every visit of its tree, in order, if visits are kept.
-    pub logs: Vec<Vec<Visit>>,
+    pub logs: Vec<L>,
     /// What was accepted, refused and evicted of each sender's packets: one tally a sender of the plan, by rising number.
     pub tallies: Vec<Tally>,
 }
 
-/// The outcome of a run, with logs that may be packed.
-#[derive(Drop)]
-pub struct PackedOutcome {
-    /// For each device, by its number, the packets that it emitted, in order.
-    pub emitted: Vec<Vec<Packet>>,
-    /// For each device every visit of its tree, in order, if visits are kept.
-    pub logs: Vec<PackedLog>,
-    /// What was accepted, refused and evicted of each sender's packets: one tally a sender of the plan, by rising number.
-    pub tallies: Vec<Tally>,
-}
-
-impl PackedOutcome {
+impl Outcome<PackedLog> {
     /// This outcome with its logs as lists. Allocates a list of logs, and a list for each log that is packed.
     ///
     /// # Errors
@@ -41,7 +30,7 @@ impl PackedOutcome {
         ensures tallies { IfOk result (λ outcome. outcome.tallies.items ≡ self.tallies.items) }
         ensures fault { IsOkUnless result Fault.Memory }
     {
-        let PackedOutcome {
+        let Outcome {
             emitted,
             logs,
             tallies,

@@ -12,17 +12,13 @@ mod opening;
 mod producer;
 mod threads;
 
-ghost use Rattle.std.specs.Prelude.{◌≡◌, ◌≤◌, ◌<◌, true, false, [], map, length, IfOk, IfErr};
-ghost use Rattle.clk_packet.specs.declared.fault.Fault.TheVariants.{UnknownSender};
-ghost use Rattle.clk_packet.specs.Trace.{sent_by};
-ghost use Rattle.clk_packet.specs.Lists.{stands_in};
-ghost use Rattle.clk_sched.specs.Kinds.{keeps_visits, keeps_emitted};
-ghost use Rattle.clk_tree.specs.PlanParts.{number_of};
+ghost use Rattle.std.specs.Prelude.{◌≡◌, ◌≤◌, ◌<◌, true, false, [], IfOk, IfErr};
+ghost use Rattle.clk_sched.specs.Keeps.{keeps_visits, keeps_emitted};
 ghost use Rattle.clk_gate.specs.Limits.{most_step, most_limit};
 ghost use Rattle.clk_gate.specs.Known.{senders_in, AreKnown};
 ghost use Rattle.clk_drain.specs.Run.{IsRunOutcome, IsKeptRun, IsFaultOfRun};
 
-use crate::outcome::{Outcome, PackedOutcome};
+use crate::outcome::Outcome;
 use crate::running::closing::close_devices;
 use crate::running::course::Course;
 use crate::running::devices::{OpenPlan, open_devices};
@@ -31,8 +27,8 @@ use crate::running::joining::join_devices;
 use crate::running::threads::run_threads;
 use clk_gate::{Gate, check_senders};
 use clk_packet::{Fault, Traces};
-use clk_sched::Keeps;
-use clk_tree::{Plan, SenderSpec};
+use clk_sched::{Keeps, PackedLog};
+use clk_tree::Plan;
 use std::alloc::Global;
 use std::sync::Wait;
 use std::thread::Threads;
@@ -94,7 +90,7 @@ pub fn run_with<R: Threads + Wait, W: Wait + Sync, G: Gate + Sync>(
     limit: u32,
     gate: &G,
     visits: bool,
-) -> Result<PackedOutcome, Fault>
+) -> Result<Outcome<PackedLog>, Fault>
     requires step { (1 ≤ step) × (step ≤ most_step) }
     requires limit { (1 ≤ limit) × (limit ≤ most_limit) }
     ensures outcome { IfOk result (IsKeptRun visits plan.now traces.now step limit) }
@@ -126,7 +122,7 @@ fn run_keeping<R: Threads + Wait, W: Wait + Sync, G: Gate + Sync>(
     limit: u32,
     gate: &G,
     keeps: Keeps,
-) -> Result<PackedOutcome, Fault>
+) -> Result<Outcome<PackedLog>, Fault>
     requires step { (1 ≤ step) × (step ≤ most_step) }
     requires limit { (1 ≤ limit) × (limit ≤ most_limit) }
     requires emitted { keeps_emitted keeps ≡ true }
@@ -146,7 +142,7 @@ fn run_keeping<R: Threads + Wait, W: Wait + Sync, G: Gate + Sync>(
 }
 
 // This outcome, without its logs if no visits are kept.
-fn kept(alloc: Global, outcome: PackedOutcome, visits: bool) -> PackedOutcome
+fn kept(alloc: Global, outcome: Outcome<PackedLog>, visits: bool) -> Outcome<PackedLog>
     ensures emitted { result.emitted.items ≡ outcome.emitted.items }
     ensures tallies { result.tallies.items ≡ outcome.tallies.items }
     ensures logs { visits ≡ true → result.logs.items ≡ outcome.logs.items }
@@ -155,12 +151,12 @@ fn kept(alloc: Global, outcome: PackedOutcome, visits: bool) -> PackedOutcome
     if visits {
         return outcome;
     }
-    let PackedOutcome {
+    let Outcome {
         emitted,
         tallies,
         ..
     } = outcome;
-    PackedOutcome {
+    Outcome {
         emitted,
         logs: Vec::new(alloc),
         tallies,

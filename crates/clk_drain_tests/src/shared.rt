@@ -14,16 +14,13 @@ ghost use Rattle.clk_drain.specs.Closing.{accepted_over};
 use clk_drain::{Drained, Line, Lines, close_and_drain};
 use clk_packet::{Fault, Kind, Packet};
 use clk_ruled::{Opened, RuledQueue, Seat, Tap, calls_keep_together};
-use clk_sched::{Session, Tree, Visit};
+use clk_sched::{END_OF_DRAINED_PULLS, END_OF_DRAINS, END_OF_PULLS, Session, Tree, Visit};
 use std::alloc::Global;
 use std::process::Abort;
 use std::sync::Wait;
 
 /// How many packets may be accepted at most.
 const MOST_LEFT: usize = 1_000_000;
-
-/// The moment before which a drain has to begin.
-const END_OF_DRAINS: u64 = (1 << 43) - 1;
 
 /// The packet of this number from this sender, of 1 to 65,535 bytes.
 pub fn packet(sender: u16, number: u32, length: u16) -> Packet
@@ -150,11 +147,13 @@ pub fn close<R: Abort + Wait>(
     let mut session = Session::new(alloc, tree)?;
     let mut lines = Lines::new(rt, lines);
     for packet in before {
+        assert!(rt; session.pulls() < END_OF_PULLS);
         assert_eq!(rt; lines.pull(&mut session, 0)?, Some(*packet));
     }
     let lines = lines.into_vec();
     assert_apart(rt, &senders(rt, alloc, &lines)?);
     assert!(rt; session.now().max(moment) < END_OF_DRAINS);
+    assert!(rt; session.pulls() < END_OF_DRAINED_PULLS);
     close_and_drain(alloc, rt, session, lines, moment)
 }
 

@@ -4,7 +4,7 @@ use Rattle.std.specs.List.{AllByRecursion, AllZip}
 use Rattle.clk_inlet.specs.Halves.{pushed, popped, fits, AreHalves}
 use Rattle.clk_inlet.specs.declared.inlet.Inlet.{Inlet}
 use Rattle.clk_inlet.specs.declared.outlet.Outlet.{Outlet}
-use Rattle.clk_sched.specs.Kinds.{keeps_nothing}
+use Rattle.clk_sched.specs.Keeps.{keeps_nothing}
 use Rattle.clk_tree.specs.Plan.{Planned}
 use Rattle.clk_router.specs.Course.{IsOpened}
 use Rattle.clk_live.specs.State.{LiveState}

@@ -18,7 +18,7 @@ use Rattle.clk_tree.specs.PlanParts.{number_of}
 use Rattle.clk_router.specs.declared.accounts.Total.{Total}
 use Rattle.clk_router.specs.declared.accounts.Account.{Account}
 use Rattle.clk_router.specs.Accounts.{capped, length_of, total_of, account_after}
-use Rattle.clk_sched.specs.Kinds.{keeps_nothing}
+use Rattle.clk_sched.specs.Keeps.{keeps_nothing}
 use Rattle.clk_router.specs.Course.{Course, after}
 use Rattle.clk_router.specs.Events.{sender_numbers, Event, offered, pulled, accepted_in, refused_in, evicted_in, emitted_in}
 use Rattle.clk_router.specs.inside.Accounts.{with_packet, with_its, account_sender, taken_in, turned_away, put_out, with_emitted, noted, given}

@@ -5,8 +5,7 @@ use Rattle.std.specs.List.{list_any}
 use Rattle.std.proofs.lemmas.List.{length-map}
 use Rattle.std.proofs.lemmas.Bool.Decides.{nat_tests}
 use Rattle.std.proofs.lemmas.Option.{slice_get-map, slice_get_within, slice_get_read}
-use Rattle.clk_sched.specs.Kinds.{progress_of}
-use Rattle.clk_sched.specs.Session.{counted_moment}
+use Rattle.clk_sched.specs.Session.{counted_moment, progress_of}
 use Rattle.clk_tree.specs.PlanParts.{SendsWithin, number_of}
 use Rattle.clk_router.specs.declared.senders.Sender.{Sender}
 use Rattle.clk_router.specs.declared.devices.Device.{Device}

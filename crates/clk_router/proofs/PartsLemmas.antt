@@ -24,8 +24,7 @@ use Rattle.clk_sched.specs.Log.{pulls, visits_of, result_of}
 use Rattle.clk_sched.specs.Run.{IsRun}
 use Rattle.clk_sched.specs.Results.{asks_queue}
 use Rattle.clk_sched.specs.Places.{Answers, at_queue as at_asked, tree_queue}
-use Rattle.clk_sched.specs.Session.{IsPulledOnce, newly, latest_moment}
-use Rattle.clk_sched.specs.Kinds.{progress_of}
+use Rattle.clk_sched.specs.Session.{IsPulledOnce, newly, latest_moment, progress_of}
 use Rattle.clk_tree.specs.declared.plan.parts.QueueSpec.{QueueSpec}
 use Rattle.clk_tree.specs.declared.plan.parts.SenderSpec.{SenderSpec}
 use Rattle.clk_packet.specs.Lists.{AreRising}

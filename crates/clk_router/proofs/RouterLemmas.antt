@@ -8,7 +8,7 @@ use Rattle.clk_packet.specs.declared.packet.Packet.{Packet}
 use Rattle.clk_sched.specs.declared.visit.Visit.{Visit}
 use Rattle.clk_sched.specs.Conservation.{ConservesCounts}
 use Rattle.clk_sched.specs.declared.session.departures.Departure.{Departure}
-use Rattle.clk_sched.specs.Kinds.{AnySession, progress_of, pulls_made}
+use Rattle.clk_sched.specs.Session.{SessionLists, progress_of, pulls_made}
 use Rattle.clk_sched.specs.Limits.{end_of_pulls, end_of_drains}
 use Rattle.clk_sched.specs.Log.{pulls, visits_of, result_of}
 use Rattle.clk_sched.specs.Results.{emitted}
@@ -211,7 +211,7 @@ module _ (setup : Setup) (events : List Event) (old new : Parts) (d moment : ℕ
       subst (λ (x : Device). ClosesBy setup events d moment x.session departures) (read-there new.devices.items d i led.its read led.here same is) (closes led.its led.here)
 
 -- a device was closed, by what its session shows
-pub IsClosed-shown : (old new : Course) (d moment : ℕ) (session : AnySession) (departures : List Departure) → ClosesBy old.setup old.events d moment session departures
+pub IsClosed-shown : (old new : Course) (d moment : ℕ) (session : SessionLists) (departures : List Departure) → ClosesBy old.setup old.events d moment session departures
     → new ≡ after old (pulls_shown old.setup old.events d moment session) → IsClosed old new d moment departures
 IsClosed-shown old new d moment session departures by goes_on =
     record { last = pulls_shown old.setup old.events d moment session; closes = by.closes; emitted = by.emitted; moments = by.moments; goes_on = goes_on }

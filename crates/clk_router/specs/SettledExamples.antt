@@ -6,7 +6,7 @@ use Rattle.clk_packet.specs.declared.packet.Kind.TheVariants.{TailDrop, FrontDro
 use Rattle.clk_packet.specs.declared.packet.Offered.TheVariants.{Accepted, Refused, Evicted}
 use Rattle.clk_packet.specs.Packets.{packet}
 use Rattle.clk_sched.specs.Tree.{drr, end, leaf, queue, scheduler}
-use Rattle.clk_sched.specs.Kinds.{keeps_nothing}
+use Rattle.clk_sched.specs.Keeps.{keeps_nothing}
 use Rattle.clk_sched.specs.Log.{asking}
 use Rattle.clk_sched.specs.Examples.{look}
 use Rattle.clk_sched.specs.Examples.Priority.{p0_0, p1_0}

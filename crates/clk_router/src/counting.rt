@@ -23,7 +23,7 @@ pub struct CountingRouter {
 
 impl Model for CountingRouter {
     ghost use Rattle.std.specs.Prelude.{◌≡◌, map};
-    ghost use Rattle.clk_sched.specs.Kinds.{keeps_nothing};
+    ghost use Rattle.clk_sched.specs.Keeps.{keeps_nothing};
     ghost use Rattle.clk_router.specs.Course.{Course};
     ghost use Rattle.clk_router.specs.Accounts.{account_after};
     ghost use Rattle.clk_router.specs.Stored.{course_code};
@@ -41,7 +41,7 @@ impl Model for CountingRouter {
 impl CountingRouter {
     ghost use Rattle.std.specs.Prelude.{◌≡◌, ℕ, ◌+◌, ◌<◌, ◌≤◌, ◌∷◌, [], Some, None, true, false, map, length, slice_get, IfSome, IfOk, IsOkUnless, MatchOption};
     ghost use Rattle.clk_packet.specs.Limits.{most_elements, most_capacity};
-    ghost use Rattle.clk_sched.specs.Kinds.{keeps_nothing};
+    ghost use Rattle.clk_sched.specs.Keeps.{keeps_nothing};
     ghost use Rattle.clk_sched.specs.Limits.{end_of_moments};
     ghost use Rattle.clk_packet.specs.Lists.{AreRising};
     ghost use Rattle.clk_router.specs.Accounts.{account_after};

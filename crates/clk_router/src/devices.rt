@@ -5,14 +5,14 @@ ghost use Rattle.std.specs.List.{AllByRecursion};
 ghost use Rattle.clk_router.specs.inside.Parts.{device_made, CanStand};
 
 use clk_packet::Fault;
-use clk_sched::{Keeps, Kernel, Tree};
+use clk_sched::{Keeps, Session, Tree};
 use std::alloc::Global;
 
 /// A device, with the log of its pulls.
 #[derive(Drop)]
 pub struct Device {
     /// Its tree, with the log of its pulls and the packets that it emitted, as far as these are kept.
-    pub session: Kernel,
+    pub session: Session,
     /// How many packets its queues accepted and didn't evict for later ones.
     pub kept: u64,
 }
@@ -26,7 +26,7 @@ pub fn devices_of(alloc: Global, trees: Vec<Tree>, keeps: Keeps) -> Result<Vec<D
     let mut devices = Vec::new(alloc);
     for tree in trees {
         devices.push(Device {
-            session: Kernel::new(alloc, tree, keeps)?,
+            session: Session::keeping(alloc, tree, keeps)?,
             kept: 0,
         })?;
     }

@@ -33,7 +33,7 @@ pub struct Parts {
 impl Parts {
     ghost use Rattle.std.specs.Prelude.{◌≡◌, ℕ, ◌+◌, ◌<◌, ◌≤◌, ◌++◌, List, ◌∷◌, [], Some, map, length, slice_get, IfOk, OnErr, IsOk, IsOkUnless, true};
     ghost use Rattle.std.specs.List.{AllByRecursion};
-    ghost use Rattle.clk_sched.specs.Kinds.{keeps_nothing};
+    ghost use Rattle.clk_sched.specs.Keeps.{keeps_nothing};
     ghost use Rattle.clk_sched.specs.Limits.{end_of_moments};
     ghost use Rattle.clk_sched.specs.Results.{emitted};
     ghost use Rattle.clk_tree.specs.PlanParts.{queued, HasCapacity};

@@ -46,7 +46,7 @@ impl Router {
     ghost use Rattle.std.specs.Prelude.{◌≡◌, ℕ, ◌+◌, ◌<◌, ◌≤◌, List, ◌∷◌, [], Some, true, false, map, length, IfOk, OnErr, IsOk, IsOkUnless};
     ghost use Rattle.clk_packet.specs.Limits.{most_elements, most_capacity};
     ghost use Rattle.clk_sched.specs.declared.visit.Visit.{Visit};
-    ghost use Rattle.clk_sched.specs.Kinds.{keeps_nothing};
+    ghost use Rattle.clk_sched.specs.Keeps.{keeps_nothing};
     ghost use Rattle.clk_sched.specs.Limits.{end_of_moments};
     ghost use Rattle.clk_sched.specs.Results.{emitted};
     ghost use Rattle.clk_packet.specs.Lists.{AreRising};

@@ -10,7 +10,7 @@ pub mod Laws
 pub mod Places
 pub mod Session
 pub mod Departures
-pub mod Kinds
+pub mod Keeps
 pub mod Packed
 pub mod LaidOut
 pub mod Run
@@ -23,5 +23,6 @@ pub mod Choice
 pub mod Conservation
 pub mod FewHeads
 pub mod Closing
+pub mod Drain
 pub mod Due
 pub mod inside

@@ -5,6 +5,7 @@ use Rattle.clk_packet.specs.declared.packet.Packet.{Packet}
 use Rattle.clk_packet.specs.declared.fault.Fault.{Fault}
 use Rattle.clk_packet.specs.declared.fault.Fault.TheVariants.{Memory, TooManyPulls}
 use Rattle.clk_sched.specs.declared.visit.Visit.{Visit}
+use Rattle.clk_sched.specs.declared.session.keeps.Keeps.{Keeps}
 use Rattle.clk_sched.specs.Tree.{Row, end, leaf, node, Tree}
 use Rattle.clk_sched.specs.Log.{visits_of, pulls, moment_of, result_of}
 use Rattle.clk_sched.specs.Bound.{closing_bound}
@@ -21,10 +22,25 @@ abbrev pub latest_moment : List (List Visit) → ℕ
 latest_moment [] = 0
 latest_moment (pull ∷ earlier) = moment_of pull
 
--- what contracts see of a session: its tree, and the log of its pulls, which is a run of the tree
+-- the tree of a session, and the log of its pulls, which is a run of the tree
 pub record Progress : Type 0 where
   pub tree : Tree
   pub log : List Visit
+
+-- what contracts see of a session: its tree, the log of its pulls, what is kept of the past, and how many visits were dropped
+pub record SessionLists : Type 0 where
+  pub tree : Tree
+  pub log : List Visit
+  pub keeps : Keeps
+  pub gone : ℕ
+
+-- the tree and the log of a session
+abbrev pub progress_of : SessionLists → Progress
+progress_of s = record { tree = s.tree; log = s.log }
+
+-- how many pulls were made
+abbrev pub pulls_made : Progress → ℕ
+pulls_made s = length (pulls s.log)
 
 -- the counted moment of a session: that of its latest pull, and 0 before the first
 abbrev pub counted_moment : Progress → ℕ

@@ -8,7 +8,6 @@ mod laws;
 mod limits;
 mod session;
 mod tree;
-mod unlogged;
 mod visit;
 
 pub use ask::Ask;
@@ -26,8 +25,6 @@ pub use limits::{END_OF_DRAINED_PULLS, END_OF_DRAINS, END_OF_MOMENTS, END_OF_PUL
 pub use session::Session;
 pub use session::departures::Departure;
 pub use session::keeps::Keeps;
-pub use session::kernel::Kernel;
 pub use session::packed::{PackedLog, PackedVisit};
 pub use tree::Tree;
-pub use unlogged::Unlogged;
 pub use visit::Visit;

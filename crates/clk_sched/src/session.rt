@@ -1,4 +1,4 @@
-//! A session: a tree that is pulled, and the log of its visits.
+//! A session: a tree that is pulled, and what is kept of its past.
 
 mod all;
 pub(crate) mod departures;
@@ -9,7 +9,6 @@ mod heads;
 mod idle;
 mod inputs;
 pub(crate) mod keeps;
-pub(crate) mod kernel;
 mod layout;
 mod log;
 mod nodes;
@@ -21,59 +20,86 @@ mod state;
 mod stride;
 
 use crate::ask::Ask;
+use crate::backlog::Backlog;
+use crate::session::departures::{Departure, Departures};
+use crate::session::emitted::Emitted;
+use crate::session::heads::held_heads;
 use crate::session::keeps::Keeps;
-use crate::session::kernel::Kernel;
+use crate::session::layout::lay_out;
+use crate::session::nodes::Nodes;
+use crate::session::packed::PackedLog;
+use crate::session::prio::{DEVICE, pull_device};
 use crate::tree::Tree;
 use crate::visit::Visit;
 use clk_packet::{Fault, Packet};
 use std::alloc::Global;
 use std::marker::Model;
 
-/// A tree of schedulers with all that its nodes hold, and the log of every visit that they made.
+/// A tree of schedulers with all that its nodes hold, and what is kept of the past. Contracts speak of every visit that its nodes made,
+/// whether visits are kept or not. A session that keeps nothing allocates nothing as it goes on, and can be pulled 2^63 times.
 #[derive(Drop)]
 pub struct Session {
-    kernel: Kernel,
+    tree: Tree,
+    nodes: Nodes,
+    // The packets emitted at the device. If they are kept, nobody has to look for them in the log.
+    emitted: Emitted,
 }
 
 impl Model for Session {
-    ghost use Rattle.std.specs.Prelude.{◌≡◌};
-    ghost use Rattle.clk_sched.specs.Session.{Progress};
-    ghost use Rattle.clk_sched.specs.Kinds.{progress_of, keeps_all};
+    ghost use Rattle.std.specs.Prelude.{◌≡◌, ◌<◌, ◌≤◌, true, length};
+    ghost use Rattle.clk_sched.specs.Limits.{end_of_moments};
+    ghost use Rattle.clk_sched.specs.Tree.{leaves_distinct};
+    ghost use Rattle.clk_sched.specs.inside.Session.{IsAfterRun};
+    ghost use Rattle.clk_sched.specs.Session.{SessionLists};
+    ghost use Rattle.clk_sched.specs.Results.{emitted as emitted_in};
     ghost use Rattle.std.specs.Coded.{codes};
     ghost use Rattle.clk_sched.specs.Stored.{tree_code};
 
-    ghost Value = { Progress };
+    ghost Value = { SessionLists };
 
     ghost coded = { Prim.hlevel (codes, tree_code) };
 
-    ghost view = { λ s. progress_of s.kernel };
+    ghost view = { λ s. record {
+      tree = s.tree;
+      log = s.nodes.log.items;
+      keeps = record { visits = s.nodes.log.kind.keeps; packed = s.nodes.log.kind.packs; packets = s.emitted.keeps };
+      gone = s.nodes.log.kind.gone;
+    } };
 
-    ghost invariant = { λ s. (s.kernel.keeps ≡ keeps_all) × (s.kernel.gone ≡ 0) };
+    ghost invariant = { λ s. IsAfterRun s.tree s.nodes × (s.nodes.moment < end_of_moments) × (leaves_distinct s.tree ≡ true)
+        × (s.emitted.keeps ≡ true → s.emitted.packets.items ≡ emitted_in s.nodes.log.items)
+        × (s.emitted.count ≡ length (emitted_in s.nodes.log.items)) × (s.emitted.count ≤ s.nodes.pull) };
 }
 
 impl Session {
-    ghost use Rattle.std.specs.Prelude.{◌≡◌, ◌+◌, ◌<◌, ◌≤◌, ◌^◌, true, [], Ok, Err, max, IfOk, IfErr, OnOk, OnErr, IsOkUnless};
+    ghost use Rattle.std.specs.Prelude.{◌≡◌, ℕ, ◌+◌, ◌<◌, ◌≤◌, ◌^◌, true, [], drop, length, max, Ok, Err, IfOk, IfErr, OnOk, OnErr, IsOk, IsOkUnless};
     ghost use Rattle.clk_packet.specs.Limits.{most_elements};
     ghost use Rattle.clk_sched.specs.Tree.{root, leaves_distinct, IsSound};
-    ghost use Rattle.clk_sched.specs.Limits.{most_left, end_of_moments, end_of_drains};
+    ghost use Rattle.clk_sched.specs.Limits.{most_left, end_of_moments, end_of_drains, end_of_pulls, end_of_drained_pulls};
     ghost use Rattle.clk_sched.specs.LaidOut.{IsRefused};
+    ghost use Rattle.clk_sched.specs.Packed.{logged};
     ghost use Rattle.clk_sched.specs.Run.{IsRun};
     ghost use Rattle.clk_sched.specs.Bound.{closing_bound};
     ghost use Rattle.clk_sched.specs.Results.{emitted, heads};
+    ghost use Rattle.clk_packet.specs.declared.fault.Fault.TheVariants.{TooManyPulls};
     ghost use Rattle.clk_sched.specs.Places.{Answers, tree_queue};
-    ghost use Rattle.clk_sched.specs.Closing.{LosesNothing, left_in};
-    ghost use Rattle.clk_sched.specs.Session.{IsPulledOnce, GivesAll, StopsAt, counted_moment, elements, newly};
-    ghost use Rattle.clk_sched.specs.Kinds.{progress_of, keeps_all};
+    ghost use Rattle.clk_sched.specs.Drain.{drain_start, HasDrained, after_pulls};
+    ghost use Rattle.clk_sched.specs.Session.{IsPulledOnce, counted_moment, elements, newly, progress_of, pulls_made};
+    ghost use Rattle.clk_sched.specs.Departures.{departures_in, pulls_since, IsAddedTo};
+    ghost use Rattle.clk_sched.specs.declared.session.departures.Departures.TheVariants.{Dropped};
+    ghost use Rattle.clk_sched.specs.Keeps.{keeps_all, keeps_nothing, keeps_visits, IsEndless};
+    ghost use Rattle.clk_sched.specs.Due.{IsDue, tree_could_emit};
 
-    /// A session of this tree, in which no queue stands twice, before its first pull.
+    /// A session of this tree, in which no queue stands twice, before its first pull. It keeps every visit and every packet that the device
+    /// emits.
     ///
     /// # Errors
     ///
     /// Fault 18 if the tree has more than 256 queues and schedulers, the device counted. Otherwise fault 1 if an allocation fails.
     pub fn new(alloc: Global, tree: Tree) -> Result<Session, Fault>
         requires distinct { leaves_distinct tree ≡ true }
-        ensures made { IfOk result (λ session. (session.tree ≡ tree) × (session.log ≡ [])) }
-        ensures fits { IfOk result (λ session. 1 + elements (root tree) ≤ most_elements) }
+        ensures made { IfOk result (λ s. s ≡ record { tree = tree; log = []; keeps = keeps_all; gone = 0 }) }
+        ensures fits { IfOk result (λ s. 1 + elements (root tree) ≤ most_elements) }
         ensures refused { IfErr result (λ fault. IsRefused tree fault) }
         ensures too_large { most_elements < 1 + elements (root tree) → result ≡ Err Fault.TooLarge }
     {
@@ -82,46 +108,154 @@ impl Session {
             packed: false,
             packets: true,
         };
-        let kernel = Kernel::new(alloc, tree, keeps)?;
-        Ok(Session { kernel })
+        Session::keeping(alloc, tree, keeps)
     }
 
-    /// Pulls the device once, and returns the packet that it emitted, if any. `moment`, in ticks, is below 2^44. A moment that is earlier
-    /// than the latest so far counts as that.
+    /// A session as `new` makes it, which keeps of the past what `keeps` says.
     ///
     /// # Errors
     ///
-    /// Fault 1 if an allocation fails. Then nothing has changed, and no queue was asked.
+    /// Those of `new`.
+    pub fn keeping(alloc: Global, tree: Tree, keeps: Keeps) -> Result<Session, Fault>
+        requires distinct { leaves_distinct tree ≡ true }
+        ensures made { IfOk result (λ s. s ≡ record { tree = tree; log = []; keeps = keeps; gone = 0 }) }
+        ensures fits { IfOk result (λ s. 1 + elements (root tree) ≤ most_elements) }
+        ensures refused { IfErr result (λ fault. IsRefused tree fault) }
+        ensures too_large { most_elements < 1 + elements (root tree) → result ≡ Err Fault.TooLarge }
+    {
+        let nodes = lay_out(alloc, &tree, keeps)?;
+        Ok(Session {
+            tree,
+            nodes,
+            emitted: Emitted::new(alloc, keeps.packets),
+        })
+    }
+
+    /// Pulls the device once, and returns the packet that it emitted, if any. `moment`, in ticks, is below 2^44. A moment that is earlier
+    /// than the latest so far counts as that. A session that doesn't have all its visits in memory was pulled fewer than 2^63 times before.
+    ///
+    /// # Errors
+    ///
+    /// Fault 1 if an allocation fails. Then nothing has changed, and no queue was asked. It never comes if nothing is kept.
+    #[inline(always)]
     pub fn pull<Q: Ask>(&mut self, q: &mut Q, moment: u64) -> Result<Option<Packet>, Fault>
-        requires { moment < end_of_moments }
-        ensures pulled { IfOk result (IsPulledOnce self.old self.new moment) }
-        ensures answers { OnOk result (Answers Q.gives (tree_queue self.old.tree) q.old (newly self.old self.new) q.new) }
+        requires moment { moment < end_of_moments }
+        requires pulls { IsEndless self.old → pulls_made (progress_of self.old) < end_of_pulls }
+        ensures pulled { IfOk result (IsPulledOnce (progress_of self.old) (progress_of self.new) moment) }
+        ensures answers { OnOk result (Answers Q.gives (tree_queue self.old.tree) q.old (newly (progress_of self.old) (progress_of self.new)) q.new) }
+        ensures keeps { self.new.keeps ≡ self.old.keeps }
+        ensures gone { self.new.gone ≡ self.old.gone }
         ensures fault { IsOkUnless result Fault.Memory }
+        ensures unkept { self.old.keeps ≡ keeps_nothing → IsOk result }
         ensures unchanged { OnErr result (self.new ≡ self.old) }
         ensures unasked { OnErr result (q.new ≡ q.old) }
     {
-        self.kernel.pull(q, moment)
+        let edges = usize::from(self.nodes.inputs[DEVICE as usize].edges);
+        self.nodes.log.reserve(edges)?;
+        self.emitted.reserve(1)?;
+        self.nodes.moment = self.nodes.moment.max(moment);
+        let got = pull_device(&mut self.nodes, q);
+        self.nodes.pull += 1;
+        self.emitted.add(got);
+        Ok(got)
+    }
+
+    /// Makes room for so many more packets, if packets are kept, and for as many visits, if these are kept packed. Pulls that emit no more
+    /// packets then allocate nothing for them.
+    ///
+    /// # Errors
+    ///
+    /// Fault 1 if an allocation fails.
+    pub fn reserve(&mut self, packets: usize) -> Result<(), Fault>
+        ensures unchanged { self.new ≡ self.old }
+        ensures fault { IsOkUnless result Fault.Memory }
+    {
+        self.nodes.log.reserve_packed(packets)?;
+        self.emitted.reserve(packets)?;
+        Ok(())
     }
 
     /// Pulls the device until `left` packets, 1,000,000 at most, were emitted, and returns the number of pulls. The pulls are one tick
     /// apart, the first one tick after the later of `moment` and the latest moment so far. That later moment is below 2^43 - 1. If `left`
-    /// is 0, it makes no pull.
+    /// is 0, it makes no pull. A session that doesn't have all its visits in memory was pulled fewer than 2^62 times before.
+    ///
+    /// # Errors
+    ///
+    /// Fault 1 if an allocation fails, which never happens if nothing is kept. Fault 17, with the number of pulls, if `bound(left)` pulls
+    /// emitted fewer packets. The session then holds the pulls that were made. Fault 17 never comes if `q` loses nothing, and the heads and
+    /// the leaves of the tree together hold exactly `left` packets.
+    pub fn drain<Q: Ask>(&mut self, q: &mut Q, left: u64, moment: u64) -> Result<u64, Fault>
+        requires left { left ≤ most_left }
+        requires moment { drain_start self.old moment < end_of_drains }
+        requires pulls { IsEndless self.old → pulls_made (progress_of self.old) < end_of_drained_pulls }
+        ensures drained { HasDrained Q.gives Q.holds q.old q.new self.old self.new left moment result }
+        ensures unkept { self.old.keeps ≡ keeps_nothing → IsOkUnless result (TooManyPulls (closing_bound self.old.tree left)) }
+    {
+        self.drain_to(q, &mut Departures::Dropped, left, moment)
+    }
+
+    // Drains the device as `drain` does, and adds emitted packets to the departures, if these are kept.
+    fn drain_to<Q: Ask>(
+        &mut self,
+        q: &mut Q,
+        departures: &mut Departures,
+        left: u64,
+        moment: u64,
+    ) -> Result<u64, Fault>
+        requires left { left ≤ most_left }
+        requires moment { drain_start self.old moment < end_of_drains }
+        requires pulls { IsEndless self.old → pulls_made (progress_of self.old) < end_of_drained_pulls }
+        ensures drained { HasDrained Q.gives Q.holds q.old q.new self.old self.new left moment result }
+        ensures unkept { self.old.keeps ≡ keeps_nothing → departures.old ≡ Dropped → IsOkUnless result (TooManyPulls (closing_bound self.old.tree left)) }
+        ensures departures { IsAddedTo departures.old (departures_in (pulls_since (progress_of self.old) (progress_of self.new))) departures.new }
+    {
+        // Reading a field brings the type invariant into scope: the log is a run.
+        let _ = &self.nodes;
+        let bound = self.bound(left);
+        let start = self.now().max(moment);
+        let mut made = 0;
+        let mut given = 0;
+        while given < left {
+            if made == bound {
+                return Err(Fault::TooManyPulls { pulls: made });
+            }
+            departures.reserve()?;
+            let got = self.pull(q, start + made + 1)?;
+            made += 1;
+            departures.add(start + made, got);
+            if got.is_some() {
+                given += 1;
+            }
+        }
+        Ok(made)
+    }
+
+    /// Drains the device as `drain` does, and returns the packets that it emitted, with their moments.
     ///
     /// # Errors
     ///
     /// Fault 1 if an allocation fails. Fault 17, with the number of pulls, if `bound(left)` pulls emitted fewer packets. The session then
     /// holds the pulls that were made. Fault 17 never comes if `q` loses nothing, and the heads and the leaves of the tree together hold
     /// exactly `left` packets.
-    pub fn drain<Q: Ask>(&mut self, q: &mut Q, left: u64, moment: u64) -> Result<u64, Fault>
+    pub fn close<Q: Ask>(
+        &mut self,
+        alloc: Global,
+        q: &mut Q,
+        left: u64,
+        moment: u64,
+    ) -> Result<Vec<Departure>, Fault>
         requires left { left ≤ most_left }
-        requires moment { max (counted_moment self.old) moment < end_of_drains }
-        ensures all { IfOk result (λ made. GivesAll self.old self.new (max (counted_moment self.old) moment) made left) }
-        ensures none_left { left ≡ 0 → (result ≡ Ok 0) × (self.new ≡ self.old) × (q.new ≡ q.old) }
-        ensures short { IfErr result (StopsAt self.old self.new (max (counted_moment self.old) moment) left) }
-        ensures ends { LosesNothing Q.gives Q.holds → left ≡ left_in self.old.tree self.old.log (Q.holds q.old) → IsOkUnless result Fault.Memory }
-        ensures answers { Answers Q.gives (tree_queue self.old.tree) q.old (newly self.old self.new) q.new }
+        requires moment { drain_start self.old moment < end_of_drains }
+        requires pulls { IsEndless self.old → pulls_made (progress_of self.old) < end_of_drained_pulls }
+        ensures drained { (made : ℕ) × HasDrained Q.gives Q.holds q.old q.new self.old self.new left moment (after_pulls made result) }
+        ensures departures { IfOk result (λ departures. departures.items ≡ departures_in (pulls_since (progress_of self.old) (progress_of self.new))) }
     {
-        self.kernel.drain(q, left, moment)
+        let mut departures = Departures::Kept(Vec::new(alloc));
+        self.drain_to(q, &mut departures, left, moment)?;
+        match departures {
+            Departures::Kept(list) => Ok(list),
+            Departures::Dropped => unreachable!(),
+        }
     }
 
     /// How many pulls a drain of `left` packets, 1,000,000 at most, makes at most. For each packet it is one more than the number of
@@ -133,62 +267,110 @@ impl Session {
         ensures limit { result < 2 ^ 42 }
         ensures sound { IsSound (root self.now.tree) }
     {
-        self.kernel.bound(left)
+        // This call does nothing: its contract is a law.
+        self.tree.schedulers_are_sound();
+        left * self.tree.pulls_per_packet()
     }
 
-    /// Every visit so far, in order: a run of the tree.
+    /// Drops the visits so far from memory. Contracts still speak of them.
+    pub fn let_go(&mut self)
+        ensures { self.new ≡ record { tree = self.old.tree; log = self.old.log; keeps = self.old.keeps; gone = length self.old.log } }
+    {
+        self.nodes.log.let_go();
+    }
+
+    /// The visits that are kept as a list, in order: all but those that were dropped. All visits, kept or not, are a run of the tree.
     pub fn log(&self) -> &[Visit]
-        ensures visits { result.now ≡ self.now.log }
+        ensures visits { self.now.keeps.visits ≡ true → result.now ≡ drop self.now.gone self.now.log }
         ensures run { IsRun self.now.tree self.now.log }
         ensures distinct { leaves_distinct self.now.tree ≡ true }
     {
-        self.kernel.log()
+        self.nodes.log.kept()
     }
 
     /// The counted moment, in ticks: the latest at which the session was pulled, and 0 before the first pull.
     pub fn now(&self) -> u64
-        ensures moment { result ≡ counted_moment self.now }
+        ensures moment { result ≡ counted_moment (progress_of self.now) }
         ensures limit { result < end_of_moments }
     {
-        self.kernel.now()
+        self.nodes.moment
     }
 
-    /// The packets emitted at the device, in order.
+    /// How many pulls were made.
+    pub fn pulls(&self) -> u64
+        ensures { result ≡ pulls_made (progress_of self.now) }
+    {
+        self.nodes.pull
+    }
+
+    /// The packets emitted at the device, in order, if they are kept.
     ///
     /// # Errors
     ///
     /// Fault 1 if an allocation fails.
     pub fn emitted(&self, alloc: Global) -> Result<Vec<Packet>, Fault>
-        ensures packets { IfOk result (λ packets. packets.items ≡ emitted self.now.log) }
+        ensures packets { self.now.keeps.packets ≡ true → IfOk result (λ packets. packets.items ≡ emitted self.now.log) }
         ensures fault { IsOkUnless result Fault.Memory }
     {
         Ok(self.as_emitted().to_vec(alloc)?)
     }
 
-    /// The packets emitted at the device, in order, as the session keeps them.
+    /// The packets emitted at the device, in order, if they are kept, as the session keeps them.
     pub fn as_emitted(&self) -> &[Packet]
-        ensures { result.now ≡ emitted self.now.log }
+        ensures { self.now.keeps.packets ≡ true → result.now ≡ emitted self.now.log }
     {
-        self.kernel.as_emitted()
+        // Reading a field brings the type invariant into scope: what is kept is what was emitted.
+        let _ = &self.nodes;
+        self.emitted.packets.as_slice()
     }
 
-    /// Every visit, and the packets emitted at the device, in order. Does not allocate.
+    /// How many packets were emitted at the device.
+    pub fn count_emitted(&self) -> u64
+        ensures { result ≡ length (emitted self.now.log) }
+    {
+        // Reading a field brings the type invariant into scope: so many packets were emitted.
+        let _ = &self.nodes;
+        self.emitted.count
+    }
+
+    /// The visits that are kept as a list, and the packets emitted at the device that are kept, in order. Does not allocate.
     pub fn into_parts(self) -> (Vec<Visit>, Vec<Packet>)
-        ensures log { result.0.items ≡ self.log }
-        ensures emitted { result.1.items ≡ emitted self.log }
+        ensures log { self.keeps.visits ≡ true → result.0.items ≡ drop self.gone self.log }
+        ensures emitted { self.keeps.packets ≡ true → result.1.items ≡ emitted self.log }
     {
-        let Session { kernel } = self;
-        kernel.into_parts()
+        let Session { nodes, emitted, .. } = self;
+        (nodes.log.into_kept(), emitted.packets)
     }
 
-    /// The session as a `Kernel`, a session of any kind. It still keeps every visit, as a list, and every emitted packet.
-    pub fn into_kernel(self) -> Kernel
-        ensures progress { progress_of result ≡ self }
-        ensures kind { result.keeps ≡ keeps_all }
-        ensures gone { result.gone ≡ 0 }
+    /// The visits, if they are kept as a list or packed, and the packets emitted at the device, in order. Packets that aren't kept are read
+    /// off the visits, if visits are kept and none was dropped.
+    ///
+    /// # Errors
+    ///
+    /// Fault 1 if an allocation fails. A session that keeps its packets allocates nothing, and never fails.
+    pub fn into_packed(self, alloc: Global) -> Result<(PackedLog, Vec<Packet>), Fault>
+        ensures log { IfOk result (λ parts. keeps_visits self.keeps ≡ true → logged parts.0 ≡ drop self.gone self.log) }
+        ensures emitted { IfOk result (λ parts. self.keeps.packets ≡ true → parts.1.items ≡ emitted self.log) }
+        ensures told { IfOk result (λ parts. keeps_visits self.keeps ≡ true → self.gone ≡ 0 → parts.1.items ≡ emitted self.log) }
+        ensures fault { IsOkUnless result Fault.Memory }
+        ensures takes_none { self.keeps.packets ≡ true → IsOk result }
     {
-        let Session { kernel } = self;
-        kernel
+        let Session { nodes, emitted, .. } = self;
+        let log = nodes.log.into_packed(alloc);
+        if emitted.keeps {
+            return Ok((log, emitted.packets));
+        }
+        let packets = log.emitted(alloc)?;
+        Ok((log, packets))
+    }
+
+    /// The earliest moment, in ticks, at which a pull could emit a packet, as things stand. It is the counted moment, or a later one if
+    /// every packet is below a Shaper that has no room for it yet. `None` if no queue of the tree is backlogged and no head is held.
+    pub fn due<B: Backlog>(&self, queues: &B) -> Option<u64>
+        ensures due { IsDue (tree_could_emit self.now.tree self.now.log (B.backlogged queues.now)) (counted_moment (progress_of self.now)) result }
+    {
+        let inputs = &self.nodes.inputs[DEVICE as usize].each;
+        self.nodes.due_among(queues, DEVICE, inputs)
     }
 
     /// The packets held as heads, by node and then by input.
@@ -200,6 +382,6 @@ impl Session {
         ensures packets { IfOk result (λ packets. packets.items ≡ heads self.now.tree self.now.log) }
         ensures fault { IsOkUnless result Fault.Memory }
     {
-        self.kernel.held_heads(alloc)
+        held_heads(alloc, &self.nodes)
     }
 }

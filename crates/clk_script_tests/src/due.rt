@@ -7,7 +7,7 @@ use self::Step::{Emits, EmitsNone, IsDue, IsIdle, Offers};
 use crate::random::Random;
 use clk_packet::{Fault, Packet};
 use clk_router::{CountingRouter, Router};
-use clk_sched::{Keeps, Unlogged};
+use clk_sched::{Keeps, Session};
 use clk_tree::Plan;
 use std::alloc::Global;
 use std::process::Abort;
@@ -34,7 +34,7 @@ enum Step {
 #[derive(Drop)]
 struct Bench {
     router: CountingRouter,
-    first: Unlogged,
+    first: Session,
 }
 
 impl Bench {
@@ -45,7 +45,7 @@ impl Bench {
         let tree = plan.tree(alloc, 0).expect(rt, "ample memory");
         Bench {
             router: CountingRouter::open(alloc, &plan).expect(rt, "ample memory"),
-            first: Unlogged::new(alloc, tree).expect(rt, "ample memory"),
+            first: Session::new(alloc, tree).expect(rt, "ample memory"),
         }
     }
 

@@ -20,4 +20,4 @@ pub mod shaped;
 mod strides;
 mod text;
 pub mod trees;
-mod unlogged;
+mod unkept;

@@ -13,7 +13,8 @@ use Rattle.clk_sched.specs.Limits.{most_left}
 use Rattle.clk_sched.specs.Log.{pulls, moment_of}
 use Rattle.clk_sched.specs.Session.{Progress, counted_moment}
 use Rattle.clk_sched.specs.Packed.{logged}
-use Rattle.clk_drain.specs.declared.outcome.PackedOutcome.{PackedOutcome}
+use Rattle.clk_sched.specs.declared.session.packed.PackedLog.{PackedLog}
+use Rattle.clk_drain.specs.declared.outcome.Outcome.{Outcome}
 use Rattle.clk_drain.specs.declared.running.opening.LeafQueue.{LeafQueue}
 use Rattle.clk_drain.specs.Line.{LineLists, leaves_of, seats_in, senders_at, AreLinesOf, HaveOwnSenders}
 use Rattle.clk_drain.specs.Outcome.{Device, IsSettledOutcome}
@@ -155,7 +156,7 @@ AreKeptLogs (f ∷ feeds) (log ∷ logs) (d ∷ devices) = (f.visits ≡ true �
 AreKeptLogs feeds logs devices = ⊥
 
 -- All devices were drained, and all that was sent is settled.
-pub record AreSettledTogether (terms : Terms) (feeds : List Feed) (outcome : PackedOutcome) : Type 0 where
+pub record AreSettledTogether (terms : Terms) (feeds : List Feed) (outcome : Outcome PackedLog) : Type 0 where
   pub devices : List Device
   pub closed : AreClosedDevices terms feeds devices
   pub logs : AreKeptLogs feeds (map logged outcome.logs.items) devices

@@ -1,17 +1,18 @@
 //! Draining the devices of a run, one after the other.
 
-ghost use Rattle.std.specs.Prelude.{◌≡◌, ◌⊎◌, ◌<◌, ◌++◌, ◌∷◌, [], map, IfOk, IfErr, OnOk, IsOkUnless};
+ghost use Rattle.std.specs.Prelude.{◌≡◌, ◌<◌, ◌++◌, ◌∷◌, [], IfOk, IfErr, OnOk, IsOkUnless};
 ghost use Rattle.std.specs.List.{AllByRecursion};
 ghost use Rattle.clk_packet.specs.declared.fault.Fault.TheVariants.{Memory};
 ghost use Rattle.clk_drain.specs.inside.Handed.{IsReadyToClose, AreApartDevices, AreSettledTogether, IsFaultOfClosing};
 
 use crate::closing::{add, close};
-use crate::drained::PackedDrained;
-use crate::outcome::PackedOutcome;
+use crate::drained::Drained;
+use crate::outcome::Outcome;
 use crate::running::course::Course;
 use crate::running::joining::Closing;
 use clk_gate::Gate;
 use clk_packet::Fault;
+use clk_sched::PackedLog;
 use std::alloc::Global;
 use std::sync::Wait;
 
@@ -24,13 +25,13 @@ pub fn close_devices<W: Wait, G: Gate>(
     alloc: Global,
     course: &Course<W, G>,
     closings: Vec<Closing>,
-) -> Result<PackedOutcome, Fault>
+) -> Result<Outcome<PackedLog>, Fault>
     requires ready { AllByRecursion (IsReadyToClose course.now) closings.items }
     requires apart { AreApartDevices closings.items }
     ensures settled { IfOk result (AreSettledTogether course.now closings.items) }
     ensures fault { IfErr result (IsFaultOfClosing closings.items) }
 {
-    let mut outcome = PackedOutcome {
+    let mut outcome = Outcome {
         emitted: Vec::with_capacity(alloc, closings.len())?,
         logs: Vec::with_capacity(alloc, closings.len())?,
         tallies: Vec::new(alloc),
@@ -44,13 +45,13 @@ pub fn close_devices<W: Wait, G: Gate>(
 }
 
 // Adds the outcome of a device, after those of the devices before it.
-fn note(outcome: &mut PackedOutcome, drained: PackedDrained) -> Result<(), Fault>
+fn note(outcome: &mut Outcome<PackedLog>, drained: Drained<PackedLog>) -> Result<(), Fault>
     ensures emitted { OnOk result (outcome.new.emitted.items ≡ outcome.old.emitted.items ++ drained.emitted ∷ []) }
     ensures logs { OnOk result (outcome.new.logs.items ≡ outcome.old.logs.items ++ drained.log ∷ []) }
     ensures tallies { OnOk result (outcome.new.tallies.items ≡ outcome.old.tallies.items ++ drained.tallies.items) }
     ensures fault { IsOkUnless result Fault.Memory }
 {
-    let PackedDrained {
+    let Drained {
         emitted,
         log,
         tallies,

@@ -1,10 +1,10 @@
 //! A consumer: what pulls a device while producers run.
 
-use crate::device::DeviceSession;
 use crate::running::course::Course;
 use crate::running::open_lines::OpenLines;
 use clk_gate::Gate;
 use clk_packet::Fault;
+use clk_sched::Session;
 use std::marker::Model;
 use std::sync::Wait;
 use std::thread;
@@ -16,26 +16,30 @@ const YIELDS: u32 = 64;
 #[derive(Drop)]
 pub struct Consumer<'a, W: Wait> {
     pub device: u16,
-    pub session: DeviceSession,
+    pub session: Session,
     pub open_lines: OpenLines<'a, W>,
 }
 
 impl<'a, W: Wait> Model for Consumer<'a, W> {
     ghost use Rattle.clk_drain.specs.inside.Threads.{Feed};
     ghost use Rattle.std.specs.Coded.{codes};
+    ghost use Rattle.clk_sched.specs.Keeps.{keeps_visits, TellsEmitted};
+    ghost use Rattle.clk_sched.specs.Session.{progress_of};
     ghost use Rattle.clk_sched.specs.Stored.{tree_code};
 
     ghost Value = { Feed };
 
     ghost coded = { Prim.hlevel (codes, tree_code) };
 
-    ghost view = { λ c. record { session = c.session.session; visits = c.session.visits; lines = c.open_lines } };
+    ghost view = { λ c. record { session = progress_of c.session; visits = keeps_visits c.session.keeps; lines = c.open_lines } };
+
+    ghost invariant = { λ c. TellsEmitted c.session };
 }
 
 impl<'a, W: Wait> Consumer<'a, W> {
-    ghost use Rattle.std.specs.Prelude.{◌≡◌, ◌<◌, ◌≤◌, ◌*◌, false, IfOk, OnOk, IsOkUnless};
+    ghost use Rattle.std.specs.Prelude.{◌≡◌, ◌<◌, ◌≤◌, ◌*◌, IfOk, OnOk, IsOkUnless};
     ghost use Rattle.clk_packet.specs.declared.fault.Fault.TheVariants.{Memory};
-    ghost use Rattle.clk_sched.specs.Kinds.{pulls_made};
+    ghost use Rattle.clk_sched.specs.Session.{pulls_made};
     ghost use Rattle.clk_sched.specs.Limits.{end_of_pulls};
     ghost use Rattle.clk_drain.specs.Line.{AreLinesOf};
     ghost use Rattle.clk_drain.specs.inside.Threads.{IsUnpulled, IsPulled, IsPulledAt};
@@ -65,7 +69,7 @@ impl<'a, W: Wait> Consumer<'a, W> {
     // Makes the pull with this number, counted from 1. If it gave none, yields to other threads.
     fn pull<G: Gate>(&mut self, course: &Course<W, G>, number: u32) -> Result<(), Fault>
         requires number { number ≤ course.now.limit }
-        requires pulls { self.old.visits ≡ false → pulls_made self.old.session < end_of_pulls }
+        requires pulls { pulls_made self.old.session < end_of_pulls }
         requires own { AreLinesOf self.old.session self.old.lines }
         ensures pulled { OnOk result (IsPulledAt (number * course.now.step) self.old self.new) }
         ensures fault { IsOkUnless result Fault.Memory }

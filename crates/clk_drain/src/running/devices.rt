@@ -3,18 +3,17 @@
 ghost use Rattle.std.specs.Prelude.{◌≡◌, ◌<◌, true, [], map, IfOk, OnOk, IsOkUnless};
 ghost use Rattle.std.specs.List.{AllByRecursion};
 ghost use Rattle.clk_packet.specs.declared.fault.Fault.TheVariants.{Memory};
-ghost use Rattle.clk_sched.specs.Kinds.{keeps_visits, keeps_emitted};
+ghost use Rattle.clk_sched.specs.Keeps.{keeps_visits, keeps_emitted};
 ghost use Rattle.clk_tree.specs.PlanTree.{device_count};
 ghost use Rattle.clk_tree.specs.PlanParts.{queues_of};
 ghost use Rattle.clk_drain.specs.Run.{queues_at};
 ghost use Rattle.clk_drain.specs.inside.Opening.{AreOpenAs};
 ghost use Rattle.clk_drain.specs.inside.Devices.{IsOpenOf, AreOpenFrom, KeepVisits};
 
-use crate::device::DeviceSession;
 use crate::running::opening::{Ends, LeafQueue, open_queue};
 use clk_packet::{Fault, Traces};
 use clk_ruled::Seat;
-use clk_sched::Keeps;
+use clk_sched::{Keeps, Session};
 use clk_tree::Plan;
 use std::alloc::Global;
 
@@ -69,7 +68,7 @@ fn open_device(
     let tree = plan.tree(alloc, device)?;
     let mut ends = Ends {
         device,
-        session: DeviceSession::new(alloc, tree, keeps)?,
+        session: Session::keeping(alloc, tree, keeps)?,
         taps: Vec::new(alloc),
         seats: Vec::new(alloc),
     };

@@ -5,11 +5,11 @@ ghost use Rattle.std.specs.Vec.Iter.{into_iter_items};
 ghost use Rattle.clk_packet.specs.declared.fault.Fault.TheVariants.{Memory};
 ghost use Rattle.clk_drain.specs.inside.Handed.{AreJoinable, AreAllJoinable, joined_lines, joined_feeds, seat_count};
 
-use crate::device::DeviceSession;
 use crate::line::Line;
 use crate::running::opening::LeafQueue;
 use clk_packet::Fault;
 use clk_ruled::{ClosedSeat, Tap};
+use clk_sched::Session;
 use std::alloc::Global;
 use std::marker::Model;
 use std::vec::IntoIter;
@@ -17,39 +17,47 @@ use std::vec::IntoIter;
 /// A session after its consumer ended, with the taps of its queues, in order.
 #[derive(Drop)]
 pub struct Pulled {
-    pub session: DeviceSession,
+    pub session: Session,
     pub taps: Vec<Tap>,
 }
 
 impl Model for Pulled {
     ghost use Rattle.clk_drain.specs.inside.Handed.{PulledLists};
     ghost use Rattle.std.specs.Coded.{codes};
+    ghost use Rattle.clk_sched.specs.Keeps.{keeps_visits, TellsEmitted};
+    ghost use Rattle.clk_sched.specs.Session.{progress_of};
     ghost use Rattle.clk_sched.specs.Stored.{tree_code};
 
     ghost Value = { PulledLists };
 
     ghost coded = { Prim.hlevel (codes, tree_code) };
 
-    ghost view = { λ p. record { session = p.session.session; visits = p.session.visits; taps = p.taps.items } };
+    ghost view = { λ p. record { session = progress_of p.session; visits = keeps_visits p.session.keeps; taps = p.taps.items } };
+
+    ghost invariant = { λ p. TellsEmitted p.session };
 }
 
 /// A session with its lines, whose seats are all closed.
 #[derive(Drop)]
 pub struct Closing {
-    pub session: DeviceSession,
+    pub session: Session,
     pub lines: Vec<Line>,
 }
 
 impl Model for Closing {
     ghost use Rattle.clk_drain.specs.inside.Threads.{Feed};
     ghost use Rattle.std.specs.Coded.{codes};
+    ghost use Rattle.clk_sched.specs.Keeps.{keeps_visits, TellsEmitted};
+    ghost use Rattle.clk_sched.specs.Session.{progress_of};
     ghost use Rattle.clk_sched.specs.Stored.{tree_code};
 
     ghost Value = { Feed };
 
     ghost coded = { Prim.hlevel (codes, tree_code) };
 
-    ghost view = { λ c. record { session = c.session.session; visits = c.session.visits; lines = c.lines.items } };
+    ghost view = { λ c. record { session = progress_of c.session; visits = keeps_visits c.session.keeps; lines = c.lines.items } };
+
+    ghost invariant = { λ c. TellsEmitted c.session };
 }
 
 /// Each device's session with its lines, by number. `closed` are the seats of all queues, in order.

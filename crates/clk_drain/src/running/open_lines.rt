@@ -5,10 +5,9 @@ ghost use Rattle.clk_packet.specs.Lists.{AreRising};
 ghost use Rattle.clk_drain.specs.Line.{has_line, leaves_of};
 ghost use Rattle.clk_drain.specs.inside.Parts.{IsPlaceOf};
 
-use crate::device::DeviceSession;
 use clk_packet::{Fault, Packet};
 use clk_ruled::{RuledQueue, Tap};
-use clk_sched::Ask;
+use clk_sched::{Ask, Session};
 use std::alloc::Global;
 use std::marker::Model;
 use std::sync::Wait;
@@ -80,12 +79,11 @@ impl<'a, W: Wait> Model for OpenLines<'a, W> {
 }
 
 impl<'a, W: Wait> OpenLines<'a, W> {
-    ghost use Rattle.std.specs.Prelude.{◌≡◌, ◌<◌, false, map, IfOk, OnOk, IsOkUnless};
+    ghost use Rattle.std.specs.Prelude.{◌≡◌, ◌<◌, map, IfOk, OnOk, IsOkUnless};
     ghost use Rattle.clk_packet.specs.declared.fault.Fault.TheVariants.{Memory};
-    ghost use Rattle.clk_sched.specs.Kinds.{pulls_made};
     ghost use Rattle.clk_sched.specs.Limits.{end_of_moments, end_of_pulls};
     ghost use Rattle.clk_sched.specs.Results.{leaf_packets};
-    ghost use Rattle.clk_sched.specs.Session.{IsPulledOnce, newly};
+    ghost use Rattle.clk_sched.specs.Session.{IsPulledOnce, newly, progress_of, pulls_made};
     ghost use Rattle.clk_packet.specs.Lists.{AreRising};
     ghost use Rattle.clk_drain.specs.Line.{LineLists, AreLinesOf, leaves_of, pulling_all};
 
@@ -102,18 +100,15 @@ impl<'a, W: Wait> OpenLines<'a, W> {
     /// # Errors
     ///
     /// Fault 1 if an allocation fails. Then nothing has changed, and nothing was asked.
-    pub fn pull(
-        &mut self,
-        session: &mut DeviceSession,
-        moment: u64,
-    ) -> Result<Option<Packet>, Fault>
+    pub fn pull(&mut self, session: &mut Session, moment: u64) -> Result<Option<Packet>, Fault>
         requires moment { moment < end_of_moments }
-        requires pulls { session.old.visits ≡ false → pulls_made session.old.session < end_of_pulls }
-        requires lines { AreLinesOf session.old.session self.old }
-        ensures pulled { IfOk result (IsPulledOnce session.old.session session.new.session moment) }
-        ensures kind { session.new.visits ≡ session.old.visits }
-        ensures lines { AreLinesOf session.new.session self.new }
-        ensures taken { OnOk result (self.new ≡ pulling_all (λ q. leaf_packets session.old.session.tree q (newly session.old.session session.new.session)) self.old) }
+        requires pulls { pulls_made (progress_of session.old) < end_of_pulls }
+        requires lines { AreLinesOf (progress_of session.old) self.old }
+        ensures pulled { IfOk result (IsPulledOnce (progress_of session.old) (progress_of session.new) moment) }
+        ensures keeps { session.new.keeps ≡ session.old.keeps }
+        ensures gone { session.new.gone ≡ session.old.gone }
+        ensures lines { AreLinesOf (progress_of session.new) self.new }
+        ensures taken { OnOk result (self.new ≡ pulling_all (λ q. leaf_packets session.old.tree q (newly (progress_of session.old) (progress_of session.new))) self.old) }
         ensures fault { IsOkUnless result Fault.Memory }
     {
         session.pull(self, moment)

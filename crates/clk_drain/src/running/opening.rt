@@ -8,10 +8,10 @@ ghost use Rattle.clk_packet.specs.Lists.{AreRising};
 ghost use Rattle.clk_drain.specs.Opening.{shared_at};
 ghost use Rattle.clk_drain.specs.inside.Opening.{rooms_for, IsAdded};
 
-use crate::device::DeviceSession;
 use crate::running::baton::Baton;
 use clk_packet::{Fault, Traces};
 use clk_ruled::{Opened, RuledQueue, Seat, Tap};
+use clk_sched::Session;
 use clk_tree::QueueSpec;
 use std::alloc::Global;
 use std::marker::Model;
@@ -31,7 +31,7 @@ pub struct LeafQueue {
 #[derive(Drop)]
 pub struct Ends {
     pub device: u16,
-    pub session: DeviceSession,
+    pub session: Session,
     pub taps: Vec<Tap>,
     pub seats: Vec<Vec<Seat>>,
 }
@@ -39,6 +39,8 @@ pub struct Ends {
 impl Model for Ends {
     ghost use Rattle.std.specs.Prelude.{map};
     ghost use Rattle.std.specs.Coded.{codes};
+    ghost use Rattle.clk_sched.specs.Keeps.{keeps_visits, TellsEmitted};
+    ghost use Rattle.clk_sched.specs.Session.{progress_of};
     ghost use Rattle.clk_sched.specs.Stored.{tree_code};
     ghost use Rattle.clk_drain.specs.inside.Handed.{EndLists};
 
@@ -46,7 +48,9 @@ impl Model for Ends {
 
     ghost coded = { Prim.hlevel (codes, tree_code) };
 
-    ghost view = { λ e. record { session = e.session.session; visits = e.session.visits; taps = e.taps.items; seats = map (λ seats. seats.items) e.seats.items } };
+    ghost view = { λ e. record { session = progress_of e.session; visits = keeps_visits e.session.keeps; taps = e.taps.items; seats = map (λ seats. seats.items) e.seats.items } };
+
+    ghost invariant = { λ e. TellsEmitted e.session };
 }
 
 /// Opens one more queue, at this leaf, with room for all that is sent to it. Fault 1 if an allocation fails.

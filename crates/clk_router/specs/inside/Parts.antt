@@ -13,11 +13,10 @@ use Rattle.clk_sched.specs.declared.session.departures.Departure.{Departure}
 use Rattle.clk_sched.specs.declared.session.keeps.Keeps.{Keeps}
 use Rattle.clk_sched.specs.Departures.{departures_in}
 use Rattle.clk_sched.specs.Due.{IsDue, tree_could_emit}
-use Rattle.clk_sched.specs.Kinds.{AnySession, progress_of, pulls_made}
 use Rattle.clk_sched.specs.Limits.{most_left, end_of_drains, end_of_pulls, end_of_drained_pulls}
 use Rattle.clk_sched.specs.Log.{visits_of, moment_of, result_of}
 use Rattle.clk_sched.specs.Results.{emitted}
-use Rattle.clk_sched.specs.Session.{counted_moment, elements}
+use Rattle.clk_sched.specs.Session.{counted_moment, elements, SessionLists, progress_of, pulls_made}
 use Rattle.clk_sched.specs.Tree.{Tree, root, leaves_distinct, IsSound as AreSchedulersSound}
 use Rattle.clk_tree.specs.declared.plan.parts.SenderSpec.{SenderSpec}
 use Rattle.clk_packet.specs.Lists.{AreRising}
@@ -212,7 +211,7 @@ pub record LeadsOnByPulls (setup : Setup) (new : Parts) (device moment : ℕ) (e
   pub leads : IsAt setup (events ++ pulls_shown setup events device moment its.session) new
 
 -- The pulls that the session shows are a whole drain of the device from a moment on. It emitted these packets, at these moments.
-pub record ClosesBy (setup : Setup) (events : List Event) (device moment : ℕ) (session : AnySession) (departures : List Departure) : Type 0 where
+pub record ClosesBy (setup : Setup) (events : List Event) (device moment : ℕ) (session : SessionLists) (departures : List Departure) : Type 0 where
   pub closes : Closes device moment (events_at setup device events) (pulls_shown setup events device moment session)
   pub emitted : departures ≡ departures_in closes.closing
   pub moments : map moment_of closes.closing ≡ range_with_len (max (fold max 0 (filter_map moment_in (events_at setup device events))) moment + 1) (length closes.closing)
@@ -224,5 +223,5 @@ pub record Stand (setup : Setup) (events : List Event) (parts : Parts) : Type 0 
   pub closable : IsClosable setup
 
 -- A session is due at this moment, over these queues.
-abbrev pub IsSessionDue : AnySession → List Queue → Option ℕ → Type 0
+abbrev pub IsSessionDue : SessionLists → List Queue → Option ℕ → Type 0
 IsSessionDue session queues due = IsDue (tree_could_emit session.tree session.log (λ q. nat_lt 0 (length (packets_at queues q)))) (counted_moment (progress_of session)) due

@@ -9,12 +9,19 @@ use super::shaped::{
 };
 use super::trees::{drr_over_drr, drr_over_one, shaped_drr_path, stride_over_two};
 use clk_packet::{Fault, Packet};
-use clk_sched::{Tree, Unlogged};
+use clk_sched::{Keeps, Session, Tree};
 use std::alloc::Global;
 use std::process::Abort;
 
 /// How many queues there are, each with a sender of its number.
 const QUEUES: u16 = 3;
+
+/// What a session keeps that keeps nothing.
+const NOTHING: Keeps = Keeps {
+    visits: false,
+    packed: false,
+    packets: false,
+};
 
 /// How many steps are taken at random with each tree.
 const RANDOM_STEPS: u32 = 400;
@@ -37,7 +44,7 @@ enum Step {
 /// A session and the queues that it pulls from.
 #[derive(Drop)]
 struct Bench {
-    session: Unlogged,
+    session: Session,
     queues: Queues,
     // How many packets are in queues and heads.
     left: u64,
@@ -48,7 +55,7 @@ impl Bench {
         let tree = tree.expect(rt, "a tree");
         assert!(rt; tree.leaves_distinct());
         Bench {
-            session: Unlogged::new(alloc, tree).expect(rt, "ample memory"),
+            session: Session::keeping(alloc, tree, NOTHING).expect(rt, "ample memory"),
             queues: Queues::new(alloc, QUEUES).expect(rt, "ample memory"),
             left: 0,
         }
@@ -63,7 +70,8 @@ impl Bench {
     fn pull(&mut self, rt: &impl Abort, moment: u64) -> Option<Packet> {
         assert!(rt; moment < 1 << 44);
         assert!(rt; self.session.pulls() < 1 << 63);
-        let got = self.session.pull(&mut self.queues, moment);
+        let pulled = self.session.pull(&mut self.queues, moment);
+        let got = pulled.expect(rt, "nothing is kept");
         if got.is_some() {
             self.left = self.left.saturating_sub(1);
         }

@@ -4,7 +4,7 @@
 use super::queues::Queues;
 use super::trees::drr_over_two;
 use clk_packet::{Fault, Packet};
-use clk_sched::{Departure, Keeps, Kernel, Tree, Unlogged};
+use clk_sched::{Departure, Keeps, Session, Tree};
 use std::alloc::Global;
 use std::process::Abort;
 
@@ -56,6 +56,13 @@ const KINDS: [(bool, bool, bool); 6] = [
     (true, true, true),
 ];
 
+/// What a session keeps that keeps nothing.
+const NOTHING: Keeps = Keeps {
+    visits: false,
+    packed: false,
+    packets: false,
+};
+
 /// The moment after which it is drained. Three pulls do it.
 const CLOSED: u64 = 20;
 
@@ -79,7 +86,7 @@ fn answer<T: Drop>(rt: &impl Abort, call: Call, answer: Result<T, Fault>) -> Res
 /// A session that keeps what it is told to, and the call that failed.
 #[derive(Drop)]
 struct Kept {
-    kernel: Kernel,
+    session: Session,
     queues: Queues,
     refused: Option<Call>,
 }
@@ -99,9 +106,9 @@ impl Kept {
     fn made(rt: &impl Abort, alloc: Global, keeps: Keeps) -> Result<Kept, Call> {
         let (tree, queues) = answer(rt, Call::Setup, setup(rt, alloc))?;
         assert!(rt; tree.leaves_distinct());
-        let kernel = answer(rt, Call::New, Kernel::new(alloc, tree, keeps))?;
+        let session = answer(rt, Call::New, Session::keeping(alloc, tree, keeps))?;
         Ok(Kept {
-            kernel,
+            session,
             queues,
             refused: None,
         })
@@ -127,21 +134,21 @@ impl Kept {
     }
 
     fn pull_once(&mut self, rt: &impl Abort, moment: u32) -> Result<Option<Packet>, Fault> {
-        assert!(rt; self.kernel.pulls() < 1 << 63);
-        self.kernel.pull(&mut self.queues, u64::from(moment))
+        assert!(rt; self.session.pulls() < 1 << 63);
+        self.session.pull(&mut self.queues, u64::from(moment))
     }
 
     // How many visits are kept, how many pulls were made, and how many packets were emitted.
     fn state(&self) -> (usize, u64, u64) {
-        let visits = self.kernel.log().len();
-        (visits, self.kernel.pulls(), self.kernel.count_emitted())
+        let visits = self.session.log().len();
+        (visits, self.session.pulls(), self.session.count_emitted())
     }
 
     fn held_heads(&mut self, rt: &impl Abort, alloc: Global) {
-        let mut heads = self.kernel.held_heads(alloc);
+        let mut heads = self.session.held_heads(alloc);
         if let Err(fault) = heads {
             self.note(rt, Call::HeldHeads, fault);
-            heads = self.kernel.held_heads(alloc);
+            heads = self.session.held_heads(alloc);
         }
         assert_eq!(rt; heads.expect(rt, "memory").as_slice(), [HELD].as_slice());
     }
@@ -158,15 +165,15 @@ impl Kept {
             packet: LAST,
         };
         assert_eq!(rt; departures.expect(rt, "memory").last(), Some(&last));
-        assert_eq!(rt; self.kernel.count_emitted(), SENT);
+        assert_eq!(rt; self.session.count_emitted(), SENT);
     }
 
     fn close_left(&mut self, rt: &impl Abort, alloc: Global) -> Result<Vec<Departure>, Fault> {
-        let left = SENT.saturating_sub(self.kernel.count_emitted());
+        let left = SENT.saturating_sub(self.session.count_emitted());
         assert!(rt; left <= SENT);
-        assert!(rt; self.kernel.now() < 1 << 40);
-        assert!(rt; self.kernel.pulls() < 1 << 62);
-        self.kernel.close(alloc, &mut self.queues, left, CLOSED)
+        assert!(rt; self.session.now() < 1 << 40);
+        assert!(rt; self.session.pulls() < 1 << 62);
+        self.session.close(alloc, &mut self.queues, left, CLOSED)
     }
 }
 
@@ -205,13 +212,14 @@ fn a_refused_call_is_made_again(rt: HostRuntime) {
 }
 
 // Makes each call of a session that keeps nothing, up to the one that fails. Its pulls and drains don't allocate.
-fn unlogged(rt: &impl Abort, alloc: Global) -> Result<(), Call> {
+fn bare(rt: &impl Abort, alloc: Global) -> Result<(), Call> {
     let (tree, mut queues) = answer(rt, Call::Setup, setup(rt, alloc))?;
     assert!(rt; tree.leaves_distinct());
-    let mut session = answer(rt, Call::New, Unlogged::new(alloc, tree))?;
+    let mut session = answer(rt, Call::New, Session::keeping(alloc, tree, NOTHING))?;
     for (moment, _, _, _) in PULLS {
         assert!(rt; session.pulls() < 1 << 63);
-        assert!(rt; session.pull(&mut queues, u64::from(moment)).is_some());
+        let got = session.pull(&mut queues, u64::from(moment));
+        assert!(rt; got.expect(rt, "nothing is kept").is_some());
     }
     let heads = answer(rt, Call::HeldHeads, session.held_heads(alloc))?;
     assert_eq!(rt; heads.as_slice(), [HELD].as_slice());
@@ -223,9 +231,9 @@ fn unlogged(rt: &impl Abort, alloc: Global) -> Result<(), Call> {
 
 #[test]
 fn a_session_without_a_log_is_made_again(rt: HostRuntime) {
-    let refused = unlogged(&rt, rt.alloc()).err();
+    let refused = bare(&rt, rt.alloc()).err();
     if refused.is_some() {
-        assert_eq!(rt; unlogged(&rt, rt.alloc()), Ok(()));
+        assert_eq!(rt; bare(&rt, rt.alloc()), Ok(()));
     }
     assert_eq!(rt; refused, None);
 }

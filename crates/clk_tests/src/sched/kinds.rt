@@ -4,7 +4,7 @@ use super::queues::Queues;
 use super::trees::prio_over_two;
 use crate::script::show_got;
 use clk_packet::{Fault, Packet};
-use clk_sched::{Departure, Keeps, Kernel};
+use clk_sched::{Departure, Keeps, Session};
 use std::alloc::{AllocError, Global};
 use std::process::Abort;
 
@@ -21,10 +21,10 @@ fn show_departures(text: &mut String, departures: &[Departure]) -> Result<(), Al
 }
 
 // A session over two queues that keeps this.
-fn session_that(rt: &impl Abort, alloc: Global, keeps: Keeps) -> Kernel {
+fn session_that(rt: &impl Abort, alloc: Global, keeps: Keeps) -> Session {
     let tree = prio_over_two(alloc).expect(rt, "a tree");
     assert!(rt; tree.leaves_distinct());
-    Kernel::new(alloc, tree, keeps).expect(rt, "ample memory")
+    Session::keeping(alloc, tree, keeps).expect(rt, "ample memory")
 }
 
 // Two queues, of two packets and of one.
@@ -38,7 +38,7 @@ fn three_packets(rt: &impl Abort, alloc: Global) -> Queues {
 // Pulls a session once, and returns the packet that it emitted, if any.
 fn pull(
     rt: &impl Abort,
-    session: &mut Kernel,
+    session: &mut Session,
     queues: &mut Queues,
 ) -> Result<Option<Packet>, Fault> {
     assert!(rt; session.pulls() < 1 << 62);
@@ -49,7 +49,7 @@ fn pull(
 fn close(
     rt: &impl Abort,
     alloc: Global,
-    session: &mut Kernel,
+    session: &mut Session,
     queues: &mut Queues,
 ) -> Result<Vec<Departure>, Fault> {
     assert!(rt; session.pulls() < 1 << 62);
@@ -58,7 +58,7 @@ fn close(
 }
 
 // A session that was pulled once and drained. Fails unless what it emitted is shown so.
-fn closed(rt: &impl Abort, alloc: Global, keeps: Keeps) -> Kernel {
+fn closed(rt: &impl Abort, alloc: Global, keeps: Keeps) -> Session {
     let mut session = session_that(rt, alloc, keeps);
     let mut queues = three_packets(rt, alloc);
     let text = shown(rt, alloc, &mut session, &mut queues).expect(rt, "ample memory");
@@ -70,7 +70,7 @@ fn closed(rt: &impl Abort, alloc: Global, keeps: Keeps) -> Kernel {
 fn shown(
     rt: &impl Abort,
     alloc: Global,
-    session: &mut Kernel,
+    session: &mut Session,
     queues: &mut Queues,
 ) -> Result<String, Fault> {
     let mut text = String::new(alloc);
@@ -95,7 +95,7 @@ fn assert_kept(rt: &impl Abort, alloc: Global, keeps: Keeps) {
 }
 
 // Fails unless what is kept is handed out. If visits are kept but no packets, these are read off the visits.
-fn assert_handed_out(rt: &impl Abort, alloc: Global, session: Kernel, keeps: Keeps) {
+fn assert_handed_out(rt: &impl Abort, alloc: Global, session: Session, keeps: Keeps) {
     let visits = keeps.visits || keeps.packed;
     let (log, emitted) = session.into_packed(alloc).expect(rt, "ample memory");
     assert_eq!(rt; emitted.len(), if visits || keeps.packets { 3 } else { 0 });
@@ -121,7 +121,7 @@ fn sessions_keep_what_they_are_told_to(rt: HostRuntime) {
 }
 
 // Fails unless a session keeps so many visits, of so many pulls.
-fn assert_kept_of_pulls(rt: &impl Abort, session: &Kernel, visits: usize, pulls: u64) {
+fn assert_kept_of_pulls(rt: &impl Abort, session: &Session, visits: usize, pulls: u64) {
     assert_eq!(rt; session.log().len(), visits);
     assert_eq!(rt; session.pulls(), pulls);
 }

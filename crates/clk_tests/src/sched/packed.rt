@@ -3,7 +3,7 @@
 use super::pieces::{LENGTHS, SHAPES, Shape, tree_of};
 use super::queues::Queues;
 use clk_packet::Fault;
-use clk_sched::{Keeps, Kernel, PackedLog, Visit};
+use clk_sched::{Keeps, PackedLog, Session, Visit};
 use std::alloc::Global;
 use std::process::Abort;
 
@@ -20,29 +20,29 @@ pub fn pulled(
     shape: Shape,
     keeps: Keeps,
     moments: &[u64],
-) -> Result<Kernel, Fault> {
+) -> Result<Session, Fault> {
     let tree = tree_of(alloc, shape)?;
     assert!(rt; tree.leaves_distinct());
     let mut queues = Queues::new(alloc, 3)?;
     for sender in 0..3 {
         queues.send(rt, sender, &LENGTHS)?;
     }
-    let mut kernel = Kernel::new(alloc, tree, keeps)?;
+    let mut session = Session::keeping(alloc, tree, keeps)?;
     for moment in moments {
-        pull(rt, &mut kernel, &mut queues, *moment)?;
+        pull(rt, &mut session, &mut queues, *moment)?;
     }
-    Ok(kernel)
+    Ok(session)
 }
 
 fn pull(
     rt: &impl Abort,
-    kernel: &mut Kernel,
+    session: &mut Session,
     queues: &mut Queues,
     moment: u64,
 ) -> Result<(), Fault> {
     assert!(rt; moment < 1 << 44);
-    assert!(rt; kernel.pulls() < 1 << 63);
-    kernel.pull(queues, moment)?;
+    assert!(rt; session.pulls() < 1 << 63);
+    session.pull(queues, moment)?;
     Ok(())
 }
 

@@ -5,7 +5,7 @@ use super::row::Step::{Drain, Pull, Send};
 use super::row::session_after;
 use super::trees::{drr_over_two, prio_over_two, round_robin_over_three, shaped_drr_path};
 use clk_packet::Fault;
-use clk_sched::{Keeps, Kernel, Tree, Visit};
+use clk_sched::{Keeps, Session, Tree, Visit};
 use std::alloc::Global;
 use std::process::Abort;
 
@@ -59,7 +59,7 @@ fn log_of(rt: &impl Abort, alloc: Global, shape: Shape, left: u64) -> Vec<Visit>
 /// A session that drops its log, and the pieces of it so far, in one list.
 #[derive(Drop)]
 struct LettingGo {
-    kernel: Kernel,
+    session: Session,
     queues: Queues,
     pieces: Vec<Visit>,
 }
@@ -78,7 +78,7 @@ impl LettingGo {
             queues.send(rt, sender, &LENGTHS)?;
         }
         Ok(LettingGo {
-            kernel: Kernel::new(alloc, tree, keeps)?,
+            session: Session::keeping(alloc, tree, keeps)?,
             queues,
             pieces: Vec::new(alloc),
         })
@@ -86,23 +86,23 @@ impl LettingGo {
 
     // Reads the visits that are kept, and drops them.
     fn take_piece(&mut self) -> Result<(), Fault> {
-        self.pieces.extend_from_slice(self.kernel.log())?;
-        self.kernel.let_go();
+        self.pieces.extend_from_slice(self.session.log())?;
+        self.session.let_go();
         Ok(())
     }
 
     fn pull(&mut self, rt: &impl Abort, moment: u64) -> Result<(), Fault> {
         assert!(rt; moment < 1 << 44);
-        assert!(rt; self.kernel.pulls() < 1 << 63);
-        self.kernel.pull(&mut self.queues, moment)?;
+        assert!(rt; self.session.pulls() < 1 << 63);
+        self.session.pull(&mut self.queues, moment)?;
         Ok(())
     }
 
     fn drain(&mut self, rt: &impl Abort, left: u64) -> Result<(), Fault> {
         assert!(rt; left <= 1_000_000);
-        assert!(rt; self.kernel.now().max(CLOSED) < (1 << 43) - 1);
-        assert!(rt; self.kernel.pulls() < 1 << 62);
-        self.kernel.drain(&mut self.queues, left, CLOSED)?;
+        assert!(rt; self.session.now().max(CLOSED) < (1 << 43) - 1);
+        assert!(rt; self.session.pulls() < 1 << 62);
+        self.session.drain(&mut self.queues, left, CLOSED)?;
         Ok(())
     }
 }
@@ -118,13 +118,13 @@ fn in_pieces(
     let mut session = LettingGo::new(rt, alloc, shape)?;
     for moment in MOMENTS {
         session.pull(rt, moment)?;
-        if session.kernel.log().len() >= piece {
+        if session.session.log().len() >= piece {
             session.take_piece()?;
         }
     }
     session.drain(rt, left)?;
     session.take_piece()?;
-    assert!(rt; session.kernel.log().is_empty());
+    assert!(rt; session.session.log().is_empty());
     Ok(session.pieces)
 }
 

@@ -1,6 +1,7 @@
-use Rattle.std.proofs.Common.{◌≡◌, ℕ, ◌+◌, false, true, List, [], ◌∷◌, length, map, take, drop, get_or, suc, refl, sym, ap, ◌∙◌, subst, lit≤, arith, inl, inr}
+use Rattle.std.proofs.Common.{◌≡◌, ℕ, ◌+◌, false, true, List, [], ◌∷◌, length, map, take, drop, get_or, suc, refl, sym, ap, ◌∙◌, subst, lit≤, arith, inl, inr, Vec}
 use Rattle.std.proofs.lemmas.Bool.{false≢true}
 use Rattle.std.specs.List.{flat_map, AllByRecursion}
+use Rattle.std.specs.declared.alloc.Global.{Global}
 use Rattle.clk_packet.specs.declared.packet.Packet.{Packet}
 use Rattle.clk_packet.specs.declared.packet.Kind.TheVariants.{TailDrop}
 use Rattle.clk_packet.specs.Trace.{sent_by}
@@ -13,6 +14,7 @@ use Rattle.clk_sched.specs.Results.{emitted}
 use Rattle.clk_sched.specs.Examples.Priority.{p0_0, p1_0}
 use Rattle.clk_tree.specs.Plan.{Planned}
 use Rattle.clk_tree.specs.PlanTree.{IsTreeOf, device_count}
+use Rattle.clk_sched.specs.declared.visit.Visit.{Visit}
 use Rattle.clk_drain.specs.declared.outcome.Outcome.{Outcome}
 use Rattle.clk_drain.specs.Moments.{HasMoments}
 use Rattle.clk_drain.specs.Outcome.{SharedQueue, Device, senders_to, IsSettledOutcome, IsQueueSettled}
@@ -47,7 +49,7 @@ of-devices planned lists (a ∷ b ∷ []) two each logs emitted settled moments 
 of-devices planned lists (a ∷ b ∷ c ∷ devices) two each logs emitted settled moments =
     let all = count planned 3 devices each.1.1.1 in absurd (omega (arith, two, all))
 
-of-two : (planned : List Planned) (lists : Lists) (outcome : Outcome) → device_count planned ≡ 2 → HasLists lists outcome → IsRunOutcome planned traces 3 2 outcome → OfTwo planned lists
+of-two : (planned : List Planned) (lists : Lists) (outcome : Outcome (Vec Visit Global)) → device_count planned ≡ 2 → HasLists lists outcome → IsRunOutcome planned traces 3 2 outcome → OfTwo planned lists
 of-two planned lists outcome two h o =
     of-devices planned lists o.devices two o.each (sym h.logs ∙ o.logs_are) (sym h.emitted ∙ o.emitted)
     (subst (IsSettledOutcome (sent_by traces) o.devices) h.tallies o.settled) o.moments

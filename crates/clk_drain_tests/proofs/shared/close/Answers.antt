@@ -3,7 +3,7 @@ use Rattle.std.specs.List.{AllByRecursion}
 use Rattle.clk_packet.specs.Lists.{stands_in, AreRising}
 use Rattle.clk_sched.specs.Tree.{root, leaves}
 use Rattle.clk_sched.specs.Results.{leaf_packets}
-use Rattle.clk_sched.specs.Session.{Progress}
+use Rattle.clk_sched.specs.Session.{Progress, SessionLists, progress_of}
 use Rattle.clk_drain.specs.Line.{LineLists, leaves_of, AreLinesOf}
 use Rattle.clk_drain_tests.proofs.shared.close.Goals as goal
 
@@ -22,6 +22,6 @@ lines-of-new session lines log same rise fresh = record {
 pub loop-packet-init : goal.loop-packet-init
 loop-packet-init g c =
     let made = c.in_ok-session.ensures.made in
-    let tree = ap (λ t. leaves (root t)) (sym made.0) in
-    subst (AreLinesOf c.in_ok-session.session) (sym c.new-lines.ensures)
-    (lines-of-new c.in_ok-session.session c.args.lines.items made.1 (c.requires.leaves ∙ tree) (subst AreRising (sym c.requires.leaves) c.requires.rise) c.requires.fresh)
+    let tree = ap (λ (s : SessionLists). leaves (root s.tree)) (sym made) in
+    subst (AreLinesOf (progress_of c.in_ok-session.session)) (sym c.new-lines.ensures)
+    (lines-of-new (progress_of c.in_ok-session.session) c.args.lines.items (ap (λ (s : SessionLists). s.log) made) (c.requires.leaves ∙ tree) (subst AreRising (sym c.requires.leaves) c.requires.rise) c.requires.fresh)

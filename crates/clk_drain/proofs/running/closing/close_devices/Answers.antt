@@ -4,6 +4,8 @@ use Rattle.std.proofs.lemmas.List.{nil_from_length}
 use Rattle.std.proofs.lemmas.List.Sorted.{IsNonDecreasingBy-from_sort_by_key}
 use Rattle.std.proofs.lemmas.Result.{err_from_is_err_and}
 use Rattle.clk_packet.specs.declared.tally.Tally.{Tally}
+use Rattle.clk_sched.specs.Keeps.{keeps_visits}
+use Rattle.clk_sched.specs.Session.{progress_of}
 use Rattle.clk_gate.specs.Limits.{most_step, most_limit}
 use Rattle.clk_drain.specs.inside.Threads.{Terms, Feed}
 use Rattle.clk_drain.proofs.ClosingSteps.{AreClosing, moment-within, closing-more, next-ready, next-fault, all-closed}
@@ -22,28 +24,28 @@ returns-in_err-with_capacity-2-clause-fault g c =
 
 pub close-requires-clause-lines : goal.close-requires-clause-lines
 close-requires-clause-lines g c =
-    let f : Feed = record { session = c.session.inside.session.session; visits = c.session.inside.session.visits; lines = c.session.inside.lines.items } in
+    let f : Feed = record { session = progress_of c.session.inside.session; visits = keeps_visits c.session.inside.session.keeps; lines = c.session.inside.lines.items } in
     let rest = into_iter_items c.next.new.self in
     let ready = next-ready c.args.course.now c.args.closings.items c.loop-session.yielded rest (into_iter_items c.loop-session.session-iterator) f c.loop-session.outcome (c.in-Some.ensures.steps.0 ∙ ap (λ x. x ∷ rest) (sym c.session.view_is)) c.loop-session.invariant c.requires.ready in
     ready.own
 
 pub close-requires-clause-moment : goal.close-requires-clause-moment
 close-requires-clause-moment g c =
-    let f : Feed = record { session = c.session.inside.session.session; visits = c.session.inside.session.visits; lines = c.session.inside.lines.items } in
+    let f : Feed = record { session = progress_of c.session.inside.session; visits = keeps_visits c.session.inside.session.keeps; lines = c.session.inside.lines.items } in
     let rest = into_iter_items c.next.new.self in
     let ready = next-ready c.args.course.now c.args.closings.items c.loop-session.yielded rest (into_iter_items c.loop-session.session-iterator) f c.loop-session.outcome (c.in-Some.ensures.steps.0 ∙ ap (λ x. x ∷ rest) (sym c.session.view_is)) c.loop-session.invariant c.requires.ready in
     moment-within c.args.course.now f (subst (λ (t : Terms). t.step ≤ most_step) c.course.view_is c.course.invariant.0) (subst (λ (t : Terms). t.limit ≤ most_limit) c.course.view_is c.course.invariant.1) ready
 
 pub close-requires-clause-pulls : goal.close-requires-clause-pulls
 close-requires-clause-pulls g c =
-    let f : Feed = record { session = c.session.inside.session.session; visits = c.session.inside.session.visits; lines = c.session.inside.lines.items } in
+    let f : Feed = record { session = progress_of c.session.inside.session; visits = keeps_visits c.session.inside.session.keeps; lines = c.session.inside.lines.items } in
     let rest = into_iter_items c.next.new.self in
     let ready = next-ready c.args.course.now c.args.closings.items c.loop-session.yielded rest (into_iter_items c.loop-session.session-iterator) f c.loop-session.outcome (c.in-Some.ensures.steps.0 ∙ ap (λ x. x ∷ rest) (sym c.session.view_is)) c.loop-session.invariant c.requires.ready in
     λ unkept. pulls-few f.session c.args.course.now.step c.args.course.now.limit ready.made ready.moments ready.within (subst (λ (t : Terms). t.limit ≤ most_limit) c.course.view_is c.course.invariant.1)
 
 pub returns-in_err-drained-clause-fault : goal.returns-in_err-drained-clause-fault
 returns-in_err-drained-clause-fault g c =
-    let f : Feed = record { session = c.session.inside.session.session; visits = c.session.inside.session.visits; lines = c.session.inside.lines.items } in
+    let f : Feed = record { session = progress_of c.session.inside.session; visits = keeps_visits c.session.inside.session.keeps; lines = c.session.inside.lines.items } in
     let rest = into_iter_items c.next.new.self in
     let p = err_from_is_err_and c.from_residual-in_err-drained.result c.from_residual-in_err-drained.ensures.1 in
     rw (p.1, p.2) (next-fault c.args.course.now c.args.closings.items c.loop-session.yielded rest (into_iter_items c.loop-session.session-iterator) f c.loop-session.outcome c.in_err-drained.field-0.0 (c.in-Some.ensures.steps.0 ∙ ap (λ x. x ∷ rest) (sym c.session.view_is)) c.loop-session.invariant c.in_err-drained.ensures.fault)
@@ -54,12 +56,12 @@ loop-session-preserved g c =
     let all = c.args.closings.items in
     let done = c.loop-session.yielded in
     let before = into_iter_items c.loop-session.session-iterator in
-    let f : Feed = record { session = c.session.inside.session.session; visits = c.session.inside.session.visits; lines = c.session.inside.lines.items } in
+    let f : Feed = record { session = progress_of c.session.inside.session; visits = keeps_visits c.session.inside.session.keeps; lines = c.session.inside.lines.items } in
     let rest = into_iter_items c.next.new.self in
     let next = c.in-Some.ensures.steps.0 ∙ ap (λ x. x ∷ rest) (sym c.session.view_is) in
     let ready = next-ready terms all done rest before f c.loop-session.outcome next c.loop-session.invariant c.requires.ready in
     subst (λ (d : Feed). AreClosing terms all (done ++ d ∷ []) rest c.note.new.outcome) c.session.view_is
-    (closing-more terms all done rest before f c.in_ok-drained.drained c.loop-session.outcome c.note.new.outcome next ready c.in_ok-drained.ensures.drained c.in_ok-drained.ensures.reached
+    (closing-more terms all done rest before f c.in_ok-drained.drained c.loop-session.outcome c.note.new.outcome next ready (c.in_ok-drained.ensures.drained c.session.invariant) c.in_ok-drained.ensures.reached
     (record { logs = c.in_ok-note.ensures.logs; emitted = c.in_ok-note.ensures.emitted; tallies = c.in_ok-note.ensures.tallies }) c.loop-session.invariant)
 
 pub returns-in_err-note-clause-fault : goal.returns-in_err-note-clause-fault

@@ -1,6 +1,6 @@
 use Rattle.std.proofs.Common.{map, vec_items}
 use Rattle.std.specs.List.{AllByRecursion}
-use Rattle.clk_sched.specs.Kinds.{keeps_visits}
+use Rattle.clk_sched.specs.Keeps.{keeps_visits}
 use Rattle.clk_drain.specs.inside.Devices.{KeepVisits}
 use Rattle.clk_drain.proofs.DeviceSteps.{AreOpenBelow}
 use Rattle.clk_drain.proofs.running.devices.open_devices.Given as goal

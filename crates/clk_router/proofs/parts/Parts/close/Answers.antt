@@ -3,7 +3,7 @@ use Rattle.std.specs.Vec.{with_item}
 use Rattle.clk_router.specs.declared.devices.Device.{Device}
 use Rattle.clk_router.specs.declared.parts.Parts.{Parts}
 use Rattle.clk_router.specs.inside.Parts.{ClosesBy}
-use Rattle.clk_router.proofs.ClosingLemmas.{can-close, closes-by, either-drained, LeadsOnByPulls-closed, closes-ok}
+use Rattle.clk_router.proofs.ClosingLemmas.{can-close, closes-by, either-drained, LeadsOnByPulls-closed, drained-ok, unless-after}
 use Rattle.clk_router.proofs.NeverShort.{queues-lose-nothing, kept-is}
 use Rattle.clk_router.proofs.PartsLemmas.{set-device}
 use Rattle.clk_router.proofs.parts.Parts.close.Goals as goal
@@ -14,9 +14,10 @@ returns-clause-leads c =
     let before = c.index_mut.result.now in
     let after : Device = record { session = c.close.new.self; kept = before.kept } in
     let set = set-device old.devices.items c.args.device c.from.result before after c.from.ensures (can-close c.args.moment old.devices.items c.args.device c.requires.can) c.index_mut.ensures.value in
-    let some = either-drained _ _ _ _ c.close.result c.close.ensures.all c.close.ensures.short in
+    let drain = c.close.ensures.drained.1 in
+    let some = either-drained c.close.ensures.drained.0 c.close.result drain in
     λ setup events at.
-    LeadsOnByPulls-closed c.calls_are_history.ensures setup events old _ c.args.device c.args.moment some.made some.given before after at set refl (c.close.ensures.kind, c.close.ensures.gone) some.drained c.close.ensures.answers refl refl refl refl
+    LeadsOnByPulls-closed c.calls_are_history.ensures setup events old _ c.args.device c.args.moment some.made some.given before after at set refl (drain.keeps, drain.gone) some.drained drain.answers refl refl refl refl
 
 pub returns-clause-closed : goal.returns-clause-closed
 returns-clause-closed c =
@@ -26,12 +27,13 @@ returns-clause-closed c =
     let set = set-device old.devices.items c.args.device c.from.result before after c.from.ensures (can-close c.args.moment old.devices.items c.args.device c.requires.can) c.index_mut.ensures.value in
     let left = c.left-left.ensures before set.was in
     let new : Parts = record old { devices = with_item old.devices c.from.result after; queues = c.close.new.q } in
-    closes-ok c.close.result
+    let drain = c.close.ensures.drained.1 in
+    drained-ok c.close.ensures.drained.0 c.close.result
     (λ departures all told setup events at its here.
     let same : after ≡ its = cc (set.is, here) in
     subst (λ (d : Device). ClosesBy setup events c.args.device c.args.moment d.session departures.items) same
-    (closes-by c.calls_are_history.ensures setup events old new c.args.device c.args.moment all.0 _ before after departures.items at set refl (c.close.ensures.kind, c.close.ensures.gone) left all.1 told))
-    c.close.ensures.all c.close.ensures.departures
+    (closes-by c.calls_are_history.ensures setup events old new c.args.device c.args.moment c.close.ensures.drained.0 _ before after departures.items at set refl (drain.keeps, drain.gone) left all told))
+    drain c.close.ensures.departures
 
 pub returns-clause-fault : goal.returns-clause-fault
 returns-clause-fault c =
@@ -41,4 +43,4 @@ returns-clause-fault c =
     let stands = c.requires.stands in
     let kept = kept-is stands.0 stands.1 old c.args.device before stands.2.closable stands.2.at (λ tree. (c.runs_go_on.ensures tree).start) c.runs_conserve_packets.ensures.counts set.was in
     let left = c.left-left.ensures before set.was in
-    c.close.ensures.ends queues-lose-nothing (omega (arith, kept, left))
+    unless-after c.close.ensures.drained.0 c.close.result _ (c.close.ensures.drained.1.ends queues-lose-nothing (omega (arith, kept, left)))

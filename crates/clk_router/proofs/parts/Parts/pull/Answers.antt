@@ -12,7 +12,7 @@ returns-clause-leads c =
     let after : Device = record { session = c.pull.new.self; kept = before.kept } in
     let set = set-device old.devices.items c.args.device c.from.result before after c.from.ensures (can-pull old.keeps old.devices.items c.args.device c.requires.can) c.index_mut.ensures.value in
     both-ok c.pull.result
-    (λ got once answers setup events at. IsAt-pulled c.calls_are_history.ensures setup events old _ c.args.device c.args.moment before after got at set.was set.is set.only refl (c.pull.ensures.kind, c.pull.ensures.gone) once answers refl refl refl refl)
+    (λ got once answers setup events at. IsAt-pulled c.calls_are_history.ensures setup events old _ c.args.device c.args.moment before after got at set.was set.is set.only refl (c.pull.ensures.keeps, c.pull.ensures.gone) once answers refl refl refl refl)
     c.pull.ensures.pulled c.pull.ensures.answers
 
 pub returns-clause-unkept : goal.returns-clause-unkept

@@ -1,6 +1,5 @@
 use Rattle.std.proofs.Common.{◌≡◌, ◌<◌, length, sym, subst, ◌∙◌}
-use Rattle.clk_sched.specs.Kinds.{progress_of}
-use Rattle.clk_sched.specs.Session.{counted_moment}
+use Rattle.clk_sched.specs.Session.{counted_moment, progress_of}
 use Rattle.clk_router.specs.Course.{Course, moment_at}
 use Rattle.clk_router.proofs.AskLemmas.{moment-is, device-read}
 use Rattle.clk_router.proofs.router.Router.moment.Goals as goal

@@ -8,7 +8,7 @@ pub loop-made-init : goal.loop-made-init
 loop-made-init g c = record { pulled = pulled-none c.args.course.now c.args.self c.requires.unpulled; within = omega arith }
 
 pub pull-requires-clause-pulls : goal.pull-requires-clause-pulls
-pull-requires-clause-pulls g c = λ unkept.
+pull-requires-clause-pulls g c =
     let pulled = c.loop-made.invariant.pulled in
     let most = subst (λ n. n ≤ most_limit) c.limit.ensures.value c.limit.ensures.within in
     let few = pulls-few c.loop-made.consumer.session c.args.course.now.step c.args.course.now.limit c.loop-made.made pulled.moments c.loop-made.invariant.within most in

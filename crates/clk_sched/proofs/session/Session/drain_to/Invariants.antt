@@ -1,8 +1,8 @@
 use Rattle.std.proofs.Common.{◌≡◌, ◌-◌, ◌≤◌}
 use Rattle.clk_sched.specs.Departures.{departures_in, pulls_since, IsAddedTo}
-use Rattle.clk_sched.specs.Kinds.{progress_of}
+use Rattle.clk_sched.specs.Session.{progress_of}
 use Rattle.clk_sched.proofs.Sessions.SessionDrain.{IsDraining, Empties}
-use Rattle.clk_sched.proofs.session.kernel.Kernel.drain_to.Given as goal
+use Rattle.clk_sched.proofs.session.Session.drain_to.Given as goal
 
 abbrev pub invariant-loop-given : goal.invariant-loop-given
 invariant-loop-given g l =

@@ -1,11 +1,10 @@
 use Rattle.std.proofs.Common.{subst, arith}
 use Rattle.clk_sched.specs.Due.{IsDue, tree_could_emit}
-use Rattle.clk_sched.specs.Kinds.{progress_of}
-use Rattle.clk_sched.specs.Session.{counted_moment}
+use Rattle.clk_sched.specs.Session.{counted_moment, progress_of}
 use Rattle.clk_sched.specs.inside.Due.{AreDue}
 use Rattle.clk_sched.proofs.Nodes.Asked.{entry}
 use Rattle.clk_sched.proofs.Sessions.Due.{tree-due}
-use Rattle.clk_sched.proofs.session.kernel.Kernel.due.Goals as goal
+use Rattle.clk_sched.proofs.session.Session.due.Goals as goal
 
 pub returns : goal.returns
 returns g c =

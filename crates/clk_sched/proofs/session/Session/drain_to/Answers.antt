@@ -1,14 +1,14 @@
-use Rattle.std.proofs.Common.{◌≡◌, ◌+◌, true, max, refl, sym, ap, ◌∙◌, subst, arith}
+use Rattle.std.proofs.Common.{◌≡◌, ◌+◌, true, max, Ok, refl, sym, ap, ◌∙◌, subst, arith}
 use Rattle.std.proofs.lemmas.Bool.{false≢true}
 use Rattle.clk_sched.specs.Run.{IsRun}
 use Rattle.clk_sched.specs.Tree.{leaves_distinct}
-use Rattle.clk_sched.specs.Session.{GivesAll, counted_moment}
-use Rattle.clk_sched.specs.Kinds.{progress_of}
+use Rattle.clk_sched.specs.Drain.{drain_start}
+use Rattle.clk_sched.specs.Session.{GivesAll, progress_of}
 use Rattle.clk_sched.proofs.Sessions.SessionDrain.{draining-first, drain-step, draining-all, given-one, given-none}
 use Rattle.clk_sched.proofs.Closing.Emptied.{emptied-first}
 use Rattle.clk_sched.specs.Departures.{departure_at, departures_in, pulls_since, IsAddedTo}
 use Rattle.clk_sched.proofs.Sessions.Departed.{added-none, added-same, added-more, still-dropped, since-none}
-use Rattle.clk_sched.proofs.session.kernel.Kernel.drain_to.Goals as goal
+use Rattle.clk_sched.proofs.session.Session.drain_to.Goals as goal
 
 pub loop-given-init : goal.loop-given-init
 loop-given-init g c =
@@ -36,7 +36,7 @@ loop-given-preserved-then-is_some g c =
     c.loop-given.invariant.5 c.loop-given.invariant.1.drained.pulls_are (let l = c.loop-given.invariant.1.counted in omega (arith, l)) c.in_ok-got.ensures.pulled c.reserve.ensures.same (subst (λ n. IsAddedTo c.reserve.new.self (departure_at n c.in_ok-got.got) c.add.new.self) (let at : c.max-start.result + (c.loop-given.made + 1) ≡ c.max-start.result + c.loop-given.made + 1 = omega arith in at) c.add.ensures)
     in
     let one = given-one g.Q.Ask.gives g.Q.Ask.holds (progress_of c.args.self.now) (progress_of c.pull.new.self) c.args.q.now c.pull.new.q c.max-start.result (c.loop-given.made + 1) c.loop-given.given c.args.left c.in_ok-got.got (sym c.is_some.ensures ∙ c.if-is_some.true) step in
-    (omega (arith, few, not_all), one.0, one.1, c.pull.ensures.kind ∙ c.loop-given.invariant.3, c.pull.ensures.gone ∙ c.loop-given.invariant.4, departed)
+    (omega (arith, few, not_all), one.0, one.1, c.pull.ensures.keeps ∙ c.loop-given.invariant.3, c.pull.ensures.gone ∙ c.loop-given.invariant.4, departed)
 
 pub loop-given-preserved : goal.loop-given-preserved
 loop-given-preserved g c =
@@ -52,14 +52,24 @@ loop-given-preserved g c =
     c.loop-given.invariant.5 c.loop-given.invariant.1.drained.pulls_are (let l = c.loop-given.invariant.1.counted in omega (arith, l)) c.in_ok-got.ensures.pulled c.reserve.ensures.same (subst (λ n. IsAddedTo c.reserve.new.self (departure_at n c.in_ok-got.got) c.add.new.self) (let at : c.max-start.result + (c.loop-given.made + 1) ≡ c.max-start.result + c.loop-given.made + 1 = omega arith in at) c.add.ensures)
     in
     let none = given-none g.Q.Ask.gives g.Q.Ask.holds (progress_of c.args.self.now) (progress_of c.pull.new.self) c.args.q.now c.pull.new.q c.max-start.result (c.loop-given.made + 1) c.loop-given.given c.args.left c.in_ok-got.got (sym c.is_some.ensures ∙ c.if-is_some.false) step in
-    (omega (arith, few, not_all), none.0, none.1, c.pull.ensures.kind ∙ c.loop-given.invariant.3, c.pull.ensures.gone ∙ c.loop-given.invariant.4, departed)
+    (omega (arith, few, not_all), none.0, none.1, c.pull.ensures.keeps ∙ c.loop-given.invariant.3, c.pull.ensures.gone ∙ c.loop-given.invariant.4, departed)
 
-pub returns-clause-all : goal.returns-clause-all
-returns-clause-all g c =
-    let most : c.max-start.result ≡ max (counted_moment (progress_of c.args.self.now)) c.args.moment = c.max-start.ensures ∙ ap (λ n. max n c.args.moment) c.now.ensures.moment in
-    subst (λ m. GivesAll (progress_of c.args.self.now) (progress_of c.loop-given.self) m c.loop-given.made c.args.left) most
-    (draining-all g.Q.Ask.gives (progress_of c.args.self.now) (progress_of c.loop-given.self) c.args.q.now c.loop-given.q c.max-start.result c.loop-given.made c.loop-given.given c.args.left c.loop-given.invariant.1 (let f = c.loop-given-test.false in omega (arith, f))
-    (let few = c.loop-given.invariant.0 in let all = c.bound-bound.ensures.value in omega (arith, few, all)))
+pub returns-clause-drained : goal.returns-clause-drained
+returns-clause-drained g c =
+    let most : c.max-start.result ≡ drain_start c.args.self.now c.args.moment = c.max-start.ensures ∙ ap (λ n. max n c.args.moment) c.now.ensures.moment in
+    let kept = c.loop-given.invariant.3 in
+    let gone = c.loop-given.invariant.4 in
+    record {
+      all = subst (λ m. GivesAll (progress_of c.args.self.now) (progress_of c.loop-given.self) m c.loop-given.made c.args.left) most
+          (draining-all g.Q.Ask.gives (progress_of c.args.self.now) (progress_of c.loop-given.self) c.args.q.now c.loop-given.q c.max-start.result c.loop-given.made c.loop-given.given c.args.left c.loop-given.invariant.1 (let f = c.loop-given-test.false in omega (arith, f))
+          (let few = c.loop-given.invariant.0 in let all = c.bound-bound.ensures.value in omega (arith, few, all)));
+      short = tt;
+      none_left = λ none. let idle = c.loop-given.invariant.1.idle none in (ap Ok idle.0, λ i. record { tree = (idle.1 i).tree; log = (idle.1 i).log; keeps = kept i; gone = gone i }, idle.2);
+      ends = λ keeps exact. tt;
+      keeps = kept;
+      gone = gone;
+      answers = c.loop-given.invariant.1.answers;
+    }
 
 pub returns-then-made-bound-clause-departures : goal.returns-then-made-bound-clause-departures
 returns-then-made-bound-clause-departures g c = c.loop-given.invariant.5

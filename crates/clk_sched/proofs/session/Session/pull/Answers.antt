@@ -4,11 +4,11 @@ use Rattle.std.proofs.lemmas.List.{length-append}
 use Rattle.clk_sched.specs.Limits.{end_of_pulls}
 use Rattle.clk_sched.specs.Results.{emitted}
 use Rattle.clk_sched.specs.Places.{Answers, tree_queue}
-use Rattle.clk_sched.specs.Session.{IsPulledOnce, newly}
-use Rattle.clk_sched.specs.Kinds.{progress_of, pulls_made, IsEndless}
+use Rattle.clk_sched.specs.Session.{IsPulledOnce, newly, progress_of, pulls_made}
+use Rattle.clk_sched.specs.Keeps.{IsEndless}
 use Rattle.clk_sched.proofs.Sessions.SessionPull.{session-pulled, emitted-once, one-at-most, one_further, pulls-fit, progress, HasGoneOn}
 use Rattle.clk_sched.proofs.Trees.QueuesAsked.{answers-tree}
-use Rattle.clk_sched.proofs.session.kernel.Kernel.pull.Goals as goal
+use Rattle.clk_sched.proofs.session.Session.pull.Goals as goal
 
 pub overflow_add-self : goal.overflow_add-self
 overflow_add-self g c =

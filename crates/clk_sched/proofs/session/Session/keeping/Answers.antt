@@ -1,7 +1,7 @@
 use Rattle.std.proofs.Common.{length, sym, ap, ◌∙◌, arith}
 use Rattle.clk_sched.specs.Results.{emitted}
 use Rattle.clk_sched.proofs.Sessions.SessionPull.{session-first}
-use Rattle.clk_sched.proofs.session.kernel.Kernel.new.Goals as goal
+use Rattle.clk_sched.proofs.session.Session.keeping.Goals as goal
 
 pub invariant_of-result : goal.invariant_of-result
 invariant_of-result c =

@@ -1,24 +1,32 @@
-//! Sessions that keep no log emit what a session emits that keeps one.
+//! Sessions that keep nothing emit what a session emits that keeps all.
 
-ghost use Rattle.std.specs.Prelude.{◌≤◌};
+ghost use Rattle.std.specs.Prelude.{◌<◌, ◌≤◌};
+ghost use Rattle.clk_sched.specs.Limits.{end_of_moments};
 
 use super::queues::Queues;
 use super::row::session;
 use super::trees::{drr_over_stride, prio_over_two, round_robin_over_three, shaped_drr_path};
-use clk_packet::Fault;
-use clk_sched::{Session, Tree, Unlogged};
+use clk_packet::{Fault, Packet};
+use clk_sched::{END_OF_DRAINED_PULLS, END_OF_DRAINS, END_OF_PULLS, Keeps, Session, Tree};
 use std::alloc::Global;
 use std::process::Abort;
 
 /// How many queues there are, each with a sender of its number.
 const QUEUES: u16 = 13;
 
-/// A session of each kind over the same tree, each with queues of its own.
+/// What a session keeps that keeps nothing.
+const NOTHING: Keeps = Keeps {
+    visits: false,
+    packed: false,
+    packets: false,
+};
+
+/// Two sessions over the same tree, each with queues of its own: one that keeps all, and one that keeps nothing.
 #[derive(Drop)]
 struct Both {
-    logged: Session,
+    keeping: Session,
     queues: Queues,
-    unlogged: Unlogged,
+    bare: Session,
     others: Queues,
 }
 
@@ -30,9 +38,9 @@ impl Both {
         again: Result<Tree, Fault>,
     ) -> Both {
         Both {
-            logged: logged(rt, alloc, tree),
+            keeping: keeping(rt, alloc, tree),
             queues: queues(rt, alloc),
-            unlogged: unlogged(rt, alloc, again),
+            bare: bare(rt, alloc, again),
             others: queues(rt, alloc),
         }
     }
@@ -56,46 +64,33 @@ impl Both {
 
     fn pull(&mut self, rt: &impl Abort, moment: u64) -> Result<(), Fault> {
         assert!(rt; moment < 1 << 44);
-        assert!(rt; self.unlogged.pulls() < 1 << 63);
-        let got = self.unlogged.pull(&mut self.others, moment);
-        assert_eq!(rt; got, self.logged.pull(&mut self.queues, moment)?);
+        let got = pull(rt, &mut self.bare, &mut self.others, moment)?;
+        assert_eq!(rt; got, pull(rt, &mut self.keeping, &mut self.queues, moment)?);
         Ok(())
     }
 
     // Drains both of so many packets.
     fn drain(&mut self, rt: &impl Abort, left: u64, moment: u64) {
         assert!(rt; left <= 1_000_000);
-        let logged = self.drain_logged(rt, left, moment);
-        let unlogged = self.drain_unlogged(rt, left, moment);
-        assert_eq!(rt; unlogged, logged);
-    }
-
-    fn drain_logged(&mut self, rt: &impl Abort, left: u64, moment: u64) -> Result<u64, Fault>
-        requires { left ≤ 1000000 }
-    {
-        assert!(rt; self.logged.now().max(moment) < (1 << 43) - 1);
-        self.logged.drain(&mut self.queues, left, moment)
-    }
-
-    fn drain_unlogged(&mut self, rt: &impl Abort, left: u64, moment: u64) -> Result<u64, Fault>
-        requires { left ≤ 1000000 }
-    {
-        assert!(rt; self.unlogged.now().max(moment) < (1 << 43) - 1);
-        assert!(rt; self.unlogged.pulls() < 1 << 62);
-        self.unlogged.drain(&mut self.others, left, moment)
+        let kept = drain(rt, &mut self.keeping, &mut self.queues, left, moment);
+        let unkept = drain(rt, &mut self.bare, &mut self.others, left, moment);
+        assert_eq!(rt; unkept, kept);
     }
 
     // Fails unless both emitted so many packets by now, and hold the same heads.
     fn assert_same(&self, rt: &impl Abort, alloc: Global, emitted: usize) -> Result<(), Fault> {
-        assert_eq!(rt; self.unlogged.now(), self.logged.now());
-        assert_eq!(rt; self.logged.as_emitted().len(), emitted);
-        assert_eq!(rt; self.unlogged.count_emitted(), emitted as u64);
+        assert_eq!(rt; self.bare.now(), self.keeping.now());
+        assert_eq!(rt; self.bare.pulls(), self.keeping.pulls());
+        assert_eq!(rt; self.keeping.as_emitted().len(), emitted);
+        assert_eq!(rt; self.bare.count_emitted(), emitted as u64);
+        assert!(rt; self.bare.as_emitted().is_empty());
+        assert!(rt; self.bare.log().is_empty());
         self.assert_same_heads(rt, alloc)
     }
 
     fn assert_same_heads(&self, rt: &impl Abort, alloc: Global) -> Result<(), Fault> {
-        let heads = self.unlogged.held_heads(alloc)?;
-        let others = self.logged.held_heads(alloc)?;
+        let heads = self.bare.held_heads(alloc)?;
+        let others = self.keeping.held_heads(alloc)?;
         assert!(rt; heads == others, "the same heads");
         Ok(())
     }
@@ -105,14 +100,40 @@ fn queues(rt: &impl Abort, alloc: Global) -> Queues {
     Queues::new(alloc, QUEUES).expect(rt, "ample memory")
 }
 
-fn logged(rt: &impl Abort, alloc: Global, tree: Result<Tree, Fault>) -> Session {
+fn keeping(rt: &impl Abort, alloc: Global, tree: Result<Tree, Fault>) -> Session {
     session(rt, alloc, tree.expect(rt, "a tree")).expect(rt, "ample memory")
 }
 
-fn unlogged(rt: &impl Abort, alloc: Global, tree: Result<Tree, Fault>) -> Unlogged {
+fn bare(rt: &impl Abort, alloc: Global, tree: Result<Tree, Fault>) -> Session {
     let tree = tree.expect(rt, "a tree");
     assert!(rt; tree.leaves_distinct());
-    Unlogged::new(alloc, tree).expect(rt, "ample memory")
+    Session::keeping(alloc, tree, NOTHING).expect(rt, "ample memory")
+}
+
+fn pull(
+    rt: &impl Abort,
+    session: &mut Session,
+    queues: &mut Queues,
+    moment: u64,
+) -> Result<Option<Packet>, Fault>
+    requires { moment < end_of_moments }
+{
+    assert!(rt; session.pulls() < END_OF_PULLS);
+    session.pull(queues, moment)
+}
+
+fn drain(
+    rt: &impl Abort,
+    session: &mut Session,
+    queues: &mut Queues,
+    left: u64,
+    moment: u64,
+) -> Result<u64, Fault>
+    requires { left ≤ 1000000 }
+{
+    assert!(rt; session.now().max(moment) < END_OF_DRAINS);
+    assert!(rt; session.pulls() < END_OF_DRAINED_PULLS);
+    session.drain(queues, left, moment)
 }
 
 // Sends three packets of each sender, pulls six times, which emits so many packets, and sends one more of each. Then drains the tree of

@@ -1,0 +1,26 @@
+-- What sessions keep of the past. Some keep their visits in memory, and of others contracts alone know the visits.
+use Rattle.std.specs.Prelude.{◌≡◌, ◌||◌, Bool, true, false}
+use Rattle.clk_sched.specs.declared.session.keeps.Keeps.{Keeps}
+use Rattle.clk_sched.specs.Session.{SessionLists}
+
+abbrev pub keeps_all : Keeps
+keeps_all = record { visits = true; packed = false; packets = true }
+
+abbrev pub keeps_nothing : Keeps
+keeps_nothing = record { visits = false; packed = false; packets = false }
+
+-- whether visits are kept, as a list or packed
+abbrev pub keeps_visits : Keeps → Bool
+keeps_visits keeps = keeps.visits || keeps.packed
+
+-- whether emitted packets are kept, or can be read off the visits that are kept
+abbrev pub keeps_emitted : Keeps → Bool
+keeps_emitted keeps = keeps.packets || keeps_visits keeps
+
+-- At the end it's known which packets a session emitted: it keeps them, or it keeps its visits, and dropped none.
+abbrev pub TellsEmitted : SessionLists → Type 0
+TellsEmitted s = (keeps_emitted s.keeps ≡ true) × (s.gone ≡ 0)
+
+-- No memory bounds how many pulls a session can have: it keeps no visits, or dropped some.
+abbrev pub IsEndless : SessionLists → Type 0
+IsEndless s = (keeps_visits s.keeps ≡ true → s.gone ≡ 0 → ⊥)
