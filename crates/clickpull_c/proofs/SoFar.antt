@@ -13,7 +13,7 @@ use Rattle.clickpull_c.specs.declared.values.COffered.{COffered}
 use Rattle.clickpull_c.specs.declared.values.CDeparture.{CDeparture}
 use Rattle.clickpull_c.specs.Values.{packet_in_c}
 use Rattle.clk_router.specs.Chains.{IsChain}
-use Rattle.clickpull_c.specs.Calls.{IsOffered, OffersOne, IsOfferedSoFar, GivesOne, DrainPull, PullsNext, HasRoom, with_departure, departures_of}
+use Rattle.clickpull_c.specs.Calls.{IsOffered, OffersOne, IsOfferedSoFar, GivesOne, EndsDrain, IsDrained, DrainPull, PullsNext, HasRoom, with_departure, departures_of}
 use Rattle.clickpull_c.specs.inside.SoFar.{GaveSoFar, DrainedSoFar}
 use Rattle.clk_router.proofs.Callers.Chains.{chain-more, zip-more}
 
@@ -106,3 +106,17 @@ drained-some old mid new device before filled made given moment p same low so_fa
     let y : CDeparture = record { moment = moment; packet = packet_in_c p } in
     drained-more old mid new device before filled (slice_set filled given y) made given (given + 1) (record { moment = moment; got = Some p }) same low so_far one (omega arith) (take_more_set filled given y low)
     (others-more before filled given y so_far.others)
+
+-- A drain that came so far ends so.
+pub drained-to : (old new : Course) (device most : ℕ) (before filled : List CDeparture) (made given status : ℕ) → made ≤ most → DrainedSoFar old new device before filled made given
+    → ((pulls : ℕ) → pulls ≡ made → EndsDrain new device (length before) most pulls given status) → IsDrained old new device most before filled given status
+drained-to old new device most before filled made given status few so_far ends = record {
+  pulls = so_far.pulls;
+  made = so_far.chain;
+  few = omega (arith, so_far.count, few);
+  room = so_far.room;
+  within = so_far.within;
+  gave = so_far.gave;
+  others = so_far.others;
+  ends = ends (length so_far.pulls) so_far.count;
+}

@@ -8,7 +8,7 @@ ghost use Rattle.clickpull_c.specs.Calls.{AnswersOffer, EndsOffers, IsOfferedSoF
 use crate::handle::Handle;
 use crate::statuses::{AT_END, BAD_LENGTH, OK, UNKNOWN_SENDER};
 use crate::values::{COffer, COffered, length_of, offered_for_c};
-use clk_router::CountingRouter;
+use clk_router::{CountingRouter, Router};
 
 /// The sender with this number offers its next packet, of this length in bytes, to its queue. Fills in the packet and its outcome.
 #[unsafe(no_mangle)]
@@ -84,7 +84,7 @@ fn offer(router: &mut CountingRouter, sender: u32, length: u32, offered: &mut CO
 }
 
 /// The place of the sender with this number, if there is one.
-pub(crate) fn place_of(router: &CountingRouter, sender: u32) -> Option<u16>
+pub(crate) fn place_of(router: &Router, sender: u32) -> Option<u16>
     ensures found { IfSome result (λ place. sender_at router.now.setup place ≡ Some sender) }
     ensures missing { result ≡ None → IsUnknown router.now sender }
 {

@@ -1,6 +1,6 @@
 //! Pulls of devices.
 
-ghost use Rattle.std.specs.Prelude.{◌≡◌, ◌⊎◌, length, IfOk, IfErr, OnErr};
+ghost use Rattle.std.specs.Prelude.{◌≡◌, ◌⊎◌, None, length, IfSome, IfOk, IfErr, OnErr};
 ghost use Rattle.clk_router.specs.Course.{CanPull, IsPulled};
 ghost use Rattle.clickpull_c.specs.Answers.{RefusesPull};
 ghost use Rattle.clickpull_c.specs.Calls.{AnswersPull, IsPulledOften, pulls_status};
@@ -9,7 +9,7 @@ use crate::handle::Handle;
 use crate::statuses::{AT_END, NONE, OK, UNKNOWN_DEVICE};
 use crate::values::{CPacket, packet_for_c};
 use clk_packet::Packet;
-use clk_router::CountingRouter;
+use clk_router::{CountingRouter, Router};
 
 /// Pulls the device with this number once, at this moment in ticks, or at the device's latest moment if that is later. Fills in the packet,
 /// if one is emitted.
@@ -69,11 +69,8 @@ fn pull_often(
     ensures refused { IfErr result (RefusesPull router.old device moment) }
     ensures unchanged { OnErr result ((router.new ≡ router.old) × (packets.new ≡ packets.old)) }
 {
-    if usize::from(device) >= router.devices() {
-        return Err(UNKNOWN_DEVICE);
-    }
-    if !router.can_pull(device, moment) {
-        return Err(AT_END);
+    if let Some(status) = refusal(router, device, moment) {
+        return Err(status);
     }
     Ok(pull_on(router, device, moment, packets))
 }
@@ -104,11 +101,22 @@ fn pull(router: &mut CountingRouter, device: u16, moment: u64) -> Result<Option<
     ensures refused { IfErr result (RefusesPull router.old device moment) }
     ensures unchanged { OnErr result (router.new ≡ router.old) }
 {
-    if usize::from(device) >= router.devices() {
-        return Err(UNKNOWN_DEVICE);
-    }
-    if !router.can_pull(device, moment) {
-        return Err(AT_END);
+    if let Some(status) = refusal(router, device, moment) {
+        return Err(status);
     }
     Ok(router.pull(device, moment))
+}
+
+/// Why a device can't be pulled at this moment, if it can't.
+pub(crate) fn refusal(router: &Router, device: u16, moment: u64) -> Option<u32>
+    ensures refused { IfSome result (RefusesPull router.now device moment) }
+    ensures can { result ≡ None → CanPull router.now device moment }
+{
+    if usize::from(device) >= router.devices() {
+        return Some(UNKNOWN_DEVICE);
+    }
+    if !router.can_pull(device, moment) {
+        return Some(AT_END);
+    }
+    None
 }

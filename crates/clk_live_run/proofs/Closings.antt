@@ -1,8 +1,7 @@
 -- How a device is drained, pull by pull, and how devices are drained one after the other.
-use Rattle.std.proofs.Common.{◌≡◌, ℕ, zero, suc, ◌+◌, ◌<◌, ◌≤◌, ◌==◌, Bool, true, false, List, [], ◌∷◌, ◌++◌, length, map, max, fold, is_some, Option, Some, None, MatchOption, slice_get, refl, sym, ap, ap₂, ◌∙◌, subst, arith}
+use Rattle.std.proofs.Common.{◌≡◌, ℕ, zero, suc, ◌+◌, ◌<◌, ◌==◌, Bool, true, false, List, [], ◌∷◌, ◌++◌, length, map, max, fold, is_some, Option, Some, None, MatchOption, slice_get, refl, sym, ap, ap₂, ◌∙◌, subst, arith}
 use Rattle.std.specs.Bool.{⊤}
 use Rattle.std.specs.List.{filter_map, cons_option, range_with_len}
-use Rattle.std.specs.Option.{option_map}
 use Rattle.std.proofs.lemmas.List.{append_assoc, append-nil, length-append}
 use Rattle.std.proofs.lemmas.List.Elements.{filter-append, filter_map-append}
 use Rattle.std.proofs.lemmas.Bool.Decides.{nat_tests}
@@ -14,7 +13,7 @@ use Rattle.clk_sched.specs.Log.{visits_of, result_of}
 use Rattle.clk_sched.specs.Results.{emitted}
 use Rattle.clk_sched.specs.Session.{given_in, LastGives}
 use Rattle.clk_sched.specs.Tree.{Tree}
-use Rattle.clk_router.specs.Events.{Setup, Event, pulled, happens_at, events_at, moment_in, pull_in, accepted_in, evicted_in, emitted_in, log_of, pulls_from, closing_pulls, RunsTree, CanHappen, Closes}
+use Rattle.clk_router.specs.Events.{Setup, Event, pulled, happens_at, events_at, moment_in, pull_in, accepted_in, evicted_in, emitted_in, log_of, pulls_from, RunsTree, CanHappen, Closes}
 use Rattle.clk_router.specs.Course.{Course, after, events_of, accepted_at, evicted_at, emitted_at, moment_at, CanPull, CanClose}
 use Rattle.clk_router.specs.Settled.{IsDrained}
 use Rattle.clk_router.specs.Drains.{HasLeft, drained_by, DrainsEnd}
@@ -23,7 +22,7 @@ use Rattle.clk_router.proofs.Callers.Emitted.{its-given}
 use Rattle.clk_script.specs.Meaning.{CloseFirst}
 use Rattle.clk_live.specs.State.{LiveState, Seen, seen}
 use Rattle.clk_live.specs.declared.pulling.Emitted.{Emitted}
-use Rattle.clk_live.specs.Pulling.{IsPulledLive, packet_of}
+use Rattle.clk_live.specs.Pulling.{IsPulledLive}
 use Rattle.clk_live_run.specs.inside.Consuming.{HasDrained, HasClosed}
 
 -- a member that is there

@@ -1,9 +1,8 @@
 -- How the record of a run goes on.
-use Rattle.std.proofs.Common.{◌≡◌, ℕ, ◌+◌, ◌<◌, ◌≤◌, Bool, true, false, true≢false, List, [], ◌∷◌, ◌++◌, length, Option, Some, None, refl, sym, ap, ◌∙◌, subst, arith}
+use Rattle.std.proofs.Common.{◌≡◌, ℕ, ◌+◌, ◌≤◌, Bool, true, false, true≢false, List, [], ◌∷◌, ◌++◌, length, Option, Some, None, refl, sym, ap, ◌∙◌, subst, arith}
 use Rattle.std.proofs.lemmas.List.{append_assoc, length-append}
 use Rattle.clk_packet.specs.Bytes.{AppendsFront}
 use Rattle.clk_script.specs.declared.script.Command.{Command}
-use Rattle.clk_script.specs.declared.writer.ScriptWriter.{ScriptWriter}
 use Rattle.clk_script.specs.Record.{command_text, drain_text, record_text}
 use Rattle.clk_script.specs.Script.{most_lines}
 use Rattle.clk_live_run.specs.declared.recording.RecordState.{RecordState}

@@ -1,6 +1,6 @@
 -- What a run comes to, once its devices are drained.
-use Rattle.std.proofs.Common.{◌≡◌, ℕ, zero, suc, ◌+◌, ◌*◌, ◌<◌, ◌≤◌, ◌==◌, Bool, true, false, List, [], ◌∷◌, ◌++◌, length, map, max, fold, Option, Some, None, refl, sym, ap, ap₂, ◌∙◌, subst, arith, mul-zero, mul-le-mul_left}
-use Rattle.std.specs.List.{filter_map, filter, range_with_len, AllByRecursion, AllZip}
+use Rattle.std.proofs.Common.{◌≡◌, ℕ, zero, suc, ◌+◌, ◌*◌, ◌<◌, ◌≤◌, ◌==◌, Bool, true, false, List, [], ◌∷◌, ◌++◌, length, map, max, fold, Some, refl, sym, ap, ap₂, ◌∙◌, subst, arith, mul-zero, mul-le-mul_left}
+use Rattle.std.specs.List.{filter_map, range_with_len, AllByRecursion, AllZip}
 use Rattle.std.proofs.lemmas.List.{length-map}
 use Rattle.std.proofs.lemmas.Simd.{map-map}
 use Rattle.clk_packet.specs.declared.packet.Packet.{Packet}
@@ -16,25 +16,25 @@ use Rattle.clk_inlet.specs.Items.{packets}
 use Rattle.clk_inlet.specs.declared.inlet.Inlet.{Inlet}
 use Rattle.clk_inlet.specs.declared.item.Item.{Item}
 use Rattle.clk_inlet.specs.declared.outlet.Outlet.{Outlet}
-use Rattle.clk_sched.specs.Limits.{most_left, end_of_drains, end_of_drained_pulls}
-use Rattle.clk_router.specs.Course.{Course, events_of, accepted_at, CanClose}
+use Rattle.clk_sched.specs.Limits.{most_left}
+use Rattle.clk_router.specs.Course.{Course, events_of, CanClose}
 use Rattle.clk_router.specs.Settled.{offered_in, IsCourseSettled, AreAllOut}
-use Rattle.clk_router.specs.Events.{Setup, Event, offered, pulled, happens_at, events_at, moment_in, pull_in, accepted_in, sender_numbers, CanHappen}
+use Rattle.clk_router.specs.Events.{Setup, Event, offered, pulled, happens_at, events_at, moment_in, accepted_in, sender_numbers, CanHappen}
 use Rattle.clk_tree.specs.declared.plan.parts.SenderSpec.{SenderSpec}
 use Rattle.clk_tree.specs.PlanParts.{number_of}
 use Rattle.clk_live.specs.State.{LiveState, seen, AllGoOn}
 use Rattle.clk_live.proofs.Callers.Halves.{all_go_on}
 use Rattle.clk_live.proofs.Callers.Sending.{nothing_yet, come_back, all_offered}
-use Rattle.clk_live.specs.Outcome.{item_length, packet_length, AreOffersOf, AreAllOffered, IsLiveOutcome}
+use Rattle.clk_live.specs.Outcome.{item_length, packet_length, AreOffersOf, IsLiveOutcome}
 use Rattle.clk_script.specs.Script.{most_moment, most_lines}
 use Rattle.clk_script.specs.Record.{FitsLimits}
 use Rattle.clk_script.specs.Meaning.{CloseFirst, command_of}
 use Rattle.clk_live_run.specs.declared.senders.Sender.{Sender}
-use Rattle.clk_live_run.specs.Run.{moments_at, paced, OffersAll, IsLiveRun}
+use Rattle.clk_live_run.specs.Run.{moments_at, OffersAll, IsLiveRun}
 use Rattle.clk_live_run.specs.Recorded.{IsRecorded, failures_with}
 use Rattle.clk_live_run.specs.inside.Sending.{HasSentAll}
 use Rattle.clk_live_run.specs.inside.Recording.{SinkAt, IsEnded}
-use Rattle.clk_live_run.specs.inside.Consuming.{items_of, items_in, taken_in, offers_in, AreEarly, HasPaced, HasClosed}
+use Rattle.clk_live_run.specs.inside.Consuming.{items_of, items_in, taken_in, HasPaced, HasClosed}
 use Rattle.clk_live_run.proofs.Takings.{as-many}
 
 -- Nothing has happened.

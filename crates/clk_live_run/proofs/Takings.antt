@@ -1,9 +1,8 @@
 -- How a consumer takes packets and pulls devices, one after another.
-use Rattle.std.proofs.Common.{◌≡◌, ℕ, zero, suc, ◌+◌, ◌*◌, ◌<◌, ◌≤◌, ◌==◌, nat_lt, if◌then◌else◌, Bool, true, false, List, [], ◌∷◌, ◌++◌, length, map, set, Option, Some, None, slice_get, refl, sym, ap, ap₂, ◌∙◌, subst, arith, mul-add, mul-one, mul-le-mul}
+use Rattle.std.proofs.Common.{◌≡◌, ℕ, zero, suc, ◌+◌, ◌*◌, ◌<◌, ◌≤◌, ◌==◌, nat_lt, if◌then◌else◌, Bool, true, false, List, [], ◌∷◌, ◌++◌, length, map, set, Option, Some, slice_get, refl, sym, ap, ap₂, ◌∙◌, subst, arith, mul-add, mul-one, mul-le-mul}
 use Rattle.std.specs.List.{filter_map, range_with_len, AllByRecursion, AllZip}
-use Rattle.std.specs.Option.{option_map}
 use Rattle.std.proofs.lemmas.List.{append-nil, append_assoc, length-append, length-map, map-append}
-use Rattle.std.proofs.lemmas.List.Elements.{filter-append, filter_map-append}
+use Rattle.std.proofs.lemmas.List.Elements.{filter_map-append}
 use Rattle.std.proofs.lemmas.List.FromFn.{map-range_with_len_more}
 use Rattle.std.proofs.lemmas.Bool.Decides.{nat_tests}
 use Rattle.clk_inlet.specs.declared.item.Item.{Item}
@@ -13,7 +12,6 @@ use Rattle.clk_sched.specs.declared.visit.Visit.{Visit}
 use Rattle.clk_inlet.specs.Halves.{taken as taken_items}
 use Rattle.clk_router.specs.Settled.{offered_in}
 use Rattle.clk_router.specs.Course.{Course, after, events_of, CanPull}
-use Rattle.clk_sched.specs.Limits.{end_of_moments, end_of_pulls}
 use Rattle.clk_gate.specs.Limits.{most_limit, most_step}
 use Rattle.clk_router.specs.Events.{Setup, Event, offered, pulled, happens_at, events_at, moment_in, pull_in}
 use Rattle.clk_router.proofs.Callers.Events.{all-join, events-here, events-elsewhere}
@@ -21,7 +19,7 @@ use Rattle.clk_script.specs.Script.{most_moment}
 use Rattle.clk_live.specs.State.{LiveState, Seen, seen, GoesOn, AllGoOn}
 use Rattle.clk_live.specs.Taking.{IsTaken, offer_outcome}
 use Rattle.clk_live.specs.declared.taking.Taken.{Taken}
-use Rattle.clk_live.specs.Pulling.{IsPulledLive, packet_of}
+use Rattle.clk_live.specs.Pulling.{IsPulledLive}
 use Rattle.clk_live.specs.declared.pulling.Emitted.{Emitted}
 use Rattle.clk_live.proofs.Callers.Halves.{all_same, all_then}
 use Rattle.clk_script.specs.declared.script.Command.{Command}
@@ -29,7 +27,7 @@ use Rattle.clk_script.specs.declared.script.Command.TheVariants.{Send, Pull}
 use Rattle.clk_script.specs.Meaning.{command_of}
 use Rattle.clk_live_run.specs.Run.{moments_at, paced}
 use Rattle.clk_live_run.specs.inside.Recording.{RecordAt, LeadsOn}
-use Rattle.clk_live_run.specs.inside.Consuming.{commands_of, items_in, taken_in, offers_in, OnlyTook, if_first, PulledFirst, HasPaced}
+use Rattle.clk_live_run.specs.inside.Consuming.{commands_of, items_in, taken_in, OnlyTook, if_first, PulledFirst, HasPaced}
 
 -- moments handed in, with an offer more, and with a pull more
 moments-offer : (setup : Setup) (events : List Event) (p : Packet) (outcome : Offered) (d : ℕ) → moments_at setup (events ++ offered p outcome ∷ []) d ≡ moments_at setup events d

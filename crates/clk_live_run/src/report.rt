@@ -10,7 +10,7 @@ ghost use Rattle.clk_live_run.specs.inside.Reporting.{account_line, counts_in, s
 
 use clk_packet::{Fault, Sink};
 use clk_report::{Counts, Total, report_line};
-use clk_router::{Account, CountingRouter};
+use clk_router::{Account, CountingRouter, Router};
 
 /// Writes the report of each sender's packets so far: a line for each sender, in order.
 ///
@@ -32,7 +32,7 @@ pub fn report_accounts<W: Sink>(router: &CountingRouter, writer: &mut W) -> Resu
 }
 
 // Reads how many packets each sender has offered: fewer than 2^32, so that no total of its account is capped.
-fn see_offers(router: &CountingRouter)
+fn see_offers(router: &Router)
     ensures { AllByRecursion (λ s. length (offered_of router.now.events s) < 2 ^ 32) (sender_numbers router.now.setup) }
 {
     for place in 0..router.senders().len() {

@@ -11,6 +11,7 @@ use crate::limits::END_OF_PACKETS;
 use crate::parts::Parts;
 use crate::past::Past;
 use crate::queue_state::QueueState;
+use crate::senders::place_of;
 use clk_packet::{Fault, Offered, Packet};
 use clk_sched::{
     Departure, END_OF_MOMENTS, END_OF_PULLS, Keeps, Tree, Visit, closing_bound_is_enough,
@@ -43,7 +44,7 @@ impl Model for Router {
 }
 
 impl Router {
-    ghost use Rattle.std.specs.Prelude.{◌≡◌, ℕ, ◌+◌, ◌<◌, ◌≤◌, List, ◌∷◌, [], Some, true, false, map, length, IfOk, OnErr, IsOk, IsOkUnless};
+    ghost use Rattle.std.specs.Prelude.{◌≡◌, ℕ, ◌+◌, ◌<◌, ◌≤◌, List, ◌∷◌, [], Some, None, true, false, map, length, IfSome, IfOk, OnErr, IsOk, IsOkUnless};
     ghost use Rattle.clk_packet.specs.Limits.{most_elements, most_capacity};
     ghost use Rattle.clk_sched.specs.declared.visit.Visit.{Visit};
     ghost use Rattle.clk_sched.specs.Keeps.{keeps_nothing};
@@ -83,6 +84,14 @@ impl Router {
         ensures rising { AreRising result.now }
     {
         self.parts.numbers.as_slice()
+    }
+
+    /// The place of the sender with this number, if there is one.
+    pub fn place_of(&self, sender: u16) -> Option<u16>
+        ensures found { IfSome result (λ place. sender_at self.now.setup place ≡ Some sender) }
+        ensures missing { result ≡ None → (place : _) → sender_at self.now.setup place ≡ Some sender → ⊥ }
+    {
+        place_of(self.senders(), sender)
     }
 
     /// How many devices it has, one at least.

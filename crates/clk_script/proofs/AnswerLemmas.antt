@@ -23,15 +23,15 @@ use Rattle.clk_script.specs.declared.script.Command.TheVariants.{Send, Pull}
 use Rattle.clk_script.specs.declared.rows.Row.{Row}
 use Rattle.clk_script.specs.declared.rows.Row.TheVariants as row
 use Rattle.clk_script.specs.declared.past.Past.{Past}
-use Rattle.clk_script.specs.declared.recorder.Recorder.{Recorder}
+use Rattle.clk_script.specs.declared.script_router.ScriptRouter.{ScriptRouter}
 use Rattle.clk_script.specs.Script.{Names, most_lines}
 use Rattle.clk_router.specs.Events.{Setup, sender_numbers, Event, offered, pulled, events_at, log_of, logs_of, tally_after, emitted_in}
 use Rattle.clk_script.specs.Meaning.{names_of, has_several, command_of, event_text, CloseFirst, Writes}
-use Rattle.clk_script.specs.inside.Recorder.{names_in, numbers_in, IsAt, AreLogs, IsPastOf, Starts, IsReady, given_kept, LeadsOnByPull, IsReadable, HasRoomForOne}
+use Rattle.clk_script.specs.inside.ScriptRouter.{names_in, numbers_in, IsAt, AreLogs, IsPastOf, Starts, IsReady, given_kept, LeadsOnByPull, IsReadable, HasRoomForOne}
 use Rattle.clk_script.specs.inside.Rows.{command_asked, asked_by, row_at, IsRowOf, IsToDo, CarriesOut, AnswersRows, IsClosedFrom, rows_text, closings_text, are_several, closings_of, given_first, given_of, ending_of}
 use Rattle.clk_script.proofs.RowLemmas.{rows-written}
 use Rattle.clk_script.proofs.CountLemmas.{room-after}
-use Rattle.clk_script.proofs.RecorderLemmas.{numbers-its}
+use Rattle.clk_script.proofs.ScriptRouterLemmas.{numbers-its}
 
 -- the commands of rows that are to be carried out are readable
 row-readable : (names : Names) (r : Row) → IsToDo names r → IsReadable (command_asked r)
@@ -50,7 +50,7 @@ rows-appended (e ∷ events) more [] others h k = absurd h
 rows-appended (e ∷ events) more (r ∷ rows) others h k = (h.0, rows-appended events more rows others h.1 k)
 
 -- No row was carried out, one was, and some were after others.
-pub AnswersRows-none : (router : Recorder) (asked done : List Row) → asked ≡ [] → done ≡ [] → AnswersRows router router asked done
+pub AnswersRows-none : (router : ScriptRouter) (asked done : List Row) → asked ≡ [] → done ≡ [] → AnswersRows router router asked done
 AnswersRows-none router asked done none nothing =
     λ setup events at.
     record {
@@ -62,7 +62,7 @@ AnswersRows-none router asked done none nothing =
       leads = subst (λ l. IsAt setup l router) (sym (append-nil events)) at;
     }
 
-pub AnswersRows-sent : (old new : Recorder) (asked done : Row) (place : ℕ) (p : Packet) (outcome : Offered) → command_asked asked ≡ Send p.sender p.length → done ≡ row_at place (offered p outcome) → new.given ≡ old.given
+pub AnswersRows-sent : (old new : ScriptRouter) (asked done : Row) (place : ℕ) (p : Packet) (outcome : Offered) → command_asked asked ≡ Send p.sender p.length → done ≡ row_at place (offered p outcome) → new.given ≡ old.given
     → new.router.keeps ≡ old.router.keeps → ((setup : Setup) (events : List Event) → IsAt setup events old → IsAt setup (events ++ offered p outcome ∷ []) new) → AnswersRows old new (asked ∷ []) (done ∷ [])
 AnswersRows-sent old new asked done place p outcome asks is given keeps leads =
     λ setup events at.
@@ -75,7 +75,7 @@ AnswersRows-sent old new asked done place p outcome asks is given keeps leads =
       leads = leads setup events at;
     }
 
-pub AnswersRows-pulled : (old new : Recorder) (asked done : Row) (device moment : ℕ) (got : Option Packet) → command_asked asked ≡ Pull device moment → done ≡ row.Pull (is_some got) device moment → new.given.items ≡ given_kept old got
+pub AnswersRows-pulled : (old new : ScriptRouter) (asked done : Row) (device moment : ℕ) (got : Option Packet) → command_asked asked ≡ Pull device moment → done ≡ row.Pull (is_some got) device moment → new.given.items ≡ given_kept old got
     → new.router.keeps ≡ old.router.keeps → ((setup : Setup) (events : List Event) → IsAt setup events old → LeadsOnByPull setup new device moment got events) → AnswersRows old new (asked ∷ []) (done ∷ [])
 AnswersRows-pulled old new asked done device moment got asks is given keeps leads =
     λ setup events at.
@@ -92,7 +92,7 @@ AnswersRows-pulled old new asked done device moment got asks is given keeps lead
       leads = led.leads;
     }
 
-pub AnswersRows-then : (a b c : Recorder) (asked done later rows : List Row) → AnswersRows a b asked done → AnswersRows b c later rows → AnswersRows a c (asked ++ later) (done ++ rows)
+pub AnswersRows-then : (a b c : ScriptRouter) (asked done later rows : List Row) → AnswersRows a b asked done → AnswersRows b c later rows → AnswersRows a c (asked ++ later) (done ++ rows)
 AnswersRows-then a b c asked done later rows first next =
     λ setup events at.
     let one = first setup events at in
@@ -110,11 +110,11 @@ AnswersRows-then a b c asked done later rows first next =
     }
 
 -- what a script may name over a router is what it may name over its setup
-pub names-its : (setup : Setup) (events : List Event) (router : Recorder) → IsAt setup events router → names_in router ≡ names_of setup
+pub names-its : (setup : Setup) (events : List Event) (router : ScriptRouter) → IsAt setup events router → names_in router ≡ names_of setup
 names-its setup events router at = ap names_of at.setup_is
 
 -- A router over which some rows were carried out can carry out more, and what a script may name over it is as before.
-pub IsReady-answered : (setup : Setup) (old new : Recorder) (asked done : List Row) → Starts setup old → AllByRecursion (IsToDo (names_in old)) asked → length asked ≤ most_lines → AnswersRows old new asked done
+pub IsReady-answered : (setup : Setup) (old new : ScriptRouter) (asked done : List Row) → Starts setup old → AllByRecursion (IsToDo (names_in old)) asked → length asked ≤ most_lines → AnswersRows old new asked done
     → IsReady new × (names_in new ≡ names_in old)
 IsReady-answered setup old new asked done starts to_do few answers =
     let carried = answers setup [] starts.leads in
@@ -143,13 +143,13 @@ all-at P (x ∷ xs) zero d within h = h.0
 all-at P (x ∷ xs) (suc i) d within h = all-at P xs i d (omega arith) h.1
 
 -- The rows before a place are carried out, and the others are as they were.
-pub record IsCarriedTo (old new : Recorder) (asked rows : List Row) (i : ℕ) : Type 0 where
+pub record IsCarriedTo (old new : ScriptRouter) (asked rows : List Row) (i : ℕ) : Type 0 where
   pub within : i ≤ length rows
   pub count : length rows ≡ length asked
   pub left : drop i rows ≡ drop i asked
   pub answers : AnswersRows old new (take i asked) (take i rows)
 
-pub IsCarriedTo-none : (router : Recorder) (rows : List Row) → IsCarriedTo router router rows rows 0
+pub IsCarriedTo-none : (router : ScriptRouter) (rows : List Row) → IsCarriedTo router router rows rows 0
 IsCarriedTo-none router rows = record { within = omega arith; count = refl; left = refl; answers = AnswersRows-none router [] [] refl refl }
 
 -- the row at the place is the one that was asked for
@@ -159,7 +159,7 @@ still-asked asked rows i row within count left is =
     let same : get_or rows i row ≡ get_or asked i row = cc first in
     sym (is ∙ same)
 
-pub IsCarriedTo-ready : (setup : Setup) (old new : Recorder) (asked rows : List Row) (i : ℕ) (row : Row) → Starts setup old → AllByRecursion (IsToDo (names_in old)) asked → length asked ≤ most_lines
+pub IsCarriedTo-ready : (setup : Setup) (old new : ScriptRouter) (asked rows : List Row) (i : ℕ) (row : Row) → Starts setup old → AllByRecursion (IsToDo (names_in old)) asked → length asked ≤ most_lines
     → IsCarriedTo old new asked rows i → i < length rows → row ≡ get_or rows i row → IsReady new × IsToDo (names_in new) row
 IsCarriedTo-ready setup old new asked rows i row starts to_do few carried within is =
     let front = all-front (IsToDo (names_in old)) (take i asked) (drop i asked) (subst (AllByRecursion (IsToDo (names_in old))) (sym (take-append-drop i asked)) to_do) in
@@ -169,7 +169,7 @@ IsCarriedTo-ready setup old new asked rows i row starts to_do few carried within
     let here = subst (IsToDo (names_in old)) (still-asked asked rows i row within carried.count carried.left is) (all-at (IsToDo (names_in old)) asked i row inside to_do) in
     (ready.0, subst (λ names. IsToDo names row) (sym ready.1) here)
 
-pub IsCarriedTo-more : (old mid new : Recorder) (asked rows : List Row) (i : ℕ) (row done : Row) → IsCarriedTo old mid asked rows i → i < length rows → row ≡ get_or rows i row → AnswersRows mid new (row ∷ []) (done ∷ [])
+pub IsCarriedTo-more : (old mid new : ScriptRouter) (asked rows : List Row) (i : ℕ) (row done : Row) → IsCarriedTo old mid asked rows i → i < length rows → row ≡ get_or rows i row → AnswersRows mid new (row ∷ []) (done ∷ [])
     → IsCarriedTo old new asked (set rows i done) (i + 1)
 IsCarriedTo-more old mid new asked rows i row done carried within is answers =
     record {
@@ -185,13 +185,13 @@ IsCarriedTo-more old mid new asked rows i row done carried within is answers =
     inside : i < length asked
     inside = let count = carried.count in omega (arith, within, count)
 
-pub all-answered : (old new : Recorder) (asked rows : List Row) (i : ℕ) → IsCarriedTo old new asked rows i → length rows ≤ i → AnswersRows old new asked rows
+pub all-answered : (old new : ScriptRouter) (asked rows : List Row) (i : ℕ) → IsCarriedTo old new asked rows i → length rows ≤ i → AnswersRows old new asked rows
 all-answered old new asked rows i carried all =
     let count = carried.count in
     subst (λ l. AnswersRows old new l rows) (take_all i asked (omega (arith, count, all))) (subst (λ l. AnswersRows old new (take i asked) l) (take_all i rows all) carried.answers)
 
 -- A router over which all commands of a script were carried out, from what was kept of it, and what was kept when it ended.
-module _ (setup : Setup) (old mid : Recorder) (asked done : List Row) (starts : Starts setup old) (answers : AnswersRows old mid asked done) where
+module _ (setup : Setup) (old mid : ScriptRouter) (asked done : List Row) (starts : Starts setup old) (answers : AnswersRows old mid asked done) where
   carried : CarriesOut setup old mid asked done []
   carried = answers setup [] starts.leads
 
@@ -200,7 +200,7 @@ module _ (setup : Setup) (old mid : Recorder) (asked done : List Row) (starts : 
   kept several = carried.given several ∙ ap (λ l. l ++ filter_map emitted_in carried.more) starts.given
 
   -- what a router that went on with these events did
-  module _ (new : Recorder) (past : Past) (later : List Event) (at : IsAt setup (carried.more ++ later) new) (given : new.given ≡ mid.given) (is : IsPastOf new past) where
+  module _ (new : ScriptRouter) (past : Past) (later : List Event) (at : IsAt setup (carried.more ++ later) new) (given : new.given ≡ mid.given) (is : IsPastOf new past) where
     its_logs : logs_of new.router.setup new.router.events ≡ logs_of setup (carried.more ++ later)
     its_logs = λ i. logs_of (at.setup_is i) (at.events_are i)
 
@@ -232,20 +232,20 @@ module _ (setup : Setup) (old mid : Recorder) (asked done : List Row) (starts : 
         ∙ counts-tell (flat_map emitted (logs_of setup (carried.more ++ later))) (map (tally_after (carried.more ++ later)) (sender_numbers setup))
 
   -- What it comes to, without a closing and with one.
-  pub Writes-answered : (new : Recorder) (past : Past) (drain : Option ℕ) (closings : Option (List (List Departure))) → IsClosedFrom mid new drain closings → IsPastOf new past
+  pub Writes-answered : (new : ScriptRouter) (past : Past) (drain : Option ℕ) (closings : Option (List (List Departure))) → IsClosedFrom mid new drain closings → IsPastOf new past
       → (logs : List (List Visit)) × AreLogs old.router.keeps.visits past logs × Writes setup (asked_by asked) drain (rows_text (are_several past) done (given_of past) past.put_out.items ++ ending_of past closings) logs
   Writes-answered new past None None closed is =
-      let at : IsAt setup (carried.more ++ []) new = subst (λ l. IsAt setup l new) (sym (append-nil carried.more)) (subst (λ (r : Recorder). IsAt setup carried.more r) (sym closed) carried.leads) in
-      let keeps = ap (λ (r : Recorder). r.router.keeps) closed ∙ carried.keeps in (
+      let at : IsAt setup (carried.more ++ []) new = subst (λ l. IsAt setup l new) (sym (append-nil carried.more)) (subst (λ (r : ScriptRouter). IsAt setup carried.more r) (sym closed) carried.leads) in
+      let keeps = ap (λ (r : ScriptRouter). r.router.keeps) closed ∙ carried.keeps in (
         logs_of setup (carried.more ++ []),
-        (λ kept. logs new past [] at (ap (λ (r : Recorder). r.given) closed) is (ap (λ k. k.visits) keeps ∙ kept)),
+        (λ kept. logs new past [] at (ap (λ (r : ScriptRouter). r.given) closed) is (ap (λ k. k.visits) keeps ∙ kept)),
         record {
           events = carried.more;
           theirs = sym carried.theirs;
           closed = [];
           closes = refl;
           can_happen = at.can_happen;
-          lines = ap (λ l. l ++ []) (lines new past [] at (ap (λ (r : Recorder). r.given) closed) is);
+          lines = ap (λ l. l ++ []) (lines new past [] at (ap (λ (r : ScriptRouter). r.given) closed) is);
           logged = refl;
         },
       )
@@ -271,32 +271,32 @@ module _ (setup : Setup) (old mid : Recorder) (asked done : List Row) (starts : 
       )
 
 -- Whatever was carried out and closed, a router has its devices, and keeps what it did.
-module _ (setup : Setup) (old mid : Recorder) (asked done : List Row) (starts : Starts setup old) (answers : AnswersRows old mid asked done) where
+module _ (setup : Setup) (old mid : ScriptRouter) (asked done : List Row) (starts : Starts setup old) (answers : AnswersRows old mid asked done) where
   carried_to : CarriesOut setup old mid asked done []
   carried_to = answers setup [] starts.leads
 
   same_setup : mid.router.setup ≡ old.router.setup
   same_setup = carried_to.leads.setup_is ∙ sym starts.leads.setup_is
 
-  setup-closed : (new : Recorder) (drain : Option ℕ) (closings : Option (List (List Departure))) → IsClosedFrom mid new drain closings → new.router.setup ≡ setup
-  setup-closed new None None closed = ap (λ (r : Recorder). r.router.setup) closed ∙ carried_to.leads.setup_is
+  setup-closed : (new : ScriptRouter) (drain : Option ℕ) (closings : Option (List (List Departure))) → IsClosedFrom mid new drain closings → new.router.setup ≡ setup
+  setup-closed new None None closed = ap (λ (r : ScriptRouter). r.router.setup) closed ∙ carried_to.leads.setup_is
   setup-closed new None (Some closings) closed = absurd closed
   setup-closed new (Some moment) None closed = absurd closed
   setup-closed new (Some moment) (Some closings) closed = (closed.closes setup carried_to.more carried_to.leads).closing.leads.setup_is
 
-  pub devices-kept : (new : Recorder) (past : Past) (drain : Option ℕ) (closings : Option (List (List Departure))) → IsClosedFrom mid new drain closings → IsPastOf new past → length past.emitted.items ≡ length old.router.setup.trees
+  pub devices-kept : (new : ScriptRouter) (past : Past) (drain : Option ℕ) (closings : Option (List (List Departure))) → IsClosedFrom mid new drain closings → IsPastOf new past → length past.emitted.items ≡ length old.router.setup.trees
   devices-kept new past drain closings closed is =
       sym (length-map past.emitted.items (λ l. l.items)) ∙ ap length is.emitted ∙ length-map (logs_of new.router.setup new.router.events) emitted
       ∙ length-map-range_with_len (λ d. log_of (events_at new.router.setup d new.router.events)) 0 (length new.router.setup.trees)
       ∙ ap (λ (s : Setup). length s.trees) (setup-closed new drain closings closed ∙ sym starts.leads.setup_is)
 
-  pub closings-kept : (new : Recorder) (drain : Option ℕ) (closings : Option (Vec (Vec Departure Global) Global)) → IsClosedFrom mid new drain (closings_of closings) → IfSome closings (λ cs. length cs.items ≡ length old.router.setup.trees)
+  pub closings-kept : (new : ScriptRouter) (drain : Option ℕ) (closings : Option (Vec (Vec Departure Global) Global)) → IsClosedFrom mid new drain (closings_of closings) → IfSome closings (λ cs. length cs.items ≡ length old.router.setup.trees)
   closings-kept new drain None closed = tt
   closings-kept new None (Some closings) closed = absurd closed
   closings-kept new (Some moment) (Some closings) closed = sym (length-map closings.items (λ l. l.items)) ∙ closed.closings_count ∙ ap (λ (s : Setup). length s.trees) same_setup
 
-  pub keeps-packets : (new : Recorder) (drain : Option ℕ) (closings : Option (List (List Departure))) → IsClosedFrom mid new drain closings → new.router.keeps.packets ≡ true
-  keeps-packets new None None closed = ap (λ (r : Recorder). r.router.keeps.packets) closed ∙ ap (λ k. k.packets) carried_to.keeps ∙ starts.keeps
+  pub keeps-packets : (new : ScriptRouter) (drain : Option ℕ) (closings : Option (List (List Departure))) → IsClosedFrom mid new drain closings → new.router.keeps.packets ≡ true
+  keeps-packets new None None closed = ap (λ (r : ScriptRouter). r.router.keeps.packets) closed ∙ ap (λ k. k.packets) carried_to.keeps ∙ starts.keeps
   keeps-packets new None (Some closings) closed = absurd closed
   keeps-packets new (Some moment) None closed = absurd closed
   keeps-packets new (Some moment) (Some closings) closed = ap (λ k. k.packets) (closed.keeps ∙ carried_to.keeps) ∙ starts.keeps

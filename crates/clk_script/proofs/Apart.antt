@@ -10,7 +10,7 @@ use Rattle.clk_tree.specs.declared.plan.parts.SenderSpec.{SenderSpec}
 use Rattle.clk_tree.specs.PlanParts.{number_of}
 use Rattle.clk_router.specs.Events.{Room, Setup, Event, offered, pulled, is_of_device, happens_at, events_at, IsOfDevice}
 use Rattle.clk_script.specs.Meaning.{names_of, command_of}
-use Rattle.clk_script.specs.inside.Recorder.{IsSound}
+use Rattle.clk_script.specs.inside.ScriptRouter.{IsSound}
 use Rattle.clk_router.specs.Setups.{IsWired, IsApart}
 use Rattle.clk_script.specs.OneMeaning.{DevicesAreApart}
 use Rattle.clk_script.proofs.OneMeaning.{same-events}

@@ -14,7 +14,7 @@ use Rattle.clk_report.specs.Counts.{counts_of}
 use Rattle.clk_report.proofs.Callers.Counts.{room-of}
 use Rattle.clk_router.specs.Events.{Event, accepted_in, refused_in, evicted_in, tally_after}
 use Rattle.clk_script.specs.Script.{most_lines}
-use Rattle.clk_script.specs.inside.Recorder.{taken_in, turned_away, put_out, numbers_in, HasRoomForOne, IsPlaceOf}
+use Rattle.clk_script.specs.inside.ScriptRouter.{taken_in, turned_away, put_out, numbers_in, HasRoomForOne, IsPlaceOf}
 use Rattle.clk_script.proofs.TallyLemmas.{tally_sender, taken_in-at, turned_away-at, put_out-at, put_out-none}
 
 -- whose the counts of tallies are

@@ -5,14 +5,14 @@ use Rattle.std.proofs.lemmas.List.{length-append}
 use Rattle.std.proofs.lemmas.List.Concat.{flat_map-append}
 use Rattle.std.proofs.lemmas.Bool.Decides.{nat_tests}
 use Rattle.clk_sched.specs.declared.session.departures.Departure.{Departure}
-use Rattle.clk_script.specs.declared.recorder.Recorder.{Recorder}
+use Rattle.clk_script.specs.declared.script_router.ScriptRouter.{ScriptRouter}
 use Rattle.clk_router.specs.Events.{Setup, Event}
 use Rattle.clk_script.specs.Meaning.{has_several, closing_text}
-use Rattle.clk_script.specs.inside.Recorder.{IsAt, IsReady, departure_text, LeadsOnByDrain, StaysElsewhere}
+use Rattle.clk_script.specs.inside.ScriptRouter.{IsAt, IsReady, departure_text, LeadsOnByDrain, StaysElsewhere}
 use Rattle.clk_router.specs.Course.{events_of, CanClose}
 use Rattle.clk_script.specs.Script.{most_moment}
 use Rattle.clk_script.specs.inside.Rows.{closings_text, ClosesFirst, IsClosedAt}
-use Rattle.clk_script.proofs.RecorderLemmas.{can-close, CanClose-still}
+use Rattle.clk_script.proofs.ScriptRouterLemmas.{can-close, CanClose-still}
 
 -- the closings of some devices, and of one more
 closings-more : (several : Bool) (device : ℕ) (closings : List (List Departure)) (departures : List Departure)
@@ -27,7 +27,7 @@ closings-more several device (first ∷ closings) departures =
     ∙ ap (λ n. (flat_map (departure_text several device) first ++ closings_text several (device + 1) closings) ++ flat_map (departure_text several n) departures) later
 
 -- The devices before a number were closed, and at the others nothing has happened since.
-pub record IsClosedTo (old new : Recorder) (moment : ℕ) (closings : List (List Departure)) (d : ℕ) : Type 0 where
+pub record IsClosedTo (old new : ScriptRouter) (moment : ℕ) (closings : List (List Departure)) (d : ℕ) : Type 0 where
   pub within : d ≤ length old.router.setup.trees
   pub setup : new.router.setup ≡ old.router.setup
   pub later : (k : ℕ) → d ≤ k → events_of new.router k ≡ events_of old.router k
@@ -36,7 +36,7 @@ pub record IsClosedTo (old new : Recorder) (moment : ℕ) (closings : List (List
   pub keeps : new.router.keeps ≡ old.router.keeps
   pub closes : (setup : Setup) (events : List Event) → IsAt setup events old → ClosesFirst setup new moment d closings events
 
-pub IsClosedTo-none : (r : Recorder) (moment : ℕ) (closings : List (List Departure)) → closings ≡ [] → IsClosedTo r r moment closings 0
+pub IsClosedTo-none : (r : ScriptRouter) (moment : ℕ) (closings : List (List Departure)) → closings ≡ [] → IsClosedTo r r moment closings 0
 IsClosedTo-none r moment closings none =
     record {
       within = omega arith;
@@ -52,13 +52,13 @@ IsClosedTo-none r moment closings none =
     }
 
 -- the next device can be drained
-pub IsClosedTo-can : (old new : Recorder) (moment : ℕ) (closings : List (List Departure)) (d : ℕ) → IsClosedTo old new moment closings d → IsReady old → moment ≤ most_moment → d < length new.router.setup.trees → CanClose new.router d moment
+pub IsClosedTo-can : (old new : ScriptRouter) (moment : ℕ) (closings : List (List Departure)) (d : ℕ) → IsClosedTo old new moment closings d → IsReady old → moment ≤ most_moment → d < length new.router.setup.trees → CanClose new.router d moment
 IsClosedTo-can old new moment closings d closed ready low within =
     CanClose-still old.router new.router d moment closed.setup (closed.later d (omega arith))
     (can-close old ready d moment (subst (λ (s : Setup). d < length s.trees) closed.setup within) low)
 
 -- One device more was drained.
-pub IsClosedTo-more : (old mid new : Recorder) (moment : ℕ) (closings : List (List Departure)) (d : ℕ) (departures : List Departure) → IsClosedTo old mid moment closings d → d < length mid.router.setup.trees
+pub IsClosedTo-more : (old mid new : ScriptRouter) (moment : ℕ) (closings : List (List Departure)) (d : ℕ) (departures : List Departure) → IsClosedTo old mid moment closings d → d < length mid.router.setup.trees
     → StaysElsewhere d mid.router new.router → new.router.setup ≡ mid.router.setup → new.given ≡ mid.given → new.router.keeps ≡ mid.router.keeps
     → ((setup : Setup) (events : List Event) → IsAt setup events mid → LeadsOnByDrain setup new d moment events departures) → IsClosedTo old new moment (closings ++ departures ∷ []) (d + 1)
 IsClosedTo-more old mid new moment closings d departures closed within elsewhere setup_is given keeps leads =
@@ -94,7 +94,7 @@ IsClosedTo-more old mid new moment closings d departures closed within elsewhere
         }
 
 -- All were.
-pub all-closed : (old new : Recorder) (moment : ℕ) (closings : List (List Departure)) (d : ℕ) → IsClosedTo old new moment closings d → length new.router.setup.trees ≤ d → IsClosedAt old new moment closings
+pub all-closed : (old new : ScriptRouter) (moment : ℕ) (closings : List (List Departure)) (d : ℕ) → IsClosedTo old new moment closings d → length new.router.setup.trees ≤ d → IsClosedAt old new moment closings
 all-closed old new moment closings d closed all =
     let within = closed.within in
     let count = ap (λ (s : Setup). length s.trees) closed.setup in

@@ -6,7 +6,7 @@ mod LineLemmas
 mod PlainLines
 mod Record
 mod Alike
-mod RecorderLemmas
+mod ScriptRouterLemmas
 mod DrainLemmas
 mod CountLemmas
 mod TallyLemmas

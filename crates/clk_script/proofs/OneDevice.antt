@@ -16,7 +16,7 @@ use Rattle.clk_report.specs.Report.{report_text}
 use Rattle.clk_script.specs.Script.{closing_moment}
 use Rattle.clk_router.specs.Events.{Room, Setup, sender_numbers, is_of_device, Event, offered, pulled, happens_at, events_at, log_of, logs_of, tally_after, answers_in, at_queue, history, IsOfDevice, IsOfSender, RunsTree, CanHappen, pulls_from, Closes}
 use Rattle.clk_script.specs.Meaning.{names_of, has_several, command_of, event_text, given_text, closing_text, CloseFirst, IsClosed, ending_text, IsMeaning}
-use Rattle.clk_script.specs.inside.Recorder.{IsSound}
+use Rattle.clk_script.specs.inside.ScriptRouter.{IsSound}
 use Rattle.clk_script.specs.OneDevice.{HasOneDevice, its_history, CanHappenAlone, event_line, given_line, closing_line, IsClosedAlone, ending_alone, IsMeaningAlone}
 use Rattle.clk_router.proofs.Callers.Events.{all-join}
 use Rattle.clk_script.proofs.ScriptLemmas.{each-command-sound}

@@ -24,7 +24,7 @@ use Rattle.clk_script.specs.Meaning.{names_of, command_of, course_text, CloseFir
 use Rattle.clk_script.specs.declared.script.Command.{Command}
 use Rattle.clk_script.specs.Script.{commands_of, closing_moment}
 use Rattle.clk_script.specs.Examples.{two_queues}
-use Rattle.clk_script.specs.inside.Recorder.{IsSound}
+use Rattle.clk_script.specs.inside.ScriptRouter.{IsSound}
 use Rattle.clk_router.specs.Setups.{IsWired}
 use Rattle.clk_router.proofs.Callers.Events.{pulled-events}
 use Rattle.clk_script.specs.OneMeaning.{HasAtMostOneLog, HasAtMostOneMeaning}

@@ -16,7 +16,7 @@ use Rattle.clk_script.specs.declared.script.Command.{Command}
 use Rattle.clk_script.specs.declared.rows.Row.{Row}
 use Rattle.clk_script.specs.declared.reading.Reading.{Reading}
 use Rattle.clk_script.specs.Script.{Names, line_of, lines_of, command_in, drain_in, is_drain, fault_at, first_fault, most_lines, most_moment}
-use Rattle.clk_script.specs.inside.Recorder.{IsReadableLine}
+use Rattle.clk_script.specs.inside.ScriptRouter.{IsReadableLine}
 use Rattle.clk_script.specs.inside.Rows.{command_asked, asked_by, asked_in, rows_of, IsToDo}
 use Rattle.clk_script.specs.inside.Reading.{AreRead, IsWrong, IsWrongText, IsReading, ReadsOn, EndsLine, AreHeld, HasCome, IsReadToEnd}
 

@@ -24,9 +24,9 @@ use Rattle.clk_packet.specs.Bytes.{read_failures, write_failures, OfBytes}
 use Rattle.clk_router.specs.Course.{Course, IsOpened}
 use Rattle.clk_router.specs.Events.{Setup, plan_setup}
 use Rattle.clk_script.specs.Meaning.{names_of, names_over, Writes, MeansWith, MeansOver, MeansOverWith, Explains}
-use Rattle.clk_script.specs.declared.recorder.Recorder.{Recorder}
+use Rattle.clk_script.specs.declared.script_router.ScriptRouter.{ScriptRouter}
 use Rattle.clk_script.specs.inside.Reading.{IsTextOf, IsNotRead}
-use Rattle.clk_script.specs.inside.Recorder.{named_by, names_in, Starts}
+use Rattle.clk_script.specs.inside.ScriptRouter.{named_by, names_in, Starts}
 use Rattle.clk_script.proofs.AnswerLemmas.{names-its}
 use Rattle.clk_packet.proofs.Callers.Written.{of-weaker}
 
@@ -52,7 +52,7 @@ whole names all e = by_test (nat_lt most_script_bytes (length all)) refl
     by_test false f = take_all 33554433 all (grind (arith, nat_tests))
 
 -- the meaning over a setup of a script whose first bytes were read
-pub meaning-known : (setup : Setup) (router : Recorder) → Starts setup router → (known : Option (List ℕ)) (bytes text : List ℕ) (logs : List (List Visit)) → IsTextOf known bytes
+pub meaning-known : (setup : Setup) (router : ScriptRouter) → Starts setup router → (known : Option (List ℕ)) (bytes text : List ℕ) (logs : List (List Visit)) → IsTextOf known bytes
     → script_fault (names_in router) bytes ≡ None → Writes setup (commands_of bytes) (closing_moment bytes) text logs → OfBytes known (λ script. MeansWith setup script text logs)
 meaning-known setup router starts None bytes text logs is e w =
     let here : script_fault (names_of setup) bytes ≡ None = subst (λ names. script_fault names bytes ≡ None) (names-its setup [] router starts.leads) e in
@@ -172,10 +172,10 @@ same-failures T U Read n = refl
 same-failures T U fault n = refl
 
 -- the devices of a router are as many as its trees
-pub few-devices : (setup : Setup) (router : Recorder) (n : ℕ) → Starts setup router → n ≡ length router.router.setup.trees → n ≤ 65535
+pub few-devices : (setup : Setup) (router : ScriptRouter) (n : ℕ) → Starts setup router → n ≡ length router.router.setup.trees → n ≤ 65535
 few-devices setup router n starts e = let count = ap (λ (s : Setup). length s.trees) starts.leads.setup_is in let few = starts.few in omega (arith, count, few, e)
 
-pub few-closings : {X : Type 0} (setup : Setup) (router : Recorder) (closings : Option (Vec X Global)) → Starts setup router → IfSome closings (λ cs. length cs.items ≡ length router.router.setup.trees)
+pub few-closings : {X : Type 0} (setup : Setup) (router : ScriptRouter) (closings : Option (Vec X Global)) → Starts setup router → IfSome closings (λ cs. length cs.items ≡ length router.router.setup.trees)
     → IfSome closings (λ cs. length cs.items ≤ 65535)
 few-closings setup router None starts e = tt
 few-closings setup router (Some closings) starts e = few-devices setup router (length closings.items) starts e
@@ -186,5 +186,5 @@ pub names-told : (plan : List Planned) (specs : List SenderSpec) (numbers lent :
 names-told plan specs numbers lent devices count senders made same as_many is = λ i. record { senders = (same ∙ made ∙ ap (map number_of) senders) i; devices = (as_many ∙ is) i }
 
 -- what a script may name over a plan is what it may name over the router that was made of it
-pub names-opened : (plan : List Planned) (keeps : Keeps) (r : Recorder) → IsOpened plan keeps r.router → names_over plan ≡ names_in r
+pub names-opened : (plan : List Planned) (keeps : Keeps) (r : ScriptRouter) → IsOpened plan keeps r.router → names_over plan ≡ names_in r
 names-opened plan keeps r opened = (λ i. record { senders = map number_of (senders_of plan); devices = sym opened.are.count i }) ∙ sym (ap (λ (c : Course). names_of c.setup) opened.is)

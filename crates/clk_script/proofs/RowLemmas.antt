@@ -18,7 +18,7 @@ use Rattle.clk_sched.specs.Tree.{Tree}
 use Rattle.clk_router.specs.Events.{Setup, Event, offered, pulled, happens_at, events_at, evicted_in, log_of, IsOfDevice, RunsTree, CanHappen, logs_of, emitted_in}
 use Rattle.clk_router.proofs.Callers.Emitted.{its-given}
 use Rattle.clk_script.specs.Meaning.{has_several, offer_text, event_text, pull_text}
-use Rattle.clk_script.specs.inside.Recorder.{departure_text}
+use Rattle.clk_script.specs.inside.ScriptRouter.{departure_text}
 use Rattle.clk_report.specs.Devices.{lists_of}
 use Rattle.clk_script.specs.inside.Rows.{closings_text, row_at, IsRowOf, row_text, rows_text, given_first, given_after, fronts_after}
 

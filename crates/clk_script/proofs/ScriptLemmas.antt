@@ -13,7 +13,7 @@ use Rattle.clk_script.specs.declared.script.Line.{Line}
 use Rattle.clk_script.specs.declared.script.Line.TheVariants as line
 use Rattle.clk_packet.specs.Numbers.{has_bytes, number_in}
 use Rattle.clk_script.specs.Script.{Names, most_script_bytes, send_of, pull_of, drain_of, sender_and_length, moment_and_device, only_moment, line_of_fields, line_of, fields, line_fault, fault_at, is_drain, first_fault, lines_of, script_fault, command_in, commands_of, drain_in, most_lines, most_moment, most_device}
-use Rattle.clk_script.specs.inside.Recorder.{IsReadableLine, IsSound}
+use Rattle.clk_script.specs.inside.ScriptRouter.{IsReadableLine, IsSound}
 
 -- a test that answers with its number
 tested : (v n : ℕ) (a b : Bool) → cond (a && nat_le 1 v && b) (Some v) None ≡ Some n → 1 ≤ n

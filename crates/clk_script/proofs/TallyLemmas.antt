@@ -11,7 +11,7 @@ use Rattle.clk_packet.specs.declared.tally.Tally.{Tally}
 use Rattle.clk_sched.specs.declared.visit.Visit.{Visit}
 use Rattle.clk_packet.specs.Lists.{of_sender, AreRising}
 use Rattle.clk_router.specs.Events.{Event, offered, pulled, accepted_in, refused_in, evicted_in, tally_after, pulls_from}
-use Rattle.clk_script.specs.inside.Recorder.{taken_in, turned_away, put_out, noted}
+use Rattle.clk_script.specs.inside.ScriptRouter.{taken_in, turned_away, put_out, noted}
 use Rattle.clk_router.proofs.Callers.Keyed.{ChangesOnly, others-stay, changed-at}
 use Rattle.clk_router.proofs.Callers.Events.{pulls-add_none}
 

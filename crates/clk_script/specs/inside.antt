@@ -2,5 +2,5 @@
 pub mod Fields
 pub mod Lines
 pub mod Reading
-pub mod Recorder
+pub mod ScriptRouter
 pub mod Rows

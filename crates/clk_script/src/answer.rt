@@ -7,13 +7,13 @@ ghost use Rattle.clk_report.specs.Devices.{lists_of};
 ghost use Rattle.clk_script.specs.Script.{most_lines, most_moment};
 ghost use Rattle.clk_router.specs.Events.{Setup};
 ghost use Rattle.clk_script.specs.Meaning.{Writes};
-ghost use Rattle.clk_script.specs.inside.Recorder.{names_in, IsReady, Starts, AreLogs};
+ghost use Rattle.clk_script.specs.inside.ScriptRouter.{names_in, IsReady, Starts, AreLogs};
 ghost use Rattle.clk_script.specs.inside.Rows.{asked_by, answer_text, IsToDo, CanBeRun, AnswersRows, IsClosedFrom, IsClosedAt, closings_of};
 
 use crate::past::Past;
 use crate::reading::Script;
-use crate::recorder::Recorder;
 use crate::rows::{Fate, Row};
+use crate::script_router::ScriptRouter;
 use clk_packet::Fault;
 use clk_sched::Departure;
 use std::alloc::Global;
@@ -29,57 +29,61 @@ pub struct Answer {
     pub past: Past,
 }
 
-/// Answers a script, over a recorder of a router to which nothing has happened.
+/// Answers a script, over a router to which nothing has happened.
 ///
 /// # Errors
 ///
 /// Fault 1 if an allocation fails.
-pub fn answer_script(alloc: Global, recorder: Recorder, script: Script) -> Result<Answer, Fault>
-    requires fresh { (setup : Setup) × Starts setup recorder }
-    requires sound { CanBeRun (names_in recorder) script }
-    ensures means { IfOk result (λ answer. (setup : Setup) → Starts setup recorder
-        → (logs : _) × AreLogs recorder.router.keeps.visits answer.past logs × Writes setup (asked_by script.rows.items) script.closing (answer_text answer) logs) }
-    ensures devices { IfOk result (λ answer. length answer.past.emitted.items ≡ length recorder.router.setup.trees) }
-    ensures closings { IfOk result (λ answer. IfSome answer.closing (λ closings. length closings.items ≡ length recorder.router.setup.trees)) }
+pub fn answer_script(
+    alloc: Global,
+    script_router: ScriptRouter,
+    script: Script,
+) -> Result<Answer, Fault>
+    requires fresh { (setup : Setup) × Starts setup script_router }
+    requires sound { CanBeRun (names_in script_router) script }
+    ensures means { IfOk result (λ answer. (setup : Setup) → Starts setup script_router
+        → (logs : _) × AreLogs script_router.router.keeps.visits answer.past logs × Writes setup (asked_by script.rows.items) script.closing (answer_text answer) logs) }
+    ensures devices { IfOk result (λ answer. length answer.past.emitted.items ≡ length script_router.router.setup.trees) }
+    ensures closings { IfOk result (λ answer. IfSome answer.closing (λ closings. length closings.items ≡ length script_router.router.setup.trees)) }
     ensures fault { IsOkUnless result Fault.Memory }
 {
-    let mut recorder = recorder;
+    let mut script_router = script_router;
     let mut rows = script.rows;
-    carry_out(&mut recorder, &mut rows)?;
-    let closing = close(alloc, &mut recorder, script.closing)?;
+    carry_out(&mut script_router, &mut rows)?;
+    let closing = close(alloc, &mut script_router, script.closing)?;
     Ok(Answer {
         rows,
         closing,
-        past: recorder.into_past(alloc)?,
+        past: script_router.into_past(alloc)?,
     })
 }
 
 /// Carries out the commands of these rows, and puts the result of each command into its row. Fault 1 if an allocation fails.
-fn carry_out(recorder: &mut Recorder, rows: &mut [Row]) -> Result<(), Fault>
-    requires fresh { (setup : Setup) × Starts setup recorder.old }
-    requires to_do { AllByRecursion (IsToDo (names_in recorder.old)) rows.old }
+fn carry_out(script_router: &mut ScriptRouter, rows: &mut [Row]) -> Result<(), Fault>
+    requires fresh { (setup : Setup) × Starts setup script_router.old }
+    requires to_do { AllByRecursion (IsToDo (names_in script_router.old)) rows.old }
     requires few { length rows.old ≤ most_lines }
-    ensures done { OnOk result (AnswersRows recorder.old recorder.new rows.old rows.new) }
+    ensures done { OnOk result (AnswersRows script_router.old script_router.new rows.old rows.new) }
     ensures fault { IsOkUnless result Fault.Memory }
 {
     let mut i = 0;
     while i < rows.len() {
-        rows[i] = carry_out_one(recorder, rows[i])?;
+        rows[i] = carry_out_one(script_router, rows[i])?;
         i += 1;
     }
     Ok(())
 }
 
 /// Carries out the command of a row, and returns the row with the command's result. Fault 1 if an allocation fails.
-fn carry_out_one(recorder: &mut Recorder, row: Row) -> Result<Row, Fault>
-    requires ready { IsReady recorder.old }
-    requires to_do { IsToDo (names_in recorder.old) row }
-    ensures done { IfOk result (λ done. AnswersRows recorder.old recorder.new (row ∷ []) (done ∷ [])) }
+fn carry_out_one(script_router: &mut ScriptRouter, row: Row) -> Result<Row, Fault>
+    requires ready { IsReady script_router.old }
+    requires to_do { IsToDo (names_in script_router.old) row }
+    ensures done { IfOk result (λ done. AnswersRows script_router.old script_router.new (row ∷ []) (done ∷ [])) }
     ensures fault { IsOkUnless result Fault.Memory }
 {
     match row {
         Row::Send { place, packet, .. } => {
-            let (packet, offered) = recorder.send(usize::from(place), packet.length)?;
+            let (packet, offered) = script_router.send(usize::from(place), packet.length)?;
             Ok(Row::Send {
                 fate: Fate::of(offered),
                 place,
@@ -87,7 +91,7 @@ fn carry_out_one(recorder: &mut Recorder, row: Row) -> Result<Row, Fault>
             })
         }
         Row::Pull { device, moment, .. } => {
-            let got = recorder.pull(device, moment.ticks())?;
+            let got = script_router.pull(device, moment.ticks())?;
             Ok(Row::Pull {
                 gave: got.is_some(),
                 device,
@@ -97,20 +101,20 @@ fn carry_out_one(recorder: &mut Recorder, row: Row) -> Result<Row, Fault>
     }
 }
 
-/// Drains the router of a recorder from this moment on, in ticks, if one is given. Returns the packets that each device emitted in the
-/// drain. Fault 1 if an allocation fails.
+/// Drains a router from this moment on, in ticks, if one is given. Returns the packets that each device emitted in the drain. Fault 1 if an
+/// allocation fails.
 fn close(
     alloc: Global,
-    recorder: &mut Recorder,
+    script_router: &mut ScriptRouter,
     moment: Option<u64>,
 ) -> Result<Option<Vec<Vec<Departure>>>, Fault>
-    requires ready { IsReady recorder.old }
+    requires ready { IsReady script_router.old }
     requires moment { IfSome moment (λ m. m ≤ most_moment) }
-    ensures closed { IfOk result (λ closings. IsClosedFrom recorder.old recorder.new moment (closings_of closings)) }
+    ensures closed { IfOk result (λ closings. IsClosedFrom script_router.old script_router.new moment (closings_of closings)) }
     ensures fault { IsOkUnless result Fault.Memory }
 {
     match moment {
-        Some(moment) => Ok(Some(drain_all(alloc, recorder, moment)?)),
+        Some(moment) => Ok(Some(drain_all(alloc, script_router, moment)?)),
         None => Ok(None),
     }
 }
@@ -119,18 +123,18 @@ fn close(
 /// allocation fails.
 fn drain_all(
     alloc: Global,
-    recorder: &mut Recorder,
+    script_router: &mut ScriptRouter,
     moment: u64,
 ) -> Result<Vec<Vec<Departure>>, Fault>
-    requires ready { IsReady recorder.old }
+    requires ready { IsReady script_router.old }
     requires moment { moment ≤ most_moment }
-    ensures closed { IfOk result (λ closings. IsClosedAt recorder.old recorder.new moment (lists_of closings.items)) }
+    ensures closed { IfOk result (λ closings. IsClosedAt script_router.old script_router.new moment (lists_of closings.items)) }
     ensures fault { IsOkUnless result Fault.Memory }
 {
     let mut closings = Vec::new(alloc);
     let mut device = 0;
-    while usize::from(device) < recorder.router.devices() {
-        closings.push(recorder.drain(alloc, device, moment)?)?;
+    while usize::from(device) < script_router.router.devices() {
+        closings.push(script_router.drain(alloc, device, moment)?)?;
         device += 1;
     }
     Ok(closings)

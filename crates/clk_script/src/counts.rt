@@ -4,7 +4,7 @@ ghost use Rattle.std.specs.Prelude.{◌≡◌, List, All, map, IfOk, IsOkUnless}
 ghost use Rattle.clk_packet.specs.Lists.{AreRising};
 ghost use Rattle.clk_packet.specs.declared.tally.Tally.{Tally};
 ghost use Rattle.clk_report.specs.Counts.{counts_of, HasRoom};
-ghost use Rattle.clk_script.specs.inside.Recorder.{tally_made, numbers_in, noted, put_out, HasRoomForOne, IsPlaceOf};
+ghost use Rattle.clk_script.specs.inside.ScriptRouter.{tally_made, numbers_in, noted, put_out, HasRoomForOne, IsPlaceOf};
 
 use clk_packet::{Fault, Offered, Packet};
 use clk_report::Counts;

@@ -1,10 +1,10 @@
-//! What a recorder saw a router do.
+//! What the router of a script did.
 
 use clk_packet::Packet;
 use clk_report::Counts;
 use clk_sched::Visit;
 
-/// All that a recorder saw its router do.
+/// All that the router of a script did.
 #[derive(Drop)]
 pub struct Past {
     /// Every visit of each device, in order, if visits are kept.

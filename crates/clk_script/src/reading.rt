@@ -5,7 +5,7 @@ ghost use Rattle.std.specs.List.{AllByRecursion};
 ghost use Rattle.clk_packet.specs.Bytes.{Takes, read_failures};
 ghost use Rattle.clk_packet.specs.Lists.{AreRising};
 ghost use Rattle.clk_script.specs.Script.{lines_of, command_fault, fault_at, most_lines, most_script_bytes};
-ghost use Rattle.clk_script.specs.inside.Recorder.{named_by, IsReadable, IsReadableLine};
+ghost use Rattle.clk_script.specs.inside.ScriptRouter.{named_by, IsReadable, IsReadableLine};
 ghost use Rattle.clk_script.specs.inside.Rows.{command_asked, asked_by, asked_in, rows_of, IsToDo};
 ghost use Rattle.clk_script.specs.inside.Reading.{AreRead, ReadsOn, HasCome, EndsAs, IsScriptOf, IsNotRead};
 ghost use Rattle.clk_script.specs.declared.script.Line.{Line};

@@ -3,7 +3,7 @@
 ghost use Rattle.std.specs.Prelude.{◌≡◌, ◌+◌, IfOk, IfErr};
 ghost use Rattle.clk_packet.specs.Bytes.{Takes, read_failures, write_failures, OfBytes};
 ghost use Rattle.clk_report.specs.Devices.{lists_of};
-ghost use Rattle.clk_script.specs.inside.Recorder.{AreLogs};
+ghost use Rattle.clk_script.specs.inside.ScriptRouter.{AreLogs};
 ghost use Rattle.clk_script.specs.Script.{most_script_bytes};
 ghost use Rattle.clk_packet.specs.Written.{WroteWhat};
 ghost use Rattle.clk_script.specs.Meaning.{MeansOver, MeansOverWith, ExplainsPlan};
@@ -11,7 +11,7 @@ ghost use Rattle.clk_script.specs.Meaning.{MeansOver, MeansOverWith, ExplainsPla
 use crate::answer::answer_script;
 use crate::past::Past;
 use crate::reading::read_script;
-use crate::recorder::Recorder;
+use crate::script_router::ScriptRouter;
 use crate::writing::write_answer;
 use clk_packet::{Fault, Sink, Source};
 use clk_router::numbers_of;
@@ -87,8 +87,8 @@ fn run_plan<R: Source, W: Sink>(
     let senders = numbers_of(alloc, plan.senders())?;
     let devices = usize::from(plan.devices());
     let script = read_script(alloc, reader, &senders, devices)?;
-    let recorder = Recorder::new(alloc, plan, visits)?;
-    let answer = answer_script(alloc, recorder, script)?;
+    let script_router = ScriptRouter::new(alloc, plan, visits)?;
+    let answer = answer_script(alloc, script_router, script)?;
     write_answer(&answer, writer)?;
     Ok(answer.past)
 }

@@ -7,7 +7,7 @@ ghost use Rattle.clk_report.specs.Devices.{lists_of};
 ghost use Rattle.clk_script.specs.Meaning.{offer_text};
 ghost use Rattle.clk_script.specs.inside.Lines.{Passes};
 ghost use Rattle.clk_script.specs.inside.Rows.{offered_as, fronts_left, row_text, rows_text, are_several, given_of, given_after, fronts_after, closings_text, answer_text};
-ghost use Rattle.clk_script.specs.inside.Recorder.{departure_text};
+ghost use Rattle.clk_script.specs.inside.ScriptRouter.{departure_text};
 
 use crate::answer::Answer;
 use crate::lines::Lines;

@@ -1,16 +1,15 @@
 //! Pulls of devices of a live router.
 
-ghost use Rattle.std.specs.Prelude.{◌≡◌, ◌<◌, None, IfSome};
+ghost use Rattle.std.specs.Prelude.{◌≡◌, ◌<◌};
 ghost use Rattle.clk_router.specs.Course.{CanPull};
-ghost use Rattle.clickpull_c.specs.Answers.{RefusesPull};
 ghost use Rattle.clickpull_c.specs.live.Pulls.{AnswersOnePull, AnswersPulls, PullsMany};
 
 use super::handle::LiveHandle;
 use super::router::LiveRouter;
 use super::values::{CEmitted, emitted_for_c};
-use crate::statuses::{AT_END, NONE, OK, RECLAIMED, UNKNOWN_DEVICE, given_status};
+use crate::pulling::refusal;
+use crate::statuses::{NONE, OK, RECLAIMED, given_status};
 use clk_live::Live;
-use clk_router::CountingRouter;
 
 /// Pulls the device with this number once, at this moment in ticks, or at the device's latest moment if that is later. Fills in the packet
 /// with its token, if one is emitted.
@@ -99,18 +98,4 @@ fn pull_on(live: &mut Live, device: u16, moment: u64, packets: &mut [CEmitted]) 
         }
     }
     given
-}
-
-// Why a device can't be pulled at this moment, if it can't.
-fn refusal(router: &CountingRouter, device: u16, moment: u64) -> Option<u32>
-    ensures refused { IfSome result (RefusesPull router.now device moment) }
-    ensures can { result ≡ None → CanPull router.now device moment }
-{
-    if usize::from(device) >= router.devices() {
-        return Some(UNKNOWN_DEVICE);
-    }
-    if !router.can_pull(device, moment) {
-        return Some(AT_END);
-    }
-    None
 }

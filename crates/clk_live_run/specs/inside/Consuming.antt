@@ -1,5 +1,5 @@
 -- What a consumer does with a live router, step by step.
-use Rattle.std.specs.Prelude.{◌≡◌, ℕ, ◌+◌, ◌*◌, ◌<◌, ◌≤◌, nat_lt, if◌then◌else◌, List, [], ◌∷◌, ◌++◌, length, map, Bool, true, false, ◌==◌, Option, Some, None}
+use Rattle.std.specs.Prelude.{◌≡◌, ℕ, ◌+◌, ◌*◌, ◌<◌, ◌≤◌, nat_lt, if◌then◌else◌, List, [], ◌∷◌, ◌++◌, length, map, false, ◌==◌}
 use Rattle.std.specs.List.{filter_map, AllByRecursion}
 use Rattle.clk_inlet.specs.declared.item.Item.{Item}
 use Rattle.clk_packet.specs.declared.packet.Packet.{Packet}

@@ -14,7 +14,7 @@ use Rattle.clk_script.specs.declared.script.Line.{Line}
 use Rattle.clk_script.specs.Script.{Names, most_script_bytes, most_lines, most_moment, most_device, send_of, pull_of, drain_of, line_fault, is_drain, first_fault, lines_of, script_fault}
 use Rattle.clk_script.specs.Meaning.{names_of, command_of}
 use Rattle.clk_script.specs.Record.{record_text, drain_count, IsSmall, FitsNames, OnlyFittingRecordsMean}
-use Rattle.clk_script.specs.inside.Recorder.{IsSound}
+use Rattle.clk_script.specs.inside.ScriptRouter.{IsSound}
 use Rattle.clk_script.proofs.ScriptLemmas.{each-command-sound}
 use Rattle.clk_script.proofs.Record.Lines.{CanSay, line_said, drain_said, line-again, lines-record}
 use Rattle.clk_script.proofs.Record.Sound.{commands-are}

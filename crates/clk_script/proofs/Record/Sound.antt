@@ -11,7 +11,7 @@ use Rattle.clk_script.specs.declared.script.Command.TheVariants.{Send, Pull}
 use Rattle.clk_script.specs.declared.script.Line.TheVariants as line
 use Rattle.clk_script.specs.Script.{Names, most_script_bytes, most_lines, most_moment, most_device, command_fault, first_fault, lines_of, script_fault, command_in, commands_of, drain_in, closing_moment}
 use Rattle.clk_script.specs.Meaning.{names_of, command_of, course_text, IsClosed}
-use Rattle.clk_script.specs.inside.Recorder.{IsSound}
+use Rattle.clk_script.specs.inside.ScriptRouter.{IsSound}
 use Rattle.clk_script.specs.Record.{named_device, command_text, drain_text, record_text, drain_count, FitsNames, RecordsMeanTheirCourse}
 use Rattle.clk_script.proofs.Record.Lines.{CanSay, all-small, drain-small, drain_lines, lines-record, lines-again}
 

@@ -20,11 +20,11 @@ use Rattle.clk_script.specs.declared.rows.Row.TheVariants as row
 use Rattle.clk_script.specs.declared.reading.Script.{Script}
 use Rattle.clk_script.specs.declared.answer.Answer.{Answer}
 use Rattle.clk_script.specs.declared.past.Past.{Past}
-use Rattle.clk_script.specs.declared.recorder.Recorder.{Recorder}
+use Rattle.clk_script.specs.declared.script_router.ScriptRouter.{ScriptRouter}
 use Rattle.clk_script.specs.Script.{Names, command_in, drain_in, most_lines, most_moment}
 use Rattle.clk_router.specs.Events.{Setup, Event, offered, pulled, emitted_in}
 use Rattle.clk_script.specs.Meaning.{has_several, command_of, offer_text, pull_text, closing_text}
-use Rattle.clk_script.specs.inside.Recorder.{IsAt, departure_text, LeadsOnByClosing}
+use Rattle.clk_script.specs.inside.ScriptRouter.{IsAt, departure_text, LeadsOnByClosing}
 
 -- the command of a row, whether it was carried out or not
 abbrev pub command_asked : Row → Command
@@ -76,7 +76,7 @@ pub record CanBeRun (names : Names) (script : Script) : Type 0 where
 
 -- More events led on from these. They are those of the commands that were asked for, and each has its row. If there are several devices,
 -- the packets that pulls gave were added to those that were kept.
-pub record CarriesOut (setup : Setup) (old new : Recorder) (asked done : List Row) (events : List Event) : Type 0 where
+pub record CarriesOut (setup : Setup) (old new : ScriptRouter) (asked done : List Row) (events : List Event) : Type 0 where
   pub more : List Event
   pub theirs : asked_by asked ≡ map command_of more
   pub rows : AllZip IsRowOf more done
@@ -84,8 +84,8 @@ pub record CarriesOut (setup : Setup) (old new : Recorder) (asked done : List Ro
   pub keeps : new.router.keeps ≡ old.router.keeps
   pub leads : IsAt setup (events ++ more) new
 
--- Carrying out these rows led on from any events that led to the old recorder.
-abbrev pub AnswersRows : Recorder → Recorder → List Row → List Row → Type 0
+-- Carrying out these rows led on from any events that led to the old script_router.
+abbrev pub AnswersRows : ScriptRouter → ScriptRouter → List Row → List Row → Type 0
 AnswersRows old new asked done = (setup : Setup) (events : List Event) → IsAt setup events old → CarriesOut setup old new asked done events
 
 -- the outcome of a packet that was accepted, with the packet that was evicted for it, if one was
@@ -131,19 +131,19 @@ closings_text several device (departures ∷ closings) = flat_map (departure_tex
 
 -- The first `devices` devices of a router were drained from a moment on, after these events. The lines of the packets that they emitted are
 -- the lines of the pulls.
-pub record ClosesFirst (setup : Setup) (new : Recorder) (moment devices : ℕ) (closings : List (List Departure)) (events : List Event) : Type 0 where
+pub record ClosesFirst (setup : Setup) (new : ScriptRouter) (moment devices : ℕ) (closings : List (List Departure)) (events : List Event) : Type 0 where
   pub closing : LeadsOnByClosing setup new moment devices events
   pub lines : flat_map (closing_text (has_several setup)) closing.closed ≡ closings_text (has_several setup) 0 closings
 
 -- The devices of a router were drained from a moment on, and each emitted these packets.
-pub record IsClosedAt (old new : Recorder) (moment : ℕ) (closings : List (List Departure)) : Type 0 where
+pub record IsClosedAt (old new : ScriptRouter) (moment : ℕ) (closings : List (List Departure)) : Type 0 where
   pub closings_count : length closings ≡ length old.router.setup.trees
   pub given : new.given ≡ old.given
   pub keeps : new.router.keeps ≡ old.router.keeps
   pub closes : (setup : Setup) (events : List Event) → IsAt setup events old → ClosesFirst setup new moment (length old.router.setup.trees) closings events
 
 -- The devices were drained from this moment on, if there is one.
-abbrev pub IsClosedFrom : Recorder → Recorder → Option ℕ → Option (List (List Departure)) → Type 0
+abbrev pub IsClosedFrom : ScriptRouter → ScriptRouter → Option ℕ → Option (List (List Departure)) → Type 0
 IsClosedFrom old new None None = new ≡ old
 IsClosedFrom old new None (Some closings) = ⊥
 IsClosedFrom old new (Some moment) None = ⊥

@@ -5,7 +5,7 @@ use Rattle.clickpull_c.proofs.offering.offer.Goals as goal
 pub returns : goal.returns
 returns c =
     let send = c.offer-outcome in
-    let same : Some send.result.0.sender ≡ Some c.args.sender = sym send.ensures.sender ∙ ap (sender_at c.args.router.now.setup) c.from-place.ensures ∙ c.in-Some-place_of.ensures.found in
+    let same : Some send.result.0.sender ≡ Some c.args.sender = sym send.ensures.sender ∙ ap (sender_at c.args.router.now.setup) c.from-place.ensures ∙ (rw c.deref.ensures at c.in-Some-place_of.ensures.found) in
     record {
       answer = inl (
         refl,

@@ -15,7 +15,7 @@ returns-then-not-can_pull c =
       within = so_far.within;
       gave = so_far.gave;
       others = so_far.others;
-      ends = at_end (omega arith) (c.if-not-can_pull.ensures.no refl) refl;
+      ends = at_end (omega arith) (rw c.deref.ensures at (c.if-not-can_pull.ensures.no refl)) refl;
     }
 
 pub loop-given-preserved : goal.loop-given-preserved
@@ -25,5 +25,5 @@ loop-given-preserved c =
       gave-more c.args.router.now l.router c.pull.new.self c.args.device c.args.moment c.args.packets.now l.packets l.given c.packet_for_c.result l.invariant.1 low l.invariant.0
           (record { packet = c.in-Some.packet; pulled = c.in-Some.ensures.pulled; filled_is = c.packet_for_c.ensures }),
       length-set l.packets l.given c.packet_for_c.result ∙ l.invariant.1,
-      c.if-not-can_pull.ensures.yes refl,
+      rw c.deref.ensures at (c.if-not-can_pull.ensures.yes refl),
     )

@@ -7,4 +7,4 @@ pub returns-clause-answer : goal.returns-clause-answer
 returns-clause-answer c =
     let low : c.from.result < c.devices.result = grind arith in
     inl (subst (λ (k : Course). TellsLeft k c.args.device c.left.result 0) c.get_mut-router.ensures.value
-    (record { answers = refl; there = omega (arith, low, c.from.ensures, c.devices.ensures.count); filled_is = c.left.ensures }))
+    (record { answers = refl; there = omega (arith, low, c.from.ensures, (rw c.deref.ensures at c.devices.ensures.count)); filled_is = (rw c.deref-2.ensures at c.left.ensures) }))

@@ -1,4 +1,4 @@
-use Rattle.std.proofs.Common.{◌++◌, ◌∷◌, [], List, set, ap, ◌∙◌, subst, arith}
+use Rattle.std.proofs.Common.{◌++◌, ◌∷◌, [], List, length, set, ap, ◌∙◌, subst, arith}
 use Rattle.clk_packet.specs.declared.packet.Offered.{Offered}
 use Rattle.clk_inlet.specs.declared.item.Item.{Item}
 use Rattle.clk_router.specs.Course.{Course, after}
@@ -15,13 +15,13 @@ use Rattle.clk_live.proofs.offering.offer_next.Goals as goal
 offers : (c : After-accounts) (items : List (List Item)) (before : List Item) → CanRun c.args.router.now c.args.tokens.now.items items c.args.place before 1
     → OffersNext c.args.router.now c.offer-outcome.new.self items c.args.tokens.now.items c.args.place before c.args.item c.offer-outcome.result.0 c.offer-outcome.result.1
 offers c items before can = record {
-  stand = record { kept = can.kept; law = c.queues_go_on.ensures; rising = rw c.senders.ensures.numbers at c.senders.ensures.rising; can = c.has_happened.ensures };
+  stand = record { kept = can.kept; law = rw c.deref.ensures at c.queues_go_on.ensures; rising = rw (c.senders.ensures.numbers, c.deref-3.ensures) at c.senders.ensures.rising; can = rw c.deref-2.ensures at c.has_happened.ensures };
   took = record {
     its = can.its;
     few = (let few = can.few in omega (arith, few));
     sender = c.offer-outcome.ensures.sender;
     bytes = c.offer-outcome.ensures.length ∙ c.bytes.ensures;
-    more = subst (λ (k : Course). CanHappen k.setup k.events) c.offer-outcome.ensures.goes_on c.has_happened-2.ensures;
+    more = subst (λ (k : Course). CanHappen k.setup k.events) c.offer-outcome.ensures.goes_on (rw c.deref-4.ensures at c.has_happened-2.ensures);
   };
   goes = c.offer-outcome.ensures.goes_on;
 }
@@ -31,13 +31,13 @@ its-offer c = offers c c.requires.can.0 c.requires.can.1 c.requires.can.2
 
 -- the tokens of its queue were read
 reads : (c : After-index_mut-its_tokens) → ReadsTokens c.offer-outcome.new.self c.args.tokens.now.items c.args.place c.accounts.result.now c.from.result c.queue-capacity.result c.index_mut-its_tokens.result.now
-reads c = record { are = c.accounts.ensures; told = c.from.ensures; declared = c.queue-capacity.ensures.state; is = c.index_mut-its_tokens.ensures.value }
+reads c = record { are = c.accounts.ensures; told = c.from.ensures; declared = rw c.deref-5.ensures at c.queue-capacity.ensures.state; is = c.index_mut-its_tokens.ensures.value }
 
 pub offer-outcome-requires-clause-can : goal.offer-outcome-requires-clause-can
 offer-outcome-requires-clause-can c =
     let can = c.requires.can.2 in
     let few = can.few in
-    can-offer c.args.router.now c.requires.can.0 c.args.tokens.now.items can.kept c.has_happened.ensures c.args.place c.requires.can.1 can.its (omega (arith, few))
+    can-offer c.args.router.now c.requires.can.0 c.args.tokens.now.items can.kept (rw c.deref-2.ensures at c.has_happened.ensures) c.args.place c.requires.can.1 can.its (omega (arith, few))
 
 pub bounds-accounts-place : goal.bounds-accounts-place
 bounds-accounts-place c = account-there (its-offer c) c.accounts.result.now c.accounts.ensures
@@ -46,7 +46,10 @@ pub offset_bounds-accounts-place : goal.offset_bounds-accounts-place
 offset_bounds-accounts-place c = let low = account-there (its-offer c) c.accounts.result.now c.accounts.ensures in let size = c.accounts.type_inv.1 in omega (arith, low, size)
 
 pub queue-capacity-requires : goal.queue-capacity-requires
-queue-capacity-requires c = queue-there (its-offer (goal.at.queue-capacity-requires c).After-accounts) c.accounts.result.now c.accounts.ensures
+queue-capacity-requires c =
+    let there = queue-there (its-offer (goal.at.queue-capacity-requires c).After-accounts) c.accounts.result.now c.accounts.ensures in
+    let all = ap (λ (k : Course). length k.setup.queues) c.deref-5.ensures in
+    omega (arith, there, all)
 
 pub index_mut-its_tokens-requires : goal.index_mut-its_tokens-requires
 index_mut-its_tokens-requires c =
@@ -78,4 +81,4 @@ returns-clause-offered c =
     })
 
 pub returns-clause-full : goal.returns-clause-full
-returns-clause-full c = stay-full c.args.router.now c.offer-outcome.new.self c.offer-outcome.result.0 c.offer-outcome.result.1 c.has_happened-2.ensures c.offer-outcome.ensures.goes_on
+returns-clause-full c = stay-full c.args.router.now c.offer-outcome.new.self c.offer-outcome.result.0 c.offer-outcome.result.1 (rw c.deref-4.ensures at c.has_happened-2.ensures) c.offer-outcome.ensures.goes_on

@@ -1,7 +1,7 @@
-use Rattle.std.proofs.Common.{rules, ◌≡◌, ◌+◌, ◌<◌, suc, subst, ap, sym, arith}
+use Rattle.std.proofs.Common.{rules, ◌≡◌, ◌+◌, suc, subst, ap, arith}
 use Rattle.clk_router.specs.Course.{Course}
 use Rattle.clk_live_run.specs.inside.Consuming.{HasClosed}
-use Rattle.clk_live_run.proofs.Closings.{closed-none, closed-more, can-still-close}
+use Rattle.clk_live_run.proofs.Closings.{closed-more, can-still-close}
 use Rattle.clk_live_run.proofs.closing.close_devices.Goals as goal
 
 pub drain-requires : goal.drain-requires

@@ -1,9 +1,8 @@
-use Rattle.std.proofs.Common.{◌≡◌, ◌<◌, ℕ, length, map, List, refl, sym, ap, ◌∙◌, subst}
-use Rattle.std.specs.List.{AllZip}
-use Rattle.clk_inlet.specs.Halves.{pushed, offered, taken, AreHalves}
+use Rattle.std.proofs.Common.{◌≡◌, ◌<◌, ℕ, length, map, List, sym, ap, ◌∙◌, subst}
+use Rattle.clk_inlet.specs.Halves.{pushed, offered}
 use Rattle.clk_inlet.specs.declared.inlet.Inlet.{Inlet}
-use Rattle.clk_router.specs.Course.{Course, CanClose}
-use Rattle.clk_live.specs.State.{LiveState, Seen, seen}
+use Rattle.clk_router.specs.Course.{CanClose}
+use Rattle.clk_live.specs.State.{Seen, seen}
 use Rattle.clk_live.proofs.Callers.Halves.{offered_same}
 use Rattle.clk_live_run.specs.inside.Consuming.{HasClosed}
 use Rattle.clk_live_run.proofs.Closings.{closed-from, all-drained, must-be}

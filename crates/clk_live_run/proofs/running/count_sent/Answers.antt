@@ -1,4 +1,4 @@
-use Rattle.std.proofs.Common.{◌≡◌, ◌+◌, ◌<◌, map, length, ap, ◌∙◌, arith}
+use Rattle.std.proofs.Common.{map, ap, ◌∙◌, arith}
 use Rattle.std.proofs.lemmas.List.{take_more}
 use Rattle.clk_gate.specs.Sent.{sent_in}
 use Rattle.clk_tree.specs.declared.plan.parts.SenderSpec.{SenderSpec}

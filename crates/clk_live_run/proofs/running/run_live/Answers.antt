@@ -1,20 +1,16 @@
-use Rattle.std.proofs.Common.{◌≡◌, ℕ, ◌+◌, ◌*◌, ◌<◌, ◌≤◌, true, true≢false, List, [], length, map, Some, sym, ap, ◌∙◌, subst, arith}
-use Rattle.std.specs.List.{AllZip}
+use Rattle.std.proofs.Common.{◌≡◌, ◌*◌, ◌≤◌, true, true≢false, List, [], length, map, Some, sym, ap, ◌∙◌, subst, arith}
 use Rattle.std.proofs.lemmas.List.{length-map}
-use Rattle.clk_packet.specs.Lists.{AreRising}
 use Rattle.clk_gate.specs.Sent.{sent_in}
 use Rattle.clk_inlet.specs.Halves.{offered, AreHalves}
 use Rattle.clk_sched.specs.Limits.{most_left}
 use Rattle.clk_tree.specs.PlanParts.{number_of}
 use Rattle.clk_router.specs.Course.{Course}
 use Rattle.clk_router.specs.Events.{Setup, sender_numbers}
-use Rattle.clk_live.specs.State.{seen}
 use Rattle.clk_script.specs.declared.script.Command.{Command}
-use Rattle.clk_script.specs.Meaning.{command_of}
 use Rattle.clk_script.specs.Record.{FitsLimits}
 use Rattle.clk_live_run.specs.Recorded.{IsRecorded, failures_with}
 use Rattle.clk_live_run.specs.inside.Consuming.{taken_in, commands_of}
-use Rattle.clk_live_run.specs.inside.Recording.{SinkAt, IsRecordOf, IsEnded}
+use Rattle.clk_live_run.specs.inside.Recording.{SinkAt, IsRecordOf}
 use Rattle.clk_live_run.proofs.Takings.{same-many}
 use Rattle.clk_live_run.proofs.Runs.{paced-none, still-halves, all-through, taken-is, sent-few, can-close, fits-script, ran, recorded, sends}
 use Rattle.clk_live_run.proofs.running.run_live.Goals as goal
@@ -25,7 +21,7 @@ senders_of-requires g c =
     let opened = c.in_ok-live.ensures.opened in
     let live = c.in_ok-live.live in
     let numbers : length c.senders-2.result.now ≡ length live.course.setup.senders =
-    ap length c.senders-2.ensures.numbers ∙ length-map c.router.result.now.setup.senders number_of ∙ ap (λ (x : Course). length x.setup.senders) c.router.ensures.course in
+    ap length (rw c.deref.ensures at c.senders-2.ensures.numbers) ∙ length-map c.router.result.now.setup.senders number_of ∙ ap (λ (x : Course). length x.setup.senders) c.router.ensures.course in
     let halves = same-many AreHalves c.in_ok-live.inlets.items live.outlets opened.halves in
     let places = opened.places in
     record { many = omega (arith, halves, places, numbers) }
@@ -57,7 +53,7 @@ close-requires-clause-can g c = λ items d there.
 
 -- the senders of the plan
 its_senders : (g : _) (c : In_ok-ended g) → c.senders-2.result.now ≡ sender_numbers c.in_ok-live.live.course.setup
-its_senders g c = c.senders-2.ensures.numbers ∙ ap (λ (x : Course). sender_numbers x.setup) c.router.ensures.course
+its_senders g c = (rw c.deref.ensures at c.senders-2.ensures.numbers) ∙ ap (λ (x : Course). sender_numbers x.setup) c.router.ensures.course
 
 -- the record fits a script, if the run was to be recorded
 fits_so : (g : _) (c : After-close g) → c.args.recording ≡ true → FitsLimits c.in_ok-ended.ended.consumer.live.course.events (Some 0)

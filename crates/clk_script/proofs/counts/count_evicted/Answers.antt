@@ -1,7 +1,7 @@
 use Rattle.std.proofs.Common.{◌≡◌, ◌==◌, false, sym, subst}
 use Rattle.std.specs.List.{list_any}
 use Rattle.clk_packet.specs.Lists.{AreRising}
-use Rattle.clk_script.specs.inside.Recorder.{IsPlaceOf}
+use Rattle.clk_script.specs.inside.ScriptRouter.{IsPlaceOf}
 use Rattle.clk_script.proofs.CountLemmas.{evicted-at, counted-none}
 use Rattle.clk_script.proofs.counts.count_evicted.Goals as goal
 

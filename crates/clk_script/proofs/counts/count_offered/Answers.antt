@@ -2,7 +2,7 @@ use Rattle.std.proofs.Common.{◌∙◌, ap, map, sym, subst}
 use Rattle.clk_packet.specs.Lists.{AreRising}
 use Rattle.clk_report.specs.declared.counts.Counts.{Counts}
 use Rattle.clk_report.specs.Counts.{counts_of}
-use Rattle.clk_script.specs.inside.Recorder.{noted}
+use Rattle.clk_script.specs.inside.ScriptRouter.{noted}
 use Rattle.clk_script.proofs.CountLemmas.{none, accepted-at, refused-at, numbers-set}
 use Rattle.clk_script.proofs.TallyLemmas.{evicted-both}
 use Rattle.clk_script.proofs.counts.count_offered.Goals as goal

@@ -1,6 +1,6 @@
 use Rattle.std.proofs.Common.{◌≡◌, map, take}
 use Rattle.clk_report.specs.Counts.{counts_of}
-use Rattle.clk_script.specs.inside.Recorder.{tally_made}
+use Rattle.clk_script.specs.inside.ScriptRouter.{tally_made}
 use Rattle.clk_script.proofs.counts.counts_of_senders.Given as goal
 
 abbrev pub invariant-loop-number : goal.invariant-loop-number

@@ -1,6 +1,6 @@
 use Rattle.std.proofs.Common.{◌≡◌, ◌≤◌, ◌-◌, List, ℕ, length}
 use Rattle.std.specs.Io.KnownBytes.{Consumes}
-use Rattle.clk_script.specs.inside.Recorder.{named_by}
+use Rattle.clk_script.specs.inside.ScriptRouter.{named_by}
 use Rattle.clk_script.specs.inside.Reading.{HasCome}
 use Rattle.clk_script.proofs.reading.read_script.Given as goal
 

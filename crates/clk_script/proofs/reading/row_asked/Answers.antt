@@ -1,7 +1,7 @@
 use Rattle.std.proofs.Common.{◌≡◌, None, refl, sym, ap, ◌∙◌}
 use Rattle.clk_script.specs.declared.script.Command.TheVariants.{Send}
 use Rattle.clk_script.specs.Script.{command_fault}
-use Rattle.clk_script.specs.inside.Recorder.{named_by}
+use Rattle.clk_script.specs.inside.ScriptRouter.{named_by}
 use Rattle.clk_script.proofs.ReadingLemmas.{known-at}
 use Rattle.clk_script.proofs.reading.row_asked.Goals as goal
 

@@ -1,6 +1,6 @@
 use Rattle.std.proofs.Common.{◌≡◌, drop, length}
 use Rattle.std.specs.List.{flat_map}
-use Rattle.clk_script.specs.inside.Recorder.{departure_text}
+use Rattle.clk_script.specs.inside.ScriptRouter.{departure_text}
 use Rattle.clk_script.proofs.PassLemmas.{HasPassed}
 use Rattle.clk_script.proofs.writing.write_departures.Given as goal
 

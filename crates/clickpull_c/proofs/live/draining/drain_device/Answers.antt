@@ -18,7 +18,7 @@ loop-device-init c = (departed-none c.args.device c.args.live.now c.args.departu
 pub returns-then-given-departures : goal.returns-then-given-departures
 returns-then-given-departures c =
     let l = c.loop-device in
-    let left = has-left c.router.result.now l.live.course c.args.device c.left.result c.router.ensures.course c.left.ensures c.loop-device-test.true in
+    let left = has-left c.router.result.now l.live.course c.args.device c.left.result c.router.ensures.course (rw c.deref.ensures at c.left.ensures) c.loop-device-test.true in
     let which : (l.given ≡ length l.departures) ⊎ (l.made ≡ c.args.pulls) = elim c.then-given-departures.branch [
       | then-given-departures-via-then-given-departures w ↦ inl (let t = w.if-given-departures.true in omega (arith, t))
       | then-given-departures-via-else-given-departures+then-made-pulls w ↦ inr (let t = w.if-made-pulls.true in omega (arith, t))
@@ -30,9 +30,9 @@ pub returns-then-not-can_pull : goal.returns-then-not-can_pull
 returns-then-not-can_pull c =
     let l = c.loop-device in
     let d = c.args.device in
-    let left = has-left c.router.result.now l.live.course d c.left.result c.router.ensures.course c.left.ensures c.loop-device-test.true in
-    let latest : c.moment-moment.result ≡ moment_at l.live.course d = subst (λ (k : Course). c.moment-moment.result ≡ moment_at k d) c.router-in-loop-device.ensures.course c.moment-moment.ensures.moment in
-    let never : CanPull l.live.course d (c.moment-moment.result + 1) → ⊥ = subst (λ (k : Course). CanPull k d (c.moment-moment.result + 1) → ⊥) c.router-in-loop-device-2.ensures.course (c.if-not-can_pull.ensures.no refl) in
+    let left = has-left c.router.result.now l.live.course d c.left.result c.router.ensures.course (rw c.deref.ensures at c.left.ensures) c.loop-device-test.true in
+    let latest : c.moment-moment.result ≡ moment_at l.live.course d = subst (λ (k : Course). c.moment-moment.result ≡ moment_at k d) c.router-in-loop-device.ensures.course (rw c.deref-in-loop-device.ensures at c.moment-moment.ensures.moment) in
+    let never : CanPull l.live.course d (c.moment-moment.result + 1) → ⊥ = subst (λ (k : Course). CanPull k d (c.moment-moment.result + 1) → ⊥) c.router-in-loop-device-2.ensures.course (rw c.deref-in-loop-device-2.ensures at (c.if-not-can_pull.ensures.no refl)) in
     drained-so-far d c.args.pulls c.args.live.now l.live c.args.departures.now l.departures l.made l.given 7 AtEnd l.invariant.2 l.invariant.0
     (λ pulls count. (left, subst (λ m. CanPull l.live.course d (m + 1) → ⊥) latest never)) refl
 
@@ -45,8 +45,8 @@ loop-device-preserved c =
     let before = c.args.departures.now in
     let few : l.made + 1 ≤ c.args.pulls = grind arith in
     let low : l.given < length before = (let fits = l.invariant.0.so_far.within in let many = l.invariant.0.many in let same = l.auto.departures in grind arith) in
-    let left = has-left c.router.result.now l.live.course d c.left.result c.router.ensures.course c.left.ensures c.loop-device-test.true in
-    let latest : c.moment-moment.result ≡ moment_at l.live.course d = subst (λ (k : Course). c.moment-moment.result ≡ moment_at k d) c.router-in-loop-device.ensures.course c.moment-moment.ensures.moment in
+    let left = has-left c.router.result.now l.live.course d c.left.result c.router.ensures.course (rw c.deref.ensures at c.left.ensures) c.loop-device-test.true in
+    let latest : c.moment-moment.result ≡ moment_at l.live.course d = subst (λ (k : Course). c.moment-moment.result ≡ moment_at k d) c.router-in-loop-device.ensures.course (rw c.deref-in-loop-device.ensures at c.moment-moment.ensures.moment) in
     let setup = ap (λ (k : Course). length k.setup.trees) c.pull.ensures.pulled.pulled.goes_on in
     let there : d < length next.course.setup.trees = (let was = l.invariant.1 in omega (arith, was, setup)) in
     let both : DepartedSoFar d c.args.live.now next before c.match-pull.departures (l.made + 1) c.match-pull.given = elim c.match-pull.branch [

@@ -7,7 +7,7 @@ use Rattle.clickpull_c.proofs.live.pulling.pull.Goals as goal
 
 pub returns-in-Some-refusal : goal.returns-in-Some-refusal
 returns-in-Some-refusal c =
-    let why = subst (λ (k : Course). RefusesPull k c.args.device c.args.moment c.in-Some-refusal.status) c.router.ensures.course c.in-Some-refusal.ensures.refused in
+    let why = subst (λ (k : Course). RefusesPull k c.args.device c.args.moment c.in-Some-refusal.status) c.router.ensures.course (rw c.deref.ensures at c.in-Some-refusal.ensures.refused) in
     refused c.in-Some.live c.in-Some.is why (stays-with c.args.router.now c.in-Some.live c.in-Some.is) refl
 
 pub returns-in-Some-pull : goal.returns-in-Some-pull

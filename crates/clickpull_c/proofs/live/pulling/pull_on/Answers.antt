@@ -22,7 +22,7 @@ returns-then-not-can_pull c =
         within = so_far.so_far.within;
         gave = so_far.so_far.gave;
         others = so_far.so_far.others;
-        ends = at_end (omega arith) (subst (λ (k : Course). CanPull k c.args.device c.args.moment → ⊥) c.router.ensures.course (c.if-not-can_pull.ensures.no refl)) refl;
+        ends = at_end (omega arith) (subst (λ (k : Course). CanPull k c.args.device c.args.moment → ⊥) c.router.ensures.course (rw c.deref.ensures at (c.if-not-can_pull.ensures.no refl))) refl;
       };
       are_filled = so_far.are_filled;
       unchanged = so_far.unchanged;
@@ -33,5 +33,5 @@ loop-given-preserved c =
     let l = c.loop-given in
     let low : l.given < length c.args.packets.now = (let test = c.loop-given-test.true in let same = l.auto.packets in omega (arith, test, same)) in (
       pulled-more c.args.device c.args.moment c.args.live.now l.live c.pull.new.self c.args.packets.now l.packets l.given c.in-Some.one c.emitted_for_c.result low l.invariant.0 c.in-Some.ensures.pulled c.emitted_for_c.ensures c.pull.ensures.unchanged,
-      subst (λ (k : Course). CanPull k c.args.device c.args.moment) c.router.ensures.course (c.if-not-can_pull.ensures.yes refl),
+      subst (λ (k : Course). CanPull k c.args.device c.args.moment) c.router.ensures.course (rw c.deref.ensures at (c.if-not-can_pull.ensures.yes refl)),
     )

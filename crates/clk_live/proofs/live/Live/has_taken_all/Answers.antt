@@ -1,5 +1,5 @@
-use Rattle.std.proofs.Common.{◌≡◌, ◌∙◌, List, map, refl, sym, ap, subst}
-use Rattle.clk_inlet.specs.Halves.{offered, taken}
+use Rattle.std.proofs.Common.{◌≡◌, List, map, refl, sym, ap, subst}
+use Rattle.clk_inlet.specs.Halves.{taken}
 use Rattle.clk_inlet.specs.declared.item.Item.{Item}
 use Rattle.clk_live.specs.State.{LiveState, seen}
 use Rattle.clk_live.specs.inside.Kept.{IsKept}

@@ -1,8 +1,9 @@
-use Rattle.std.proofs.Common.{◌≡◌, ◌<◌, length, Some, slice_get, get_or, sym, subst, arith}
+use Rattle.std.proofs.Common.{◌≡◌, ◌<◌, length, Some, slice_get, get_or, sym, ap, subst, arith}
 use Rattle.std.proofs.lemmas.Bool.Decides.{nat_tests}
 use Rattle.std.proofs.lemmas.List.{length-map}
 use Rattle.clk_inlet.specs.Halves.{taken}
 use Rattle.clk_tree.specs.declared.plan.parts.SenderSpec.{SenderSpec}
+use Rattle.clk_router.specs.Course.{Course}
 use Rattle.clk_live.specs.State.{LiveState}
 use Rattle.clk_live.specs.Taking.{IsQueueFull}
 use Rattle.clk_live.proofs.Steps.{no_account, account-queue, sends-within}
@@ -26,7 +27,8 @@ queue-state-requires c =
     let x = sender (goal.at.queue-state-requires c).After-accounts in
     let same = x.2 in
     let within = sends-within (length i.router.setup.queues) i.router.setup.senders c.args.place x.0 c.self.invariant.wired x.1 in
-    omega (arith, same, within)
+    let all = ap (λ (k : Course). length k.setup.queues) c.deref.ensures in
+    omega (arith, same, within, all)
 
 pub returns-clause-full : goal.returns-clause-full
 returns-clause-full c =
@@ -34,7 +36,7 @@ returns-clause-full c =
     let q = c.queue-state.result in
     λ yes.
     (let all : q.held ≡ q.capacity = grind (arith, nat_tests) in
-    subst (λ (l : LiveState). IsQueueFull l.course c.args.place) c.self.view_is (is-full c.self.inside.router c.args.place x.0 x.1 _ q x.2 c.queue-state.ensures.state all))
+    subst (λ (l : LiveState). IsQueueFull l.course c.args.place) c.self.view_is (is-full c.self.inside.router c.args.place x.0 x.1 _ q x.2 (rw c.deref.ensures at c.queue-state.ensures.state) all))
 
 pub returns-clause-not_full : goal.returns-clause-not_full
 returns-clause-not_full c =
@@ -42,5 +44,5 @@ returns-clause-not_full c =
     let q = c.queue-state.result in
     λ no is.
     (let full = subst (λ (l : LiveState). IsQueueFull l.course c.args.place) (sym c.self.view_is) is in
-    let all : q.held ≡ q.capacity = all-held c.self.inside.router c.args.place x.0 x.1 _ q x.2 c.queue-state.ensures.state full in
+    let all : q.held ≡ q.capacity = all-held c.self.inside.router c.args.place x.0 x.1 _ q x.2 (rw c.deref.ensures at c.queue-state.ensures.state) full in
     absurd (grind (arith, nat_tests)))

@@ -1,5 +1,4 @@
-use Rattle.std.proofs.Common.{◌≡◌, List, map, refl, sym, subst}
-use Rattle.clk_inlet.specs.Halves.{offered, taken}
+use Rattle.std.proofs.Common.{◌≡◌, List, refl, sym, subst}
 use Rattle.clk_inlet.specs.declared.item.Item.{Item}
 use Rattle.clk_live.specs.State.{Seen, seen}
 use Rattle.clk_live.specs.Outcome.{IsLiveOutcome}

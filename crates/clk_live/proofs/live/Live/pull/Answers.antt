@@ -9,14 +9,14 @@ use Rattle.clk_live.proofs.live.Live.pull.Goals as goal
 -- the device was pulled once
 pulls : (c : After-has_happened-2) → PullsOnce c.self.inside.router c.pull-packet.new.self (map taken c.self.inside.outlets.items) c.self.inside.tokens.items c.args.device c.args.moment c.pull-packet.result
 pulls c = record {
-  stand = record { kept = c.self.invariant; law = c.queues_go_on.ensures; rising = rw c.senders.ensures.numbers at c.senders.ensures.rising; can = c.has_happened.ensures };
+  stand = record { kept = c.self.invariant; law = rw c.deref.ensures at c.queues_go_on.ensures; rising = rw (c.senders.ensures.numbers, c.deref-3.ensures) at c.senders.ensures.rising; can = rw c.deref-2.ensures at c.has_happened.ensures };
   pull = c.pull-packet.ensures.pulled;
-  can_new = c.has_happened-2.ensures;
+  can_new = rw c.deref-4.ensures at c.has_happened-2.ensures;
 }
 
 -- the sender of the packet was found
 finds : (c : After-accounts) → FoundSender c.pull-packet.new.self c.pull-packet.result c.in_ok-packet.packet c.unwrap-place.result c.accounts.result.now
-finds c = record { gave = c.in_ok-packet.was; at = rw c.unwrap-place.ensures at c.place_of.ensures.found; are = c.accounts.ensures }
+finds c = record { gave = c.in_ok-packet.was; at = rw (c.unwrap-place.ensures, c.deref-5.ensures) at c.place_of.ensures.found; are = c.accounts.ensures }
 
 -- its account tells its queue
 its-queue : (c : After-from-2) → c.from-2.result ≡ (get_or c.accounts.result.now c.unwrap-place.result no_account).queue
@@ -26,7 +26,7 @@ pub invariant_of-self : goal.invariant_of-self
 invariant_of-self c = pulled-none (pulls (goal.at.invariant_of-self c).After-has_happened-2) c.in_err-packet.was
 
 pub unwrap-place-requires : goal.unwrap-place-requires
-unwrap-place-requires c = sender-found (pulls (goal.at.unwrap-place-requires c).After-has_happened-2) c.in_ok-packet.packet c.in_ok-packet.was c.place_of.result c.place_of.ensures.missing
+unwrap-place-requires c = sender-found (pulls (goal.at.unwrap-place-requires c).After-has_happened-2) c.in_ok-packet.packet c.in_ok-packet.was c.place_of.result (rw c.deref-5.ensures at c.place_of.ensures.missing)
 
 pub bounds-accounts-from : goal.bounds-accounts-from
 bounds-accounts-from c =

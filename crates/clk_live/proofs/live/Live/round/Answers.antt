@@ -56,7 +56,7 @@ returns-clause-turn c =
     let a = c.sweep-count in
     let b = c.sweep-count-2 in
     let old = c.args.self.now in
-    let rising : AreRising (sender_numbers old.course.setup) = subst (λ (l : LiveState). AreRising (sender_numbers l.course.setup)) c.self.view_is (rw c.senders.ensures.numbers at c.senders.ensures.rising) in
+    let rising : AreRising (sender_numbers old.course.setup) = subst (λ (l : LiveState). AreRising (sender_numbers l.course.setup)) c.self.view_is (rw (c.senders.ensures.numbers, c.deref.ensures) at c.senders.ensures.rising) in
     let places : c.len-places.result ≡ length old.outlets = subst (λ (l : LiveState). c.len-places.result ≡ length l.outlets) c.self.view_is (let many = c.len-places.ensures in omega (arith, many)) in
     let first = zip-length GoesOn old.outlets a.new.self.outlets a.ensures.outlets in
     let second = zip-length GoesOn a.new.self.outlets b.new.self.outlets b.ensures.outlets in

@@ -1,4 +1,4 @@
-use Rattle.std.proofs.Common.{◌≡◌, ◌≤◌, refl, ◌∙◌, arith}
+use Rattle.std.proofs.Common.{refl, ◌∙◌, arith}
 use Rattle.clk_live.proofs.Callers.Halves.{all_same, all_then}
 use Rattle.clk_live_run.specs.inside.Consuming.{commands_of}
 use Rattle.clk_live_run.proofs.Takings.{leads-then}

@@ -1,4 +1,4 @@
-use Rattle.std.proofs.Common.{rules, ◌≡◌, ◌+◌, ◌*◌, ◌<◌, ◌∷◌, ◌++◌, [], List, length, sym, ap₂, ◌∙◌, subst, arith}
+use Rattle.std.proofs.Common.{rules, ◌≡◌, ◌*◌, ◌<◌, List, length, sym, ap₂, subst}
 use Rattle.clk_router.specs.Course.{CanPull}
 use Rattle.clk_script.specs.declared.script.Command.{Command}
 use Rattle.clk_live.specs.State.{seen}

@@ -1,4 +1,4 @@
-use Rattle.std.proofs.Common.{◌≡◌, ◌+◌, ◌≤◌, length, ap, ◌∙◌, arith}
+use Rattle.std.proofs.Common.{◌+◌, ◌≤◌, length, ap, ◌∙◌, arith}
 use Rattle.clk_gate.specs.Limits.{most_limit}
 use Rattle.clk_live_run.proofs.Takings.{paced-took, paced-length, paced-round, round-early}
 use Rattle.clk_live_run.proofs.consumer.Consumer.round.Goals as goal

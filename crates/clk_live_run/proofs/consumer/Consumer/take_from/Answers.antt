@@ -1,6 +1,5 @@
-use Rattle.std.proofs.Common.{◌≡◌, ◌∷◌, ◌++◌, [], List, sym, subst}
+use Rattle.std.proofs.Common.{List, sym, subst}
 use Rattle.clk_script.specs.declared.script.Command.{Command}
-use Rattle.clk_script.specs.declared.script.Command.TheVariants.{Send}
 use Rattle.clk_live_run.specs.inside.Consuming.{commands_of}
 use Rattle.clk_live_run.specs.inside.Recording.{LeadsOn}
 use Rattle.clk_live_run.proofs.Takings.{took-none, took-one, took-same, took-then, took-command, still-there, leads-then}

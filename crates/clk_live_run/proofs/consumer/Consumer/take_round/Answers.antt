@@ -13,7 +13,7 @@ pub take_from-requires : goal.take_from-requires
 take_from-requires g c =
     let l = c.loop-place in
     let many : length c.senders-place-end.result.now ≡ length c.args.self.now.live.course.setup.senders =
-    ap length c.senders-place-end.ensures.numbers ∙ length-map c.router.result.now.setup.senders number_of ∙ ap (λ (x : Course). length x.setup.senders) c.router.ensures.course in
+    ap length (rw c.deref.ensures at c.senders-place-end.ensures.numbers) ∙ length-map c.router.result.now.setup.senders number_of ∙ ap (λ (x : Course). length x.setup.senders) c.router.ensures.course in
     let test = c.loop-place-test.true in
     let places = c.router.ensures.places in
     let low : l.place < length c.args.self.now.live.outlets = omega (arith, test, many, places) in

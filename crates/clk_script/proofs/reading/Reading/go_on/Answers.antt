@@ -1,6 +1,6 @@
 use Rattle.std.proofs.Common.{◌+◌, ◌++◌, take, sym, ap, ◌∙◌, subst, append_assoc}
 use Rattle.std.proofs.lemmas.List.{take-append-drop}
-use Rattle.clk_script.specs.inside.Recorder.{named_by}
+use Rattle.clk_script.specs.inside.ScriptRouter.{named_by}
 use Rattle.clk_script.specs.inside.Reading.{HasCome}
 use Rattle.clk_script.proofs.ReadingLemmas.{come-line}
 use Rattle.clk_script.proofs.reading.Reading.go_on.Goals as goal

@@ -1,6 +1,6 @@
 use Rattle.std.proofs.Common.{◌∷◌, ◌++◌, [], ◌∙◌, sym, subst, append_assoc}
 use Rattle.clk_script.specs.Script.{lines_of}
-use Rattle.clk_script.specs.inside.Recorder.{named_by}
+use Rattle.clk_script.specs.inside.ScriptRouter.{named_by}
 use Rattle.clk_script.specs.inside.Reading.{AreRead, IsReading}
 use Rattle.clk_script.proofs.ScriptLemmas.{readable-first}
 use Rattle.clk_script.proofs.ReadingLemmas.{reading-wrong, reading-sound, none-wrong, lines-whole, lines-left}

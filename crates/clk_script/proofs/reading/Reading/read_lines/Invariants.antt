@@ -1,7 +1,7 @@
 use Rattle.std.proofs.Common.{◌≡◌, None, List, ◌++◌, length}
 use Rattle.clk_script.specs.declared.script.Line.{Line}
 use Rattle.clk_script.specs.Script.{lines_of}
-use Rattle.clk_script.specs.inside.Recorder.{named_by}
+use Rattle.clk_script.specs.inside.ScriptRouter.{named_by}
 use Rattle.clk_script.specs.inside.Reading.{AreRead}
 use Rattle.clk_script.proofs.reading.Reading.read_lines.Given as goal
 

@@ -4,10 +4,10 @@ use Rattle.std.proofs.lemmas.List.{with_items_is}
 use Rattle.clk_packet.specs.declared.tally.Tally.{Tally}
 use Rattle.clk_report.specs.Counts.{counts_of}
 use Rattle.clk_router.specs.Events.{offered}
-use Rattle.clk_script.specs.declared.recorder.Recorder.{Recorder}
-use Rattle.clk_script.specs.inside.Recorder.{noted, IsAt}
-use Rattle.clk_script.proofs.RecorderLemmas.{can-offer, IsAt-offered}
-use Rattle.clk_script.proofs.recorder.Recorder.send.Goals as goal
+use Rattle.clk_script.specs.declared.script_router.ScriptRouter.{ScriptRouter}
+use Rattle.clk_script.specs.inside.ScriptRouter.{noted, IsAt}
+use Rattle.clk_script.proofs.ScriptRouterLemmas.{can-offer, IsAt-offered}
+use Rattle.clk_script.proofs.script_router.ScriptRouter.send.Goals as goal
 
 pub offer-outcome-requires-clause-can : goal.offer-outcome-requires-clause-can
 offer-outcome-requires-clause-can c = can-offer c.args.self.now c.requires.ready c.args.place c.requires.is_there
@@ -21,7 +21,7 @@ returns-clause-leads c =
     let counted : (ts : List Tally) → old.counts.items ≡ map counts_of ts → (with_items old.counts c.count_offered.new.counts).items ≡ map counts_of (map (noted p outcome) ts) =
     λ ts are. with_items_is old.counts c.count_offered.new.counts many ∙ c.count_offered.ensures ts (c.deref_mut.ensures.value ∙ are)
     in
-    let after : Recorder = record old { router = c.offer-outcome.new.self; counts = with_items old.counts c.count_offered.new.counts; evicted = c.keep_evicted.new.self.evicted } in
+    let after : ScriptRouter = record old { router = c.offer-outcome.new.self; counts = with_items old.counts c.count_offered.new.counts; evicted = c.keep_evicted.new.self.evicted } in
     λ setup events at.
-    subst (λ (r : Recorder). IsAt setup (events ++ offered p outcome ∷ []) r) (sym c.in_ok-keep_evicted.ensures.kept)
+    subst (λ (r : ScriptRouter). IsAt setup (events ++ offered p outcome ∷ []) r) (sym c.in_ok-keep_evicted.ensures.kept)
     (IsAt-offered setup events old after p outcome at c.offer-outcome.ensures.goes_on c.has_happened.ensures counted c.in_ok-keep_evicted.ensures.evicted)

@@ -1,6 +1,6 @@
 use Rattle.std.proofs.Common.{refl}
-use Rattle.clk_script.proofs.RecorderLemmas.{StaysElsewhere-closed, LeadsOnByDrain-closed}
-use Rattle.clk_script.proofs.recorder.Recorder.drain.Goals as goal
+use Rattle.clk_script.proofs.ScriptRouterLemmas.{StaysElsewhere-closed, LeadsOnByDrain-closed}
+use Rattle.clk_script.proofs.script_router.ScriptRouter.drain.Goals as goal
 
 pub returns-clause-leads : goal.returns-clause-leads
 returns-clause-leads c =

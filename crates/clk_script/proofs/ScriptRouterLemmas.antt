@@ -1,4 +1,4 @@
--- How a recorder goes on, and what it can do next.
+-- How the router of a script goes on, and what it can do next.
 use Rattle.std.proofs.Common.{◌≡◌, ℕ, ◌+◌, ◌<◌, ◌≤◌, ◌==◌, Bool, true, false, List, [], ◌∷◌, ◌++◌, length, map, filter, max, fold, append-nil, Option, Some, None, slice_get, refl, sym, ap, ap₂, ◌∙◌, subst, arith}
 use Rattle.std.specs.List.{flat_map, filter_map, range_with_len, AllByRecursion}
 use Rattle.std.proofs.lemmas.List.{length-map}
@@ -18,19 +18,19 @@ use Rattle.clk_tree.specs.PlanParts.{number_of}
 use Rattle.clk_router.specs.Course.{Course, after, events_of, accepted_at, IsPulled, IsClosed, CanOffer, CanPull, CanClose}
 use Rattle.clk_router.specs.Events.{Setup, sender_numbers, Event, offered, pulled, happens_at, events_at, number_from, pull_in, moment_in, accepted_in, evicted_in, tally_after, CanHappen, pulls_from, Closes}
 use Rattle.clk_router.proofs.Callers.Events.{pulls-elsewhere, pulls-add_none}
-use Rattle.clk_script.specs.declared.recorder.Recorder.{Recorder}
+use Rattle.clk_script.specs.declared.script_router.ScriptRouter.{ScriptRouter}
 use Rattle.clk_script.specs.Script.{most_lines, most_moment}
 use Rattle.clk_script.specs.Meaning.{has_several, command_of, given_text, closing_text}
-use Rattle.clk_script.specs.inside.Recorder.{noted, names_in, numbers_in, evicted_kept, IsAt, IsReadable, IsReady, LeadsOnByPull, departure_text, LeadsOnByDrain, StaysElsewhere}
+use Rattle.clk_script.specs.inside.ScriptRouter.{noted, names_in, numbers_in, evicted_kept, IsAt, IsReadable, IsReady, LeadsOnByPull, departure_text, LeadsOnByDrain, StaysElsewhere}
 use Rattle.clk_script.proofs.CountLemmas.{numbers-counted, length-filter-le, length-filter_map-le}
 use Rattle.clk_script.proofs.TallyLemmas.{tallies-offered, tallies-pulled, tallies-closed, map-tallies}
 
 -- whose the counts are
-pub numbers-its : (setup : Setup) (events : List Event) (r : Recorder) → IsAt setup events r → numbers_in r.counts.items ≡ sender_numbers setup
+pub numbers-its : (setup : Setup) (events : List Event) (r : ScriptRouter) → IsAt setup events r → numbers_in r.counts.items ≡ sender_numbers setup
 numbers-its setup events r at = ap numbers_in at.counts ∙ numbers-counted (map (tally_after events) (sender_numbers setup)) ∙ map-tallies events (sender_numbers setup)
 
 -- A packet more was offered.
-pub IsAt-offered : (setup : Setup) (events : List Event) (old new : Recorder) (p : Packet) (outcome : Offered) → IsAt setup events old → new.router ≡ after old.router (offered p outcome ∷ [])
+pub IsAt-offered : (setup : Setup) (events : List Event) (old new : ScriptRouter) (p : Packet) (outcome : Offered) → IsAt setup events old → new.router ≡ after old.router (offered p outcome ∷ [])
     → CanHappen new.router.setup new.router.events → ((ts : List Tally) → old.counts.items ≡ map counts_of ts → new.counts.items ≡ map counts_of (map (noted p outcome) ts)) → new.evicted.items ≡ evicted_kept outcome old.evicted.items → IsAt setup (events ++ offered p outcome ∷ []) new
 IsAt-offered setup events old new p outcome at goes_on can counted evicted =
     record {
@@ -53,7 +53,7 @@ IsAt-offered setup events old new p outcome at goes_on can counted evicted =
     fronts (Evicted front) = refl
 
 -- A device was pulled once more.
-pub LeadsOnByPull-pulled : (setup : Setup) (events : List Event) (old new : Recorder) (d moment : ℕ) (got : Option Packet) → IsAt setup events old → IsPulled old.router new.router d moment got
+pub LeadsOnByPull-pulled : (setup : Setup) (events : List Event) (old new : ScriptRouter) (d moment : ℕ) (got : Option Packet) → IsAt setup events old → IsPulled old.router new.router d moment got
     → CanHappen new.router.setup new.router.events → new.counts ≡ old.counts → new.evicted ≡ old.evicted → LeadsOnByPull setup new d moment got events
 LeadsOnByPull-pulled setup events old new d moment got at pull can counts evicted =
     record {
@@ -90,7 +90,7 @@ module _ (several : Bool) (d : ℕ) where
       ∙ sym (flat_map-append (departure_text several d) (departure_at (moment_of pull) got) (departures_in more))
 
 -- A device was closed.
-module _ (old new : Recorder) (d moment : ℕ) (departures : List Departure) (closed : IsClosed old.router new.router d moment departures) where
+module _ (old new : ScriptRouter) (d moment : ℕ) (departures : List Departure) (closed : IsClosed old.router new.router d moment departures) where
   -- which happened there alone
   pub StaysElsewhere-closed : StaysElsewhere d old.router new.router
   StaysElsewhere-closed k other =
@@ -153,8 +153,8 @@ readable-moments setup d (pulled device moment visits ∷ events) before h all =
     by_test true e counted same = rw e counted
     by_test false e counted same = rw e same
 
--- What a recorder that is ready can do next.
-module _ (r : Recorder) (ready : IsReady r) where
+-- What a router that is ready can do next.
+module _ (r : ScriptRouter) (ready : IsReady r) where
   few-at : (d : ℕ) → length (events_of r.router d) ≤ most_lines
   few-at d = let some = length-filter-le (happens_at r.router.setup d) r.router.events in let few = ready.few in omega (arith, some, few)
 

@@ -11,7 +11,7 @@ use std::alloc::Global;
 
 /// A router, with the packets that an answer to a script tells of.
 #[derive(Drop)]
-pub struct Recorder {
+pub struct ScriptRouter {
     pub router: Router,
     /// The counts of the packets of each sender, at its place.
     counts: Vec<Counts>,
@@ -21,16 +21,16 @@ pub struct Recorder {
     evicted: Vec<Packet>,
 }
 
-impl Recorder {
+impl ScriptRouter {
     ghost use Rattle.std.specs.Prelude.{◌≡◌, ◌++◌, ◌∷◌, ◌≤◌, [], Some, true, false, IfOk, OnOk, IsOkUnless};
     ghost use Rattle.clk_packet.specs.declared.fault.Fault.TheVariants.{Memory};
     ghost use Rattle.clk_router.specs.Course.{sender_at, CanPull, CanClose, IsOpened};
     ghost use Rattle.clk_router.specs.Events.{Setup, offered};
-    ghost use Rattle.clk_script.specs.inside.Recorder.{evicted_kept, given_kept, IsAt, IsPlace, IsReady, IsPastOf, LeadsOnByPull, LeadsOnByDrain, Starts, StaysElsewhere, ChangesGiven};
+    ghost use Rattle.clk_script.specs.inside.ScriptRouter.{evicted_kept, given_kept, IsAt, IsPlace, IsReady, IsPastOf, LeadsOnByPull, LeadsOnByDrain, Starts, StaysElsewhere, ChangesGiven};
 
-    /// A recorder of the router of a plan, before anything has happened. `visits` says whether its devices keep their visits. Fault 1 if an
+    /// The router of a plan, before anything has happened. `visits` says whether its devices keep their visits. Fault 1 if an
     /// allocation fails.
-    pub fn new(alloc: Global, plan: &Plan, visits: bool) -> Result<Recorder, Fault>
+    pub fn new(alloc: Global, plan: &Plan, visits: bool) -> Result<ScriptRouter, Fault>
         ensures opened { IfOk result (λ r. IsOpened plan.now (record { visits = visits; packed = false; packets = true }) r.router) }
         ensures starts { IfOk result (λ r. Starts r.router.setup r) }
         ensures fault { IsOkUnless result Fault.Memory }
@@ -45,7 +45,7 @@ impl Recorder {
         router.has_happened();
         let counts = counts_of_senders(alloc, router.senders())?;
         let _ = router.devices();
-        Ok(Recorder {
+        Ok(ScriptRouter {
             router,
             counts,
             given: Vec::new(alloc),

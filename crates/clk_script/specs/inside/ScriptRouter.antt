@@ -1,4 +1,4 @@
--- What a recorder knows of its router, in the words of the definitions.
+-- What the router of a script keeps, in the words of the definitions.
 use Rattle.std.specs.Prelude.{◌≡◌, ℕ, Bool, All, ◌<◌, ◌≤◌, List, [], ◌∷◌, ◌++◌, length, map, true, false, nat_lt, if◌then◌else◌, ◌==◌, ⊤, Option, Some, slice_get}
 use Rattle.std.specs.List.{list_any, flat_map, filter_map, cons_option, AllByRecursion}
 use Rattle.clk_packet.specs.declared.packet.Packet.{Packet}
@@ -17,7 +17,7 @@ use Rattle.clk_sched.specs.Results.{emitted}
 use Rattle.clk_router.specs.Course.{Course, events_of}
 use Rattle.clk_router.specs.Events.{Setup, sender_numbers, Event, pulled, events_at, evicted_in, tally_after, logs_of, CanHappen, Closes}
 use Rattle.clk_script.specs.declared.past.Past.{Past}
-use Rattle.clk_script.specs.declared.recorder.Recorder.{Recorder}
+use Rattle.clk_script.specs.declared.script_router.ScriptRouter.{ScriptRouter}
 use Rattle.clk_script.specs.declared.script.Command.{Command}
 use Rattle.clk_script.specs.declared.script.Command.TheVariants.{Send, Pull}
 use Rattle.clk_script.specs.declared.script.Line.{Line}
@@ -70,12 +70,12 @@ pub record HasRoomForOne (c : Counts) : Type 0 where
 abbrev pub named_by : List ℕ → ℕ → Names
 named_by numbers devices = record { senders = numbers; devices = devices }
 
--- what a script may name over the router of a recorder
-abbrev pub names_in : Recorder → Names
+-- what a script may name over the router of a script_router
+abbrev pub names_in : ScriptRouter → Names
 names_in r = names_of r.router.setup
 
--- The recorder is where these events lead over a setup.
-pub record IsAt (setup : Setup) (events : List Event) (r : Recorder) : Type 0 where
+-- The router is where these events lead over a setup.
+pub record IsAt (setup : Setup) (events : List Event) (r : ScriptRouter) : Type 0 where
   pub can_happen : CanHappen setup events
   pub setup_is : r.router.setup ≡ setup
   pub events_are : r.router.events ≡ events
@@ -83,7 +83,7 @@ pub record IsAt (setup : Setup) (events : List Event) (r : Recorder) : Type 0 wh
   pub evicted : r.evicted.items ≡ filter_map evicted_in events
 
 -- Nothing has happened over this setup. It has at least one device and not too many, and senders by rising numbers.
-pub record Starts (setup : Setup) (r : Recorder) : Type 0 where
+pub record Starts (setup : Setup) (r : ScriptRouter) : Type 0 where
   pub some : 1 ≤ length setup.trees
   pub few : length setup.trees ≤ most_elements
   pub rising : AreRising (sender_numbers setup)
@@ -110,7 +110,7 @@ IsSound names (Pull device moment) = device < names.devices
 
 -- No more has happened than a script may ask for, so there is room to count one more packet. The counts stand by rising numbers of the
 -- senders.
-pub record IsReady (r : Recorder) : Type 0 where
+pub record IsReady (r : ScriptRouter) : Type 0 where
   pub few : length r.router.events ≤ most_lines
   pub readable : AllByRecursion IsReadable (map command_of r.router.events)
   pub alike : numbers_in r.counts.items ≡ sender_numbers r.router.setup
@@ -122,7 +122,7 @@ abbrev pub AreLogs : Bool → Past → List (List Visit) → Type 0
 AreLogs visits past logs = visits ≡ true → lists_of past.logs.items ≡ logs
 
 -- All that a router did, as it was recorded.
-pub record IsPastOf (r : Recorder) (past : Past) : Type 0 where
+pub record IsPastOf (r : ScriptRouter) (past : Past) : Type 0 where
   pub logs : AreLogs r.router.keeps.visits past (logs_of r.router.setup r.router.events)
   pub emitted : lists_of past.emitted.items ≡ map emitted (logs_of r.router.setup r.router.events)
   pub given : past.given.items ≡ r.given.items
@@ -130,17 +130,17 @@ pub record IsPastOf (r : Recorder) (past : Past) : Type 0 where
   pub counts : past.counts.items ≡ r.counts.items
 
 -- One more pull of a device, at a moment that was handed in, led on from these events to this result.
-pub record LeadsOnByPull (setup : Setup) (new : Recorder) (device moment : ℕ) (got : Option Packet) (events : List Event) : Type 0 where
+pub record LeadsOnByPull (setup : Setup) (new : ScriptRouter) (device moment : ℕ) (got : Option Packet) (events : List Event) : Type 0 where
   pub visits : List Visit
   pub result : result_of (visits_of 0 visits) ≡ got
   pub leads : IsAt setup (events ++ pulled device moment visits ∷ []) new
 
 -- the packets that pulls gave, after one more pull; they are kept only if there are several devices
-abbrev pub given_kept : Recorder → Option Packet → List Packet
+abbrev pub given_kept : ScriptRouter → Option Packet → List Packet
 given_kept r got = if nat_lt 1 (length r.router.setup.trees) then r.given.items ++ cons_option got [] else r.given.items
 
--- Only the kept packets that pulls gave changed in a recorder.
-abbrev pub ChangesGiven : Recorder → Recorder → Type 0
+-- Only the kept packets that pulls gave changed in a script_router.
+abbrev pub ChangesGiven : ScriptRouter → ScriptRouter → Type 0
 ChangesGiven old new = new ≡ record old { given = new.given }
 
 -- the packets that were evicted, after one more offer
@@ -153,7 +153,7 @@ abbrev pub departure_text : Bool → ℕ → Departure → List ℕ
 departure_text several device departure = given_text several device departure.moment (Some departure.packet)
 
 -- A drain of a device from a moment on led on from these events, and emitted these packets.
-pub record LeadsOnByDrain (setup : Setup) (new : Recorder) (device moment : ℕ) (events : List Event) (departures : List Departure) : Type 0 where
+pub record LeadsOnByDrain (setup : Setup) (new : ScriptRouter) (device moment : ℕ) (events : List Event) (departures : List Departure) : Type 0 where
   pub last : List Event
   pub closes : Closes device moment (events_at setup device events) last
   pub lines : flat_map (closing_text (has_several setup)) last ≡ flat_map (departure_text (has_several setup) device) departures
@@ -164,7 +164,7 @@ abbrev pub StaysElsewhere : ℕ → Course → Course → Type 0
 StaysElsewhere device old new = (k : ℕ) → (device == k) ≡ false → events_of new k ≡ events_of old k
 
 -- The drain of the first `devices` devices from a moment on led on from these events.
-pub record LeadsOnByClosing (setup : Setup) (new : Recorder) (moment devices : ℕ) (events : List Event) : Type 0 where
+pub record LeadsOnByClosing (setup : Setup) (new : ScriptRouter) (moment devices : ℕ) (events : List Event) : Type 0 where
   pub closed : List Event
   pub closes : CloseFirst setup moment devices events closed
   pub leads : IsAt setup (events ++ closed) new
