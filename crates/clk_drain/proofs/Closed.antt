@@ -8,7 +8,8 @@ use Rattle.clk_sched.specs.Tree.{Tree, leaves_distinct}
 use Rattle.clk_sched.specs.Conservation.{ConservesPackets, ConservesCounts, MakesNothing}
 use Rattle.clk_sched.specs.Results.{emitted}
 use Rattle.clk_sched.specs.Keeps.{keeps_visits, keeps_emitted, TellsEmitted}
-use Rattle.clk_sched.specs.Session.{Progress, SessionLists, counted_moment, IsDrained, GivesAll}
+use Rattle.clk_sched.specs.Session.{Progress, SessionLists, counted_moment, IsDrained}
+use Rattle.clk_sched.specs.Drain.{GivesAll}
 use Rattle.clk_drain.specs.Line.{LineLists, seats_in, senders_at, HaveOwnSenders}
 use Rattle.clk_drain.specs.Closing.{left_over, queue_of_line, device_of, tallies_in, AreInOrder, HasSent, IsDrainedTo}
 use Rattle.clk_drain.specs.Outcome.{Device, IsSettledOutcome}

@@ -7,7 +7,7 @@ use Rattle.clk_packet.specs.declared.packet.Packet.{Packet}
 use Rattle.clk_sched.specs.declared.visit.Visit.{Visit}
 use Rattle.clk_packet.specs.Lists.{stands_in, AreRising}
 use Rattle.clk_sched.specs.Tree.{Tree, is_number, queue_at}
-use Rattle.clk_sched.specs.Places.{at_queue, Answers, tree_queue}
+use Rattle.clk_sched.specs.Answers.{at_queue, Answers, tree_queue}
 use Rattle.clk_sched.specs.Results.{asks_queue, leaf_packets}
 use Rattle.clk_drain.specs.Line.{LineLists, leaves_of, pulling, pulling_all, packets_of, answered, PullsAt, AreLinesOf}
 

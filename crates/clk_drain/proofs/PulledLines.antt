@@ -6,9 +6,10 @@ use Rattle.clk_packet.specs.declared.packet.Packet.{Packet}
 use Rattle.clk_packet.specs.declared.fault.Fault.{Fault}
 use Rattle.clk_sched.specs.declared.visit.Visit.{Visit}
 use Rattle.clk_sched.specs.Tree.{Tree}
-use Rattle.clk_sched.specs.Places.{at_queue, Answers, tree_queue}
+use Rattle.clk_sched.specs.Answers.{at_queue, Answers, tree_queue}
 use Rattle.clk_sched.specs.Results.{leaf_packets}
-use Rattle.clk_sched.specs.Session.{Progress, SessionLists, progress_of, newly, counted_moment, IsPulledOnce, IsDrained, GivesAll}
+use Rattle.clk_sched.specs.Session.{Progress, SessionLists, progress_of, newly, counted_moment, IsPulledOnce, IsDrained}
+use Rattle.clk_sched.specs.Drain.{GivesAll}
 use Rattle.clk_drain.specs.Line.{LineLists, PullsAt, pulling_all, AreLinesOf, lasting_of, AreStill}
 use Rattle.clk_drain.specs.inside.Parts.{IsDrainOf}
 use Rattle.clk_drain.proofs.Growing.{grown, lines-grown}

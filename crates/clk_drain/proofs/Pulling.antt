@@ -1,15 +1,13 @@
 -- A session that is pulled once each step.
-use Rattle.std.proofs.Common.{◌≡◌, ℕ, ◌+◌, ◌*◌, ◌<◌, ◌≤◌, zero, suc, Bool, List, [], ◌∷◌, ◌++◌, length, map, max, reverse, Option, refl, sym, ap, ◌∙◌, arith, lit<, length-append}
+use Rattle.std.proofs.Common.{◌≡◌, ℕ, ◌+◌, ◌*◌, zero, suc, Bool, List, [], ◌∷◌, ◌++◌, length, map, max, reverse, Option, refl, sym, ap, ◌∙◌, arith, length-append}
 use Rattle.std.proofs.Math.Nat.{suc-mul, zero-mul}
-use Rattle.std.proofs.lemmas.List.{reverse-append, map-append, length-map}
+use Rattle.std.proofs.lemmas.List.{reverse-append, map-append}
 use Rattle.clk_packet.specs.declared.packet.Packet.{Packet}
 use Rattle.clk_sched.specs.declared.visit.Visit.{Visit}
-use Rattle.clk_sched.specs.Limits.{end_of_drained_pulls}
 use Rattle.clk_sched.specs.Log.{pulls, moment_of}
 use Rattle.clk_sched.specs.Results.{leaf_packets}
-use Rattle.clk_sched.specs.Session.{Progress, latest_moment, counted_moment, newly, IsPulledOnce, pulls_made}
+use Rattle.clk_sched.specs.Session.{Progress, latest_moment, counted_moment, newly, IsPulledOnce}
 use Rattle.clk_drain.specs.Line.{LineLists, pulling_all, AreLinesOf}
-use Rattle.clk_gate.specs.Limits.{most_limit}
 use Rattle.clk_drain.specs.Moments.{steps}
 use Rattle.clk_drain.specs.inside.Threads.{Terms, Feed, IsUnpulled, IsPulledAt, IsPulledFor}
 use Rattle.clk_drain.proofs.Growing.{all-none, all-twice}
@@ -66,13 +64,7 @@ pulled-at moment old new visits kept before after got once kind own took =
       moments = ap (map moment_of) once.last ∙ map-append moment_of (pulls old.log) (newly old new ∷ []) ∙ ap (λ n. map moment_of (pulls old.log) ++ n ∷ []) (sym is_last);
     }
 
--- A session that was pulled once each step was pulled so often: far less often than any session may be.
+-- A session that was pulled once each step was pulled so often.
 pub steps-count : (step made : ℕ) → length (steps step made) ≡ made
 steps-count step zero = refl
 steps-count step (suc made) = let more = length-append (steps step made) (suc made * step ∷ []) in let rest = steps-count step made in omega (arith, more, rest)
-
-pub pulls-few : (feed : Progress) (step limit made : ℕ) → map moment_of (pulls feed.log) ≡ steps step made → made ≤ limit → limit ≤ most_limit → pulls_made feed < end_of_drained_pulls
-pulls-few feed step limit made moments within most =
-    let count : pulls_made feed ≡ made = sym (length-map (pulls feed.log) moment_of) ∙ ap length moments ∙ steps-count step made in
-    let far : most_limit < end_of_drained_pulls = lit< tt in
-    omega (arith, count, within, most, far)

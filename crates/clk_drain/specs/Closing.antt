@@ -10,7 +10,8 @@ use Rattle.clk_packet.specs.declared.fault.Fault.TheVariants.{Memory}
 use Rattle.clk_ruled.specs.Queue.{SeatLists, AreNumbered, IsDealt}
 use Rattle.clk_ruled.specs.Settle.{accepted_count, evicted_count, all_evicted, tally_of}
 use Rattle.clk_sched.specs.declared.visit.Visit.{Visit}
-use Rattle.clk_sched.specs.Session.{Progress, counted_moment, GivesAll}
+use Rattle.clk_sched.specs.Session.{Progress, counted_moment}
+use Rattle.clk_sched.specs.Drain.{GivesAll}
 use Rattle.clk_sched.specs.Results.{emitted as emitted_in}
 use Rattle.clk_drain.specs.declared.drained.Drained.{Drained}
 use Rattle.clk_drain.specs.Line.{LineLists, seats_of, seats_in, senders_at}

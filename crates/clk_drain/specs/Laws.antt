@@ -2,7 +2,7 @@
 use Rattle.std.specs.Prelude.{◌≡◌, List}
 use Rattle.clk_sched.specs.declared.visit.Visit.{Visit}
 use Rattle.clk_sched.specs.Tree.{Tree}
-use Rattle.clk_sched.specs.Places.{Answers, tree_queue}
+use Rattle.clk_sched.specs.Answers.{Answers, tree_queue}
 use Rattle.clk_sched.specs.Results.{leaf_packets}
 use Rattle.clk_drain.specs.Line.{LineLists, pulling_all, PullsAt}
 

@@ -5,9 +5,9 @@ ghost use Rattle.std.specs.List.{AllByRecursion};
 ghost use Rattle.clk_packet.specs.declared.fault.Fault.TheVariants.{Memory};
 ghost use Rattle.clk_sched.specs.Closing.{left_in};
 ghost use Rattle.clk_sched.specs.Drain.{drain_start};
-ghost use Rattle.clk_sched.specs.Keeps.{keeps_visits, IsEndless, TellsEmitted};
-ghost use Rattle.clk_sched.specs.Limits.{most_left, end_of_drains, end_of_drained_pulls};
-ghost use Rattle.clk_sched.specs.Session.{progress_of, pulls_made};
+ghost use Rattle.clk_sched.specs.Keeps.{keeps_visits, TellsEmitted};
+ghost use Rattle.clk_sched.specs.Limits.{most_left, end_of_drains};
+ghost use Rattle.clk_sched.specs.Session.{progress_of};
 ghost use Rattle.clk_drain.specs.Line.{AreLinesOf, HaveOwnSenders};
 ghost use Rattle.clk_drain.specs.Closing.{accepted_over, evicted_over, left_over, seated, AreInOrder, tallies_in, IsDrainedOver, IsFaultOfDrain};
 ghost use Rattle.clk_drain.specs.Lost.{HasReached, NamesFirstLost};
@@ -45,7 +45,6 @@ pub fn close_and_drain<W: Wait>(
     requires senders { HaveOwnSenders lines.items }
     requires few { accepted_over lines.items ≤ most_left }
     requires moment { drain_start session moment < end_of_drains }
-    requires pulls { IsEndless session → pulls_made (progress_of session) < end_of_drained_pulls }
     ensures drained { keeps_visits session.keeps ≡ true → session.gone ≡ 0 → IfOk result (IsDrainedOver (progress_of session) lines.items moment) }
     ensures fault { IfErr result (IsFaultOfDrain lines.items) }
 {
@@ -69,7 +68,6 @@ pub(crate) fn close<W: Wait>(
     requires senders { HaveOwnSenders lines.items }
     requires few { accepted_over lines.items ≤ most_left }
     requires moment { drain_start session moment < end_of_drains }
-    requires pulls { IsEndless session → pulls_made (progress_of session) < end_of_drained_pulls }
     ensures drained { TellsEmitted session → IfOk result (IsDrainedAs (progress_of session) (keeps_visits session.keeps) lines.items moment) }
     ensures reached { OnOk result (AllByRecursion HasReached (map seated lines.items)) }
     ensures fault { IfErr result (IsFaultOfDrain lines.items) }
@@ -120,7 +118,6 @@ fn drain<W: Wait>(
     requires few { left ≤ most_left }
     requires left { left ≡ left_in session.tree session.log (held_at lines.items) }
     requires moment { drain_start session moment < end_of_drains }
-    requires pulls { IsEndless session → pulls_made (progress_of session) < end_of_drained_pulls }
     ensures drained { IfOk result (λ drained. IsDrainOf (progress_of session) lines.items moment left (progress_of drained.0) drained.1.items) }
     ensures keeps { IfOk result (λ drained. drained.0.keeps ≡ session.keeps) }
     ensures gone { IfOk result (λ drained. drained.0.gone ≡ session.gone) }

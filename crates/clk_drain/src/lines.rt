@@ -34,9 +34,8 @@ impl<'a, W: Wait> Model for Lines<'a, W> {
 
 impl<'a, W: Wait> Lines<'a, W> {
     ghost use Rattle.std.specs.Prelude.{◌≡◌, ◌<◌, IfOk, OnErr, IsOkUnless};
-    ghost use Rattle.clk_sched.specs.Limits.{end_of_moments, end_of_pulls};
-    ghost use Rattle.clk_sched.specs.Keeps.{IsEndless};
-    ghost use Rattle.clk_sched.specs.Session.{IsPulledOnce, progress_of, pulls_made};
+    ghost use Rattle.clk_sched.specs.Limits.{end_of_moments};
+    ghost use Rattle.clk_sched.specs.Session.{IsPulledOnce, progress_of};
     ghost use Rattle.clk_packet.specs.Lists.{AreRising};
     ghost use Rattle.clk_drain.specs.Line.{AreStill, AreLinesOf, leaves_of};
 
@@ -62,7 +61,6 @@ impl<'a, W: Wait> Lines<'a, W> {
     /// Fault 1 if an allocation fails. Then nothing has changed, and nothing was asked.
     pub fn pull(&mut self, session: &mut Session, moment: u64) -> Result<Option<Packet>, Fault>
         requires moment { moment < end_of_moments }
-        requires pulls { IsEndless session.old → pulls_made (progress_of session.old) < end_of_pulls }
         requires lines { AreLinesOf (progress_of session.old) self.old }
         ensures pulled { IfOk result (IsPulledOnce (progress_of session.old) (progress_of session.new) moment) }
         ensures keeps { session.new.keeps ≡ session.old.keeps }

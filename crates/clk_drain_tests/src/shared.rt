@@ -14,7 +14,7 @@ ghost use Rattle.clk_drain.specs.Closing.{accepted_over};
 use clk_drain::{Drained, Line, Lines, close_and_drain};
 use clk_packet::{Fault, Kind, Packet};
 use clk_ruled::{Opened, RuledQueue, Seat, Tap, calls_keep_together};
-use clk_sched::{END_OF_DRAINED_PULLS, END_OF_DRAINS, END_OF_PULLS, Session, Tree, Visit};
+use clk_sched::{END_OF_DRAINS, Session, Tree, Visit};
 use std::alloc::Global;
 use std::process::Abort;
 use std::sync::Wait;
@@ -147,13 +147,11 @@ pub fn close<R: Abort + Wait>(
     let mut session = Session::new(alloc, tree)?;
     let mut lines = Lines::new(rt, lines);
     for packet in before {
-        assert!(rt; session.pulls() < END_OF_PULLS);
         assert_eq!(rt; lines.pull(&mut session, 0)?, Some(*packet));
     }
     let lines = lines.into_vec();
     assert_apart(rt, &senders(rt, alloc, &lines)?);
     assert!(rt; session.now().max(moment) < END_OF_DRAINS);
-    assert!(rt; session.pulls() < END_OF_DRAINED_PULLS);
     close_and_drain(alloc, rt, session, lines, moment)
 }
 

@@ -6,7 +6,7 @@ ghost use Rattle.clk_report.specs.Counts.{HasRoom};
 ghost use Rattle.clk_report.specs.Devices.{all_emitted};
 ghost use Rattle.clk_report.specs.inside.Totals.{AreTotals};
 
-use crate::senders::MAX_DEVICES;
+use crate::reports::MAX_DEVICES;
 use clk_packet::{MAX_SENDER, Packet};
 
 /// How many senders there may be at most.

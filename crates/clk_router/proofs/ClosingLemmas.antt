@@ -1,5 +1,5 @@
 -- How a device of a router closes.
-use Rattle.std.proofs.Common.{◌≡◌, ℕ, ◌+◌, ◌<◌, ◌==◌, zero, suc, Bool, true, false, List, [], ◌∷◌, ◌++◌, length, drop, map, reverse, max, fold, append-nil, Option, Some, MatchOption, Result, Ok, Err, IfOk, IsOkUnless, slice_get, refl, sym, ap, ap₂, ◌∙◌, subst, arith}
+use Rattle.std.proofs.Common.{◌≡◌, ℕ, ◌+◌, ◌<◌, ◌==◌, zero, suc, Bool, true, false, List, [], ◌∷◌, ◌++◌, length, drop, map, reverse, max, fold, append-nil, Option, Some, MatchOption, slice_get, refl, sym, ap, ap₂, ◌∙◌, subst, arith}
 use Rattle.std.specs.Bool.{⊤}
 use Rattle.std.specs.List.{filter_map, flat_map, range_with_len}
 use Rattle.std.proofs.lemmas.List.Elements.{filter-append}
@@ -13,15 +13,12 @@ use Rattle.clk_ring.specs.Laws.{CallsAreHistory}
 use Rattle.clk_sched.specs.Tree.{Tree}
 use Rattle.clk_sched.specs.Log.{pulls, moment_of}
 use Rattle.clk_sched.specs.Run.{IsRun}
-use Rattle.clk_sched.specs.Places.{Answers, tree_queue}
+use Rattle.clk_sched.specs.Answers.{Answers, tree_queue}
 use Rattle.clk_sched.specs.Results.{emitted}
-use Rattle.clk_sched.specs.Drain.{drain_start, HasDrained, after_pulls}
-use Rattle.clk_sched.specs.Session.{Progress, SessionLists, given_in, IsDrained, GivesAll, newly, latest_moment, counted_moment, progress_of}
+use Rattle.clk_sched.specs.Drain.{GivesAll}
+use Rattle.clk_sched.specs.Session.{given_in, IsDrained, newly, latest_moment, counted_moment, progress_of}
 use Rattle.clk_sched.specs.Departures.{departures_in, pulls_since}
 use Rattle.clk_sched.specs.declared.session.departures.Departure.{Departure}
-use Rattle.clk_packet.specs.declared.packet.Packet.{Packet}
-use Rattle.clk_packet.specs.declared.fault.Fault.{Fault}
-use Rattle.clk_packet.specs.declared.fault.Fault.TheVariants.{Memory, TooManyPulls}
 use Rattle.clk_router.specs.declared.devices.Device.{Device}
 use Rattle.clk_router.specs.declared.parts.Parts.{Parts}
 use Rattle.clk_router.specs.Events.{Setup, Event, pulled, happens_at, events_at, moment_in, accepted_in, evicted_in, visits_in, log_of, at_queue, history, RunsTree, closing_pulls}
@@ -156,30 +153,6 @@ closes-by calls setup events old new d moment made left before after departures 
       emitted = told ∙ ap departures_in (ap (drop (length (pulls before.session.log))) all.drained.pulls_are ∙ drop-append_seam (pulls before.session.log) all.drained.more);
       moments = moments calls setup events old new d moment made left before after at set kept kind all.drained;
     }
-
--- the pulls that were made, whether a drain gave all or stopped short
-pub record SomeDrained (old new : Progress) (moment : ℕ) : Type 0 where
-  pub made : ℕ
-  pub given : ℕ
-  pub drained : IsDrained old new moment made given
-
-pub either-drained : {T S : Type 0} {gives : S → ℕ → Option Packet → S → Type 0} {holds : S → ℕ → ℕ} {before after : S} {old new : SessionLists} {left moment : ℕ} (made : ℕ) (r : Result T Fault) → HasDrained gives holds before after old new left moment (after_pulls made r)
-    → SomeDrained (progress_of old) (progress_of new) (drain_start old moment)
-either-drained {left = left} made (Ok x) h = record { made = made; given = left; drained = h.all.drained }
-either-drained made (Err Memory) h = record { made = h.short.0; given = h.short.1.given; drained = h.short.1.drained }
-either-drained made (Err (TooManyPulls so_many)) h = record { made = so_many; given = h.short.1.given; drained = h.short.1.drained }
-either-drained made (Err fault) h = absurd h.short
-
--- what follows from a drain that gave all, and from what it returns
-pub drained-ok : {T S : Type 0} {gives : S → ℕ → Option Packet → S → Type 0} {holds : S → ℕ → ℕ} {before after : S} {old new : SessionLists} {left moment : ℕ} {P R : T → Type 0} (made : ℕ) (r : Result T Fault)
-    → ((x : T) → GivesAll (progress_of old) (progress_of new) (drain_start old moment) made left → P x → R x) → HasDrained gives holds before after old new left moment (after_pulls made r) → IfOk r P → IfOk r R
-drained-ok made (Ok x) step h p = step x h.all p
-drained-ok made (Err fault) step h p = tt
-
--- a fault of a drain is one of what returns something else than the number of its pulls
-pub unless-after : {T : Type 0} (made : ℕ) (r : Result T Fault) (fault : Fault) → IsOkUnless (after_pulls made r) fault → IsOkUnless r fault
-unless-after made (Ok x) fault h = tt
-unless-after made (Err other) fault h = h
 
 -- a device that can be pulled is there, and so is one that can be closed
 pub can-pull : (keeps : Keeps) (devices : List Device) (d : ℕ) → CanPullAt keeps (slice_get devices d) → d < length devices

@@ -14,7 +14,7 @@ use Rattle.clk_ring.specs.QueueHistory.{held, pull_event, IsInOrder, IsQueueHist
 use Rattle.clk_sched.specs.declared.visit.Visit.{Visit}
 use Rattle.clk_sched.specs.Due.{IsDue, turns_in, tree_could_emit, GetsFromBacklogged, EmitsOnceDue}
 use Rattle.clk_sched.specs.Log.{pulls, moment_of, visits_of, result_of}
-use Rattle.clk_sched.specs.Places.{tree_queue}
+use Rattle.clk_sched.specs.Answers.{tree_queue}
 use Rattle.clk_sched.specs.Results.{asks_queue}
 use Rattle.clk_sched.specs.Session.{latest_moment, counted_moment, progress_of}
 use Rattle.clk_sched.specs.Run.{IsRun}

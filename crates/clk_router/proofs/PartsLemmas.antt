@@ -23,7 +23,7 @@ use Rattle.clk_sched.specs.Tree.{Tree, is_number}
 use Rattle.clk_sched.specs.Log.{pulls, visits_of, result_of}
 use Rattle.clk_sched.specs.Run.{IsRun}
 use Rattle.clk_sched.specs.Results.{asks_queue}
-use Rattle.clk_sched.specs.Places.{Answers, at_queue as at_asked, tree_queue}
+use Rattle.clk_sched.specs.Answers.{Answers, at_queue as at_asked, tree_queue}
 use Rattle.clk_sched.specs.Session.{IsPulledOnce, newly, latest_moment, progress_of}
 use Rattle.clk_tree.specs.declared.plan.parts.QueueSpec.{QueueSpec}
 use Rattle.clk_tree.specs.declared.plan.parts.SenderSpec.{SenderSpec}

@@ -54,13 +54,8 @@ impl CountingRouter {
         ensures opened { IfOk result (IsOpened plan.now keeps_nothing) }
         ensures fault { IsOkUnless result Fault.Memory }
     {
-        let keeps = Keeps {
-            visits: false,
-            packed: false,
-            packets: false,
-        };
         Ok(CountingRouter {
-            router: Router::open(alloc, plan, keeps)?,
+            router: Router::open(alloc, plan, Keeps::NOTHING)?,
             accounts: accounts_of(alloc, plan.senders())?,
             names: plan.sender_names(alloc)?,
         })

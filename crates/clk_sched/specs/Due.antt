@@ -8,7 +8,7 @@ use Rattle.clk_sched.specs.Heads.{head_at}
 use Rattle.clk_sched.specs.Laws.{Manner, in_order, with_heads, manner}
 use Rattle.clk_sched.specs.Laws.Shaper.{has_room}
 use Rattle.clk_sched.specs.Log.{pulls, turn, moment_of, visits_of, result_of}
-use Rattle.clk_sched.specs.Places.{tree_queue}
+use Rattle.clk_sched.specs.Answers.{tree_queue}
 use Rattle.clk_sched.specs.Step.{IsOnePullMore}
 
 -- the turns of a node in a log, the latest first

@@ -20,7 +20,3 @@ keeps_emitted keeps = keeps.packets || keeps_visits keeps
 -- At the end it's known which packets a session emitted: it keeps them, or it keeps its visits, and dropped none.
 abbrev pub TellsEmitted : SessionLists → Type 0
 TellsEmitted s = (keeps_emitted s.keeps ≡ true) × (s.gone ≡ 0)
-
--- No memory bounds how many pulls a session can have: it keeps no visits, or dropped some.
-abbrev pub IsEndless : SessionLists → Type 0
-IsEndless s = (keeps_visits s.keeps ≡ true → s.gone ≡ 0 → ⊥)

@@ -7,7 +7,7 @@ pub mod Turns
 pub mod Heads
 pub mod Log
 pub mod Laws
-pub mod Places
+pub mod Answers
 pub mod Session
 pub mod Departures
 pub mod Keeps

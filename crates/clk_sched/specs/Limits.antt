@@ -14,10 +14,10 @@ end_of_drains = END_OF_DRAINS
 abbrev pub most_left : ℕ
 most_left = MAX_LEFT
 
--- the number of pulls from which on a session that doesn't hold all its visits is not pulled
+-- the number of pulls from which on a session is not pulled
 abbrev pub end_of_pulls : ℕ
 end_of_pulls = END_OF_PULLS
 
--- the number of pulls from which on a session that doesn't hold all its visits is not drained
+-- the number of pulls below which a drain doesn't come to the end of pulls
 abbrev pub end_of_drained_pulls : ℕ
 end_of_drained_pulls = END_OF_DRAINED_PULLS

@@ -5,7 +5,7 @@ use Rattle.clk_packet.specs.declared.packet.Packet.{Packet}
 use Rattle.clk_sched.specs.declared.visit.Visit.{Visit}
 use Rattle.clk_sched.specs.Tree.{Row, end, leaf, node, Tree, root, width, nodes, is_number}
 use Rattle.clk_sched.specs.Log.{visits_of, in_pull, asks}
-use Rattle.clk_sched.specs.Places.{tree_queue}
+use Rattle.clk_sched.specs.Answers.{tree_queue}
 use Rattle.clk_sched.specs.Heads.{head_at}
 use Rattle.clk_sched.specs.Laws.{Manner, in_order, with_heads, manner}
 

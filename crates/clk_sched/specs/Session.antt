@@ -1,14 +1,11 @@
 -- What contracts see of a session, and what a pull and a drain do to it.
-use Rattle.std.specs.Prelude.{◌≡◌, ℕ, ◌+◌, ◌<◌, ◌≤◌, true, List, [], ◌∷◌, ◌++◌, length, drop, map, reverse, suc, max, is_some, Option, ⊤}
+use Rattle.std.specs.Prelude.{◌≡◌, ℕ, ◌+◌, true, List, [], ◌∷◌, ◌++◌, length, drop, map, reverse, suc, max, is_some, Option, ⊤}
 use Rattle.std.specs.List.{flat_map, filter_map, range_with_len}
 use Rattle.clk_packet.specs.declared.packet.Packet.{Packet}
-use Rattle.clk_packet.specs.declared.fault.Fault.{Fault}
-use Rattle.clk_packet.specs.declared.fault.Fault.TheVariants.{Memory, TooManyPulls}
 use Rattle.clk_sched.specs.declared.visit.Visit.{Visit}
 use Rattle.clk_sched.specs.declared.session.keeps.Keeps.{Keeps}
 use Rattle.clk_sched.specs.Tree.{Row, end, leaf, node, Tree}
 use Rattle.clk_sched.specs.Log.{visits_of, pulls, moment_of, result_of}
-use Rattle.clk_sched.specs.Bound.{closing_bound}
 use Rattle.clk_sched.specs.Run.{IsRun}
 
 -- how many queues and schedulers stand in a row
@@ -79,22 +76,3 @@ abbrev pub LastGives : List (List Visit) → Type 0
 LastGives [] = ⊤
 LastGives (pull ∷ []) = is_some (result_of (visits_of 0 pull)) ≡ true
 LastGives (pull ∷ next ∷ more) = LastGives (next ∷ more)
-
--- A drain emitted all that was left, within the closing bound, and stopped as soon as it had.
-pub record GivesAll (old new : Progress) (moment made left : ℕ) : Type 0 where
-  pub within : made ≤ closing_bound old.tree left
-  pub drained : IsDrained old new moment made left
-  pub stops : LastGives drained.more
-
--- A drain stopped, within the closing bound, before it had emitted all that was left.
-pub record StopsShort (old new : Progress) (moment made left : ℕ) : Type 0 where
-  pub within : made ≤ closing_bound old.tree left
-  pub given : ℕ
-  pub fewer : given < left
-  pub drained : IsDrained old new moment made given
-
--- why a drain stopped short: an allocation failed, or it had made as many pulls as the closing bound
-abbrev pub StopsAt : Progress → Progress → ℕ → ℕ → Fault → Type 0
-StopsAt old new moment left Memory = (made : ℕ) × StopsShort old new moment made left
-StopsAt old new moment left (TooManyPulls made) = (made ≡ closing_bound old.tree left) × StopsShort old new moment made left
-StopsAt old new moment left fault = ⊥

@@ -10,7 +10,8 @@ ghost use Rattle.clk_sched.specs.Results.{Traced, emitted, heads, leaf_packets, 
 ghost use Rattle.clk_sched.specs.Conservation.{IsConserved};
 ghost use Rattle.clk_sched.specs.Bound.{closing_bound};
 ghost use Rattle.clk_sched.specs.LaidOut.{IsRefused};
-ghost use Rattle.clk_sched.specs.Session.{IsPulledOnce, IsDrained, GivesAll, StopsAt};
+ghost use Rattle.clk_sched.specs.Session.{IsPulledOnce, IsDrained};
+ghost use Rattle.clk_sched.specs.Drain.{GivesAll, StopsAt};
 ghost use Rattle.clk_packet.specs.declared.fault.Fault.TheVariants.{Memory, TooManyPulls, TooLarge};
 ghost use Rattle.clk_sched.specs.Examples.{names, first_pulls};
 ghost use Rattle.clk_sched.specs.Examples.Device.{one_queue, one_queue_tree, device_keeps, device_asks_beside, device_asks_twice, moment_falls, moment_falls_later, pull_left_out, unknown_node};

@@ -21,6 +21,7 @@ mod stride;
 
 use crate::ask::Ask;
 use crate::backlog::Backlog;
+use crate::limits::END_OF_PULLS;
 use crate::session::departures::{Departure, Departures};
 use crate::session::emitted::Emitted;
 use crate::session::heads::held_heads;
@@ -36,7 +37,7 @@ use std::alloc::Global;
 use std::marker::Model;
 
 /// A tree of schedulers with all that its nodes hold, and what is kept of the past. Contracts speak of every visit that its nodes made,
-/// whether visits are kept or not. A session that keeps nothing allocates nothing as it goes on, and can be pulled 2^63 times.
+/// whether visits are kept or not. A session can be pulled 2^63 times. If it keeps nothing, it allocates nothing as it goes on.
 #[derive(Drop)]
 pub struct Session {
     tree: Tree,
@@ -82,12 +83,12 @@ impl Session {
     ghost use Rattle.clk_sched.specs.Bound.{closing_bound};
     ghost use Rattle.clk_sched.specs.Results.{emitted, heads};
     ghost use Rattle.clk_packet.specs.declared.fault.Fault.TheVariants.{TooManyPulls};
-    ghost use Rattle.clk_sched.specs.Places.{Answers, tree_queue};
+    ghost use Rattle.clk_sched.specs.Answers.{Answers, tree_queue};
     ghost use Rattle.clk_sched.specs.Drain.{drain_start, HasDrained, after_pulls};
     ghost use Rattle.clk_sched.specs.Session.{IsPulledOnce, counted_moment, elements, newly, progress_of, pulls_made};
     ghost use Rattle.clk_sched.specs.Departures.{departures_in, pulls_since, IsAddedTo};
     ghost use Rattle.clk_sched.specs.declared.session.departures.Departures.TheVariants.{Dropped};
-    ghost use Rattle.clk_sched.specs.Keeps.{keeps_all, keeps_nothing, keeps_visits, IsEndless};
+    ghost use Rattle.clk_sched.specs.Keeps.{keeps_all, keeps_nothing, keeps_visits};
     ghost use Rattle.clk_sched.specs.Due.{IsDue, tree_could_emit};
 
     /// A session of this tree, in which no queue stands twice, before its first pull. It keeps every visit and every packet that the device
@@ -103,12 +104,7 @@ impl Session {
         ensures refused { IfErr result (λ fault. IsRefused tree fault) }
         ensures too_large { most_elements < 1 + elements (root tree) → result ≡ Err Fault.TooLarge }
     {
-        let keeps = Keeps {
-            visits: true,
-            packed: false,
-            packets: true,
-        };
-        Session::keeping(alloc, tree, keeps)
+        Session::keeping(alloc, tree, Keeps::ALL)
     }
 
     /// A session as `new` makes it, which keeps of the past what `keeps` says.
@@ -132,24 +128,27 @@ impl Session {
     }
 
     /// Pulls the device once, and returns the packet that it emitted, if any. `moment`, in ticks, is below 2^44. A moment that is earlier
-    /// than the latest so far counts as that. A session that doesn't have all its visits in memory was pulled fewer than 2^63 times before.
+    /// than the latest so far counts as that.
     ///
     /// # Errors
     ///
-    /// Fault 1 if an allocation fails. Then nothing has changed, and no queue was asked. It never comes if nothing is kept.
+    /// Fault 1 if an allocation fails, or if 2^63 pulls were made before. Then nothing has changed, and no queue was asked. A session that
+    /// keeps nothing allocates nothing.
     #[inline(always)]
     pub fn pull<Q: Ask>(&mut self, q: &mut Q, moment: u64) -> Result<Option<Packet>, Fault>
         requires moment { moment < end_of_moments }
-        requires pulls { IsEndless self.old → pulls_made (progress_of self.old) < end_of_pulls }
         ensures pulled { IfOk result (IsPulledOnce (progress_of self.old) (progress_of self.new) moment) }
         ensures answers { OnOk result (Answers Q.gives (tree_queue self.old.tree) q.old (newly (progress_of self.old) (progress_of self.new)) q.new) }
         ensures keeps { self.new.keeps ≡ self.old.keeps }
         ensures gone { self.new.gone ≡ self.old.gone }
         ensures fault { IsOkUnless result Fault.Memory }
-        ensures unkept { self.old.keeps ≡ keeps_nothing → IsOk result }
+        ensures unkept { self.old.keeps ≡ keeps_nothing → pulls_made (progress_of self.old) < end_of_pulls → IsOk result }
         ensures unchanged { OnErr result (self.new ≡ self.old) }
         ensures unasked { OnErr result (q.new ≡ q.old) }
     {
+        if self.nodes.pull >= END_OF_PULLS {
+            return Err(Fault::Memory);
+        }
         let edges = usize::from(self.nodes.inputs[DEVICE as usize].edges);
         self.nodes.log.reserve(edges)?;
         self.emitted.reserve(1)?;
@@ -177,19 +176,19 @@ impl Session {
 
     /// Pulls the device until `left` packets, 1,000,000 at most, were emitted, and returns the number of pulls. The pulls are one tick
     /// apart, the first one tick after the later of `moment` and the latest moment so far. That later moment is below 2^43 - 1. If `left`
-    /// is 0, it makes no pull. A session that doesn't have all its visits in memory was pulled fewer than 2^62 times before.
+    /// is 0, it makes no pull.
     ///
     /// # Errors
     ///
-    /// Fault 1 if an allocation fails, which never happens if nothing is kept. Fault 17, with the number of pulls, if `bound(left)` pulls
+    /// Fault 1 if a pull fails, which never happens to a session that keeps nothing before it was pulled 2^62 times. Fault 17, with the number of pulls, if `bound(left)` pulls
     /// emitted fewer packets. The session then holds the pulls that were made. Fault 17 never comes if `q` loses nothing, and the heads and
     /// the leaves of the tree together hold exactly `left` packets.
     pub fn drain<Q: Ask>(&mut self, q: &mut Q, left: u64, moment: u64) -> Result<u64, Fault>
         requires left { left ≤ most_left }
         requires moment { drain_start self.old moment < end_of_drains }
-        requires pulls { IsEndless self.old → pulls_made (progress_of self.old) < end_of_drained_pulls }
         ensures drained { HasDrained Q.gives Q.holds q.old q.new self.old self.new left moment result }
-        ensures unkept { self.old.keeps ≡ keeps_nothing → IsOkUnless result (TooManyPulls (closing_bound self.old.tree left)) }
+        ensures unkept { self.old.keeps ≡ keeps_nothing → pulls_made (progress_of self.old) < end_of_drained_pulls
+            → IsOkUnless result (TooManyPulls (closing_bound self.old.tree left)) }
     {
         self.drain_to(q, &mut Departures::Dropped, left, moment)
     }
@@ -204,9 +203,9 @@ impl Session {
     ) -> Result<u64, Fault>
         requires left { left ≤ most_left }
         requires moment { drain_start self.old moment < end_of_drains }
-        requires pulls { IsEndless self.old → pulls_made (progress_of self.old) < end_of_drained_pulls }
         ensures drained { HasDrained Q.gives Q.holds q.old q.new self.old self.new left moment result }
-        ensures unkept { self.old.keeps ≡ keeps_nothing → departures.old ≡ Dropped → IsOkUnless result (TooManyPulls (closing_bound self.old.tree left)) }
+        ensures unkept { self.old.keeps ≡ keeps_nothing → pulls_made (progress_of self.old) < end_of_drained_pulls → departures.old ≡ Dropped
+            → IsOkUnless result (TooManyPulls (closing_bound self.old.tree left)) }
         ensures departures { IsAddedTo departures.old (departures_in (pulls_since (progress_of self.old) (progress_of self.new))) departures.new }
     {
         // Reading a field brings the type invariant into scope: the log is a run.
@@ -246,7 +245,6 @@ impl Session {
     ) -> Result<Vec<Departure>, Fault>
         requires left { left ≤ most_left }
         requires moment { drain_start self.old moment < end_of_drains }
-        requires pulls { IsEndless self.old → pulls_made (progress_of self.old) < end_of_drained_pulls }
         ensures drained { (made : ℕ) × HasDrained Q.gives Q.holds q.old q.new self.old self.new left moment (after_pulls made result) }
         ensures departures { IfOk result (λ departures. departures.items ≡ departures_in (pulls_since (progress_of self.old) (progress_of self.new))) }
     {

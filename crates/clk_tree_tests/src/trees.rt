@@ -4,7 +4,7 @@ use crate::row::{plan_of, session_of};
 use clk_packet::Packet;
 use clk_rows::NESTED_DEFICIT;
 use clk_rows::trees::TWO_DEVICES;
-use clk_sched::{Ask, END_OF_PULLS, Session};
+use clk_sched::{Ask, Session};
 use clk_tree::Plan;
 use std::alloc::Global;
 use std::process::Abort;
@@ -68,7 +68,6 @@ fn asked_first(rt: &impl Abort, session: &mut Session) -> [u32; 3] {
         order: [0; 3],
         count: 0,
     };
-    assert!(rt; session.pulls() < END_OF_PULLS);
     assert_eq!(rt; session.pull(&mut asked, 0), Ok(None));
     asked.order
 }

@@ -4,7 +4,8 @@ use Rattle.std.specs.List.{slice_index_or, AllByRecursion}
 use Rattle.clk_packet.specs.declared.packet.Packet.{Packet}
 use Rattle.clk_packet.specs.declared.tally.Tally.{Tally}
 use Rattle.clk_ruled.specs.Settle.{AreTogether, IsSettled, accepted_count, evicted_count}
-use Rattle.clk_sched.specs.Session.{Progress, counted_moment, GivesAll}
+use Rattle.clk_sched.specs.Session.{Progress, counted_moment}
+use Rattle.clk_sched.specs.Drain.{GivesAll}
 use Rattle.clk_drain.specs.Line.{LineLists, seats_of, lasting_of, AreStill, AreLinesOf}
 use Rattle.clk_drain.specs.Parts.{HasGathered, IsWithin}
 

@@ -39,8 +39,6 @@ impl<'a, W: Wait> Model for Consumer<'a, W> {
 impl<'a, W: Wait> Consumer<'a, W> {
     ghost use Rattle.std.specs.Prelude.{◌≡◌, ◌<◌, ◌≤◌, ◌*◌, IfOk, OnOk, IsOkUnless};
     ghost use Rattle.clk_packet.specs.declared.fault.Fault.TheVariants.{Memory};
-    ghost use Rattle.clk_sched.specs.Session.{pulls_made};
-    ghost use Rattle.clk_sched.specs.Limits.{end_of_pulls};
     ghost use Rattle.clk_drain.specs.Line.{AreLinesOf};
     ghost use Rattle.clk_drain.specs.inside.Threads.{IsUnpulled, IsPulled, IsPulledAt};
 
@@ -69,7 +67,6 @@ impl<'a, W: Wait> Consumer<'a, W> {
     // Makes the pull with this number, counted from 1. If it gave none, yields to other threads.
     fn pull<G: Gate>(&mut self, course: &Course<W, G>, number: u32) -> Result<(), Fault>
         requires number { number ≤ course.now.limit }
-        requires pulls { pulls_made self.old.session < end_of_pulls }
         requires own { AreLinesOf self.old.session self.old.lines }
         ensures pulled { OnOk result (IsPulledAt (number * course.now.step) self.old self.new) }
         ensures fault { IsOkUnless result Fault.Memory }

@@ -81,9 +81,9 @@ impl<'a, W: Wait> Model for OpenLines<'a, W> {
 impl<'a, W: Wait> OpenLines<'a, W> {
     ghost use Rattle.std.specs.Prelude.{◌≡◌, ◌<◌, map, IfOk, OnOk, IsOkUnless};
     ghost use Rattle.clk_packet.specs.declared.fault.Fault.TheVariants.{Memory};
-    ghost use Rattle.clk_sched.specs.Limits.{end_of_moments, end_of_pulls};
+    ghost use Rattle.clk_sched.specs.Limits.{end_of_moments};
     ghost use Rattle.clk_sched.specs.Results.{leaf_packets};
-    ghost use Rattle.clk_sched.specs.Session.{IsPulledOnce, newly, progress_of, pulls_made};
+    ghost use Rattle.clk_sched.specs.Session.{IsPulledOnce, newly, progress_of};
     ghost use Rattle.clk_packet.specs.Lists.{AreRising};
     ghost use Rattle.clk_drain.specs.Line.{LineLists, AreLinesOf, leaves_of, pulling_all};
 
@@ -102,7 +102,6 @@ impl<'a, W: Wait> OpenLines<'a, W> {
     /// Fault 1 if an allocation fails. Then nothing has changed, and nothing was asked.
     pub fn pull(&mut self, session: &mut Session, moment: u64) -> Result<Option<Packet>, Fault>
         requires moment { moment < end_of_moments }
-        requires pulls { pulls_made (progress_of session.old) < end_of_pulls }
         requires lines { AreLinesOf (progress_of session.old) self.old }
         ensures pulled { IfOk result (IsPulledOnce (progress_of session.old) (progress_of session.new) moment) }
         ensures keeps { session.new.keeps ≡ session.old.keeps }

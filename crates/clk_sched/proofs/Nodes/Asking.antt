@@ -10,7 +10,7 @@ use Rattle.clk_sched.specs.declared.session.nodes.Nodes.{Nodes}
 use Rattle.clk_sched.specs.declared.session.inputs.Inputs.{Inputs}
 use Rattle.clk_sched.specs.Log.{asking}
 use Rattle.clk_sched.specs.inside.Holds.Shaper.{AreBefore}
-use Rattle.clk_sched.specs.Places.{Answers, at_queue}
+use Rattle.clk_sched.specs.Answers.{Answers, at_queue}
 use Rattle.clk_sched.specs.inside.Places.{StandsIn, AreWired, AllFit, edges_at, edges_in, input_at, queue_asked}
 use Rattle.clk_sched.specs.inside.Pulling.{Now, AreApart, CanPull, Keeps, Asks, AsksAll, IsGoing, IsPulling, IsUnasked, added, now_of, asked_in_vain, asked_in_order}
 use Rattle.clk_sched.specs.inside.Turning.{HasAsked, HasAskedAll}

@@ -3,7 +3,7 @@ use Rattle.std.proofs.Common.{◌≡◌, ℕ, zero, suc, ◌+◌, ◌<◌, List,
 use Rattle.clk_packet.specs.declared.packet.Packet.{Packet}
 use Rattle.clk_sched.specs.declared.session.nodes.Nodes.{Nodes}
 use Rattle.clk_sched.specs.Log.{asking}
-use Rattle.clk_sched.specs.Places.{Answers}
+use Rattle.clk_sched.specs.Answers.{Answers}
 use Rattle.clk_sched.specs.inside.Places.{edges_in, queue_asked}
 use Rattle.clk_sched.specs.inside.Pulling.{Now, Keeps, AsksAll, now_of, added, asked_in_vain, asked_in_order}
 use Rattle.clk_sched.specs.inside.Turning.{HasAskedAll}

@@ -7,7 +7,7 @@ use Rattle.clk_sched.specs.declared.session.inputs.Input.{Input}
 use Rattle.clk_sched.specs.declared.session.inputs.Input.TheVariants.{Queue, Scheduler}
 use Rattle.clk_sched.specs.declared.session.inputs.Inputs.{Inputs}
 use Rattle.clk_sched.specs.declared.session.nodes.Nodes.{Nodes}
-use Rattle.clk_sched.specs.Places.{Answers, at_queue}
+use Rattle.clk_sched.specs.Answers.{Answers, at_queue}
 use Rattle.clk_sched.specs.inside.Places.{AllFit, edges_at, option_edges_to, input_at, queue_asked}
 use Rattle.clk_sched.specs.inside.Pulling.{Keeps, Asks, AsksAll, IsPulling, IsVisitAt, added, now_of}
 use Rattle.clk_sched.specs.inside.Looking.{Logs}

@@ -12,7 +12,7 @@ use Rattle.clk_sched.specs.Turns.{Turn, EachAfter, UpToFirst, IsPlain, AsksInOrd
 use Rattle.clk_sched.specs.Heads.{head_at, is_covered, LooksAtHeads}
 use Rattle.clk_sched.specs.Laws.{Manner, in_order, with_heads, manner, Follows, AllowsTurn}
 use Rattle.clk_sched.specs.Log.{visits_of, pulls, moment_of, turn, asks, pulls_below, result_of}
-use Rattle.clk_sched.specs.Places.{tree_queue}
+use Rattle.clk_sched.specs.Answers.{tree_queue}
 use Rattle.clk_sched.specs.Step.{EachAllows, IsOnePullLess}
 use Rattle.clk_sched.specs.Due.{turns_in, lets_through, holds_head, could_emit, GetsFromBacklogged, EmitsOnceDue}
 use Rattle.clk_sched.specs.inside.Pulling.{History}

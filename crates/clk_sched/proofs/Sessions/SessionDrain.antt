@@ -12,8 +12,9 @@ use Rattle.clk_sched.specs.declared.visit.Visit.{Visit}
 use Rattle.clk_sched.specs.Log.{visits_of, pulls, moment_of, result_of}
 use Rattle.clk_sched.specs.Bound.{closing_bound}
 use Rattle.clk_sched.specs.Run.{IsRun}
-use Rattle.clk_sched.specs.Places.{Answers, tree_queue, at_queue}
-use Rattle.clk_sched.specs.Session.{Progress, IsPulledOnce, IsDrained, GivesAll, LastGives, given_in, counted_moment, latest_moment, newly}
+use Rattle.clk_sched.specs.Answers.{Answers, tree_queue, at_queue}
+use Rattle.clk_sched.specs.Session.{Progress, IsPulledOnce, IsDrained, given_in, counted_moment, latest_moment, newly, LastGives}
+use Rattle.clk_sched.specs.Drain.{GivesAll}
 use Rattle.clk_sched.specs.Tree.{Tree, root, queue_at, is_number, leaves_distinct, IsSound}
 use Rattle.clk_sched.specs.Results.{asks_queue}
 use Rattle.clk_sched.specs.Choice.{answers_of}

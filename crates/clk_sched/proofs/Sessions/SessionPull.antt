@@ -1,16 +1,13 @@
 -- One pull of a session: what its nodes did is the next pull of its run.
-use Rattle.std.proofs.Common.{◌≡◌, ℕ, zero, suc, ◌+◌, ◌<◌, ◌≤◌, max, List, [], ◌∷◌, ◌++◌, length, map, reverse, filter, Bool, true, false, ◌==◌, if◌then◌else◌, Option, Some, None, MatchOption, refl, sym, ap, ◌∙◌, subst, append-nil, append_assoc, arith}
-use Rattle.std.proofs.lemmas.Bool.{false≢true}
+use Rattle.std.proofs.Common.{◌≡◌, ℕ, suc, ◌+◌, ◌<◌, ◌≤◌, max, List, [], ◌∷◌, ◌++◌, length, map, reverse, if◌then◌else◌, Option, Some, None, MatchOption, refl, sym, ap, ◌∙◌, subst, append-nil, append_assoc, arith}
 use Rattle.std.specs.List.{AllByRecursion, filter_map, cons_option}
 use Rattle.std.proofs.lemmas.List.{map-append, reverse-append, length-append}
-use Rattle.std.proofs.lemmas.List.FromFn.{length-map-range_with_len}
 use Rattle.clk_packet.specs.declared.packet.Packet.{Packet}
 use Rattle.clk_sched.specs.declared.visit.Visit.{Visit}
 use Rattle.clk_sched.specs.declared.session.nodes.Nodes.{Nodes}
 use Rattle.clk_sched.specs.Tree.{Tree, root, prio, nodes}
 use Rattle.clk_sched.specs.Turns.{Turn, UpToFirst, AsksInOrder}
-use Rattle.clk_sched.specs.Limits.{end_of_pulls}
-use Rattle.clk_sched.specs.Log.{visits_of, in_pull, pulls, moment_of, result_of, turn, NeverFalls}
+use Rattle.clk_sched.specs.Log.{visits_of, pulls, moment_of, result_of, turn, NeverFalls}
 use Rattle.clk_sched.specs.Laws.Device.{IsDeviceTurn}
 use Rattle.clk_sched.specs.Results.{emitted}
 use Rattle.clk_sched.specs.Run.{IsRun}
@@ -173,25 +170,6 @@ session-pulled tree a ready pulled moment most got run readied keeps pull =
 
     history : after (history_of (reverse before)) ready.moment visits ≡ history_of (reverse (pulls b.log.items))
     history = ap (λ m. after (history_of (reverse before)) m visits) (sym next.at_moment) ∙ ap history_of (sym turned)
-
--- there are no more pulls than visits
-filter-few : {X : Type 0} (test : X → Bool) (xs : List X) → length (filter test xs) ≤ length xs
-filter-few test [] = omega arith
-filter-few test (x ∷ xs) = by_test (test x) (filter-few test xs)
-  where
-    by_test : (b : Bool) → length (filter test xs) ≤ length xs → length (if b then x ∷ filter test xs else filter test xs) ≤ length (x ∷ xs)
-    by_test true l = omega arith
-    by_test false l = omega arith
-
-pub pulls-few : (log : List Visit) → length (pulls log) ≤ length log
-pulls-few log = let e = length-map-range_with_len (λ k. in_pull k log) 0 (length (visits_of 0 log)) in let l = filter-few (λ (v : Visit). v.node == 0) log in omega (arith, e, l)
-
--- Pulls don't come to their end where the log is kept, since it takes more memory than there can be, nor where they are counted.
-pub pulls-fit : (log : List Visit) (more : ℕ) (keeps : Bool) (gone : ℕ) → (keeps ≡ true → gone ≡ 0 → length log + more < end_of_pulls) → ((keeps ≡ true → gone ≡ 0 → ⊥) → length (pulls log) < end_of_pulls)
-    → length (pulls log) < end_of_pulls
-pulls-fit log more true zero kept counted = let room = kept refl refl in let few = pulls-few log in omega (arith, few)
-pulls-fit log more true (suc n) kept counted = counted (λ keeps none. omega (arith, none))
-pulls-fit log more false gone kept counted = counted (λ keeps none. false≢true keeps)
 
 -- a session before its first pull
 pub session-first : (tree : Tree) (n : Nodes) → IsLaidOut tree n → IsAfterRun tree n

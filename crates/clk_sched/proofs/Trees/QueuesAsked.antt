@@ -7,7 +7,7 @@ use Rattle.clk_packet.specs.declared.packet.Packet.{Packet}
 use Rattle.clk_sched.specs.declared.visit.Visit.{Visit}
 use Rattle.clk_sched.specs.declared.session.inputs.Inputs.{Inputs}
 use Rattle.clk_sched.specs.Tree.{Class, Row, end, leaf, node, Tree, root, nodes, queue_in, queue_at}
-use Rattle.clk_sched.specs.Places.{at_queue, Answers, tree_queue}
+use Rattle.clk_sched.specs.Answers.{at_queue, Answers, tree_queue}
 use Rattle.clk_sched.specs.inside.Places.{inputs_of, HasInputs, EachHasInputs, StandsIn, option_input, input_at, queue_of, queue_asked}
 use Rattle.clk_sched.specs.inside.Pulling.{Now, History, IsBlock}
 use Rattle.clk_sched.proofs.Lists.Numbers.{equal, differs}

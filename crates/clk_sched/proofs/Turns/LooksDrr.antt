@@ -11,7 +11,7 @@ use Rattle.clk_sched.specs.declared.session.nodes.Nodes.{Nodes}
 use Rattle.clk_sched.specs.Heads.{LooksAtHeads, head_at, is_covered}
 use Rattle.clk_sched.specs.Laws.Deficit.{next_input, deficit_covers}
 use Rattle.clk_sched.specs.inside.Holds.Deficit.{HoldsDeficits}
-use Rattle.clk_sched.specs.Places.{Answers, at_queue}
+use Rattle.clk_sched.specs.Answers.{Answers, at_queue}
 use Rattle.clk_sched.specs.inside.Places.{AllFit, edges_at, input_at, queue_asked}
 use Rattle.clk_sched.specs.inside.Pulling.{Keeps, Asks, AsksAll, IsPulling, IsVisitAt, added, now_of}
 use Rattle.clk_sched.specs.inside.Turning.{IsIdle}

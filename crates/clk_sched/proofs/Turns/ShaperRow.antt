@@ -10,7 +10,7 @@ use Rattle.clk_sched.specs.declared.session.nodes.Nodes.{Nodes}
 use Rattle.clk_sched.specs.declared.session.state.State.TheVariants.{Shaper}
 use Rattle.clk_sched.specs.Log.{asking}
 use Rattle.clk_sched.specs.inside.Looking.{Logs}
-use Rattle.clk_sched.specs.Places.{Answers, at_queue}
+use Rattle.clk_sched.specs.Answers.{Answers, at_queue}
 use Rattle.clk_sched.specs.inside.Places.{AllFit, edges_of, edges_at, input_at, queue_asked}
 use Rattle.clk_sched.specs.inside.Pulling.{CanPull, Keeps, Asks, added}
 use Rattle.clk_sched.specs.inside.Turning.{HasAsked, WasPulled}

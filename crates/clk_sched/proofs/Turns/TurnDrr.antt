@@ -16,7 +16,7 @@ use Rattle.clk_sched.specs.Heads.{LooksAtHeads, EndAtPass}
 use Rattle.clk_sched.specs.Laws.Deficit.{next_input, deficit_covers}
 use Rattle.clk_sched.specs.Log.{visits_of, result_of}
 use Rattle.clk_sched.specs.inside.Holds.Deficit.{HoldsDeficits}
-use Rattle.clk_sched.specs.Places.{Answers}
+use Rattle.clk_sched.specs.Answers.{Answers}
 use Rattle.clk_sched.specs.inside.Places.{AllFit, edges_of, edges_at, edges_in, input_at, queue_asked}
 use Rattle.clk_sched.specs.inside.Pulling.{AreApart, input_of, CanPull, Keeps, AsksAll, GoesOnBy, IsUnasked, added, now_of, with_turn, TakesTurn}
 use Rattle.clk_sched.specs.inside.Looking.{LooksAt, AreIdleAhead}

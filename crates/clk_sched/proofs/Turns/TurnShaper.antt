@@ -16,7 +16,7 @@ use Rattle.clk_sched.specs.Log.{asking}
 use Rattle.clk_sched.specs.inside.Holds.OfClass.{IsShaper}
 use Rattle.clk_sched.specs.inside.Holds.Shaper.{AreBefore, HoldsBucket, IsTaken, IsGivenBack, Tells, tokens_at}
 use Rattle.clk_sched.specs.inside.Pulling.{AsksAll, added, now_of, as_turn, with_turn, asked_in_order, CanPull, Keeps, TakesTurn}
-use Rattle.clk_sched.specs.Places.{Answers}
+use Rattle.clk_sched.specs.Answers.{Answers}
 use Rattle.clk_sched.specs.inside.Places.{edges_of, edges_at, input_at, queue_asked}
 use Rattle.clk_sched.specs.inside.Turning.{with_state, HasAsked, WasPulled}
 use Rattle.clk_sched.specs.inside.Tokens.{TakesToken, GivesBack}

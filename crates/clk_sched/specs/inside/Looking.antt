@@ -9,7 +9,7 @@ use Rattle.clk_sched.specs.inside.Logged.{with_visit}
 use Rattle.clk_sched.specs.Heads.{LooksAtHeads, is_covered}
 use Rattle.clk_sched.specs.Laws.Deficit.{next_input, deficit_covers}
 use Rattle.clk_sched.specs.inside.Holds.Deficit.{HoldsDeficits}
-use Rattle.clk_sched.specs.Places.{Answers}
+use Rattle.clk_sched.specs.Answers.{Answers}
 use Rattle.clk_sched.specs.inside.Places.{edges_at, queue_asked}
 use Rattle.clk_sched.specs.inside.Pulling.{AsksAll, Keeps, added}
 use Rattle.clk_sched.specs.inside.Turning.{IsIdle}

@@ -9,7 +9,7 @@ use Rattle.clk_sched.specs.declared.session.nodes.Nodes.{Nodes}
 use Rattle.clk_sched.specs.Turns.{EachAfter}
 use Rattle.clk_sched.specs.Heads.{LooksAtHeads}
 use Rattle.clk_sched.specs.Laws.Deficit.{next_input, deficit_covers}
-use Rattle.clk_sched.specs.Places.{Answers}
+use Rattle.clk_sched.specs.Answers.{Answers}
 use Rattle.clk_sched.specs.inside.Holds.Deficit.{HoldsDeficits}
 use Rattle.clk_sched.specs.inside.Places.{edges_of, edges_in, queue_asked}
 use Rattle.clk_sched.specs.inside.Pulling.{AreApart, input_of, CanPull, Keeps, AsksAll, added}

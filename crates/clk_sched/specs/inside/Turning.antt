@@ -9,7 +9,7 @@ use Rattle.clk_sched.specs.declared.session.nodes.Nodes.{Nodes}
 use Rattle.clk_sched.specs.Tree.{Class}
 use Rattle.clk_sched.specs.inside.Holds.OfClass.{Fits}
 use Rattle.clk_sched.specs.Log.{asking}
-use Rattle.clk_sched.specs.Places.{Answers}
+use Rattle.clk_sched.specs.Answers.{Answers}
 use Rattle.clk_sched.specs.inside.Places.{edges_of, edges_at, edges_in, input_at, queue_asked}
 use Rattle.clk_sched.specs.inside.Logged.{with_idle}
 use Rattle.clk_sched.specs.inside.Pulling.{Keeps, Pulls, AsksAll, TakesTurn, added, now_of, asked_in_order}

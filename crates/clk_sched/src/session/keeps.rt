@@ -10,3 +10,19 @@ pub struct Keeps {
     /// Every packet emitted at the device.
     pub packets: bool,
 }
+
+impl Keeps {
+    /// Everything: each visit, in a list, and each packet.
+    pub const ALL: Keeps = Keeps {
+        visits: true,
+        packed: false,
+        packets: true,
+    };
+
+    /// Nothing.
+    pub const NOTHING: Keeps = Keeps {
+        visits: false,
+        packed: false,
+        packets: false,
+    };
+}

@@ -39,7 +39,7 @@ impl Nodes {
     ghost use Rattle.clk_packet.specs.Limits.{most_inputs};
     ghost use Rattle.clk_sched.specs.declared.visit.Visit.{Visit};
     ghost use Rattle.clk_sched.specs.declared.session.state.State.TheVariants.{Prio};
-    ghost use Rattle.clk_sched.specs.Places.{Answers};
+    ghost use Rattle.clk_sched.specs.Answers.{Answers};
     ghost use Rattle.clk_sched.specs.inside.Places.{edges_of, edges_at, edges_in, input_at, queue_asked};
     ghost use Rattle.clk_sched.specs.Log.{asking};
     ghost use Rattle.clk_sched.specs.inside.Looking.{Logs};

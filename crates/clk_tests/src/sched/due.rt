@@ -16,13 +16,6 @@ use std::process::Abort;
 /// How many queues there are, each with a sender of its number.
 const QUEUES: u16 = 3;
 
-/// What a session keeps that keeps nothing.
-const NOTHING: Keeps = Keeps {
-    visits: false,
-    packed: false,
-    packets: false,
-};
-
 /// How many steps are taken at random with each tree.
 const RANDOM_STEPS: u32 = 400;
 
@@ -55,7 +48,7 @@ impl Bench {
         let tree = tree.expect(rt, "a tree");
         assert!(rt; tree.leaves_distinct());
         Bench {
-            session: Session::keeping(alloc, tree, NOTHING).expect(rt, "ample memory"),
+            session: Session::keeping(alloc, tree, Keeps::NOTHING).expect(rt, "ample memory"),
             queues: Queues::new(alloc, QUEUES).expect(rt, "ample memory"),
             left: 0,
         }
@@ -69,7 +62,6 @@ impl Bench {
 
     fn pull(&mut self, rt: &impl Abort, moment: u64) -> Option<Packet> {
         assert!(rt; moment < 1 << 44);
-        assert!(rt; self.session.pulls() < 1 << 63);
         let pulled = self.session.pull(&mut self.queues, moment);
         let got = pulled.expect(rt, "nothing is kept");
         if got.is_some() {

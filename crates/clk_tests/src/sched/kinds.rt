@@ -3,7 +3,7 @@
 use super::queues::Queues;
 use super::trees::prio_over_two;
 use crate::script::show_got;
-use clk_packet::{Fault, Packet};
+use clk_packet::Fault;
 use clk_sched::{Departure, Keeps, Session};
 use std::alloc::{AllocError, Global};
 use std::process::Abort;
@@ -35,16 +35,6 @@ fn three_packets(rt: &impl Abort, alloc: Global) -> Queues {
     queues
 }
 
-// Pulls a session once, and returns the packet that it emitted, if any.
-fn pull(
-    rt: &impl Abort,
-    session: &mut Session,
-    queues: &mut Queues,
-) -> Result<Option<Packet>, Fault> {
-    assert!(rt; session.pulls() < 1 << 62);
-    session.pull(queues, 5)
-}
-
 // Drains a session of two packets from moment 7 on, and returns their departures.
 fn close(
     rt: &impl Abort,
@@ -52,7 +42,6 @@ fn close(
     session: &mut Session,
     queues: &mut Queues,
 ) -> Result<Vec<Departure>, Fault> {
-    assert!(rt; session.pulls() < 1 << 62);
     assert!(rt; session.now() < 1 << 42);
     session.close(alloc, queues, 2, 7)
 }
@@ -75,7 +64,7 @@ fn shown(
 ) -> Result<String, Fault> {
     let mut text = String::new(alloc);
     assert_eq!(rt; session.due(queues), Some(0));
-    show_got(&mut text, pull(rt, session, queues)?)?;
+    show_got(&mut text, session.pull(queues, 5)?)?;
     text.push_str("\n")?;
     assert_eq!(rt; session.due(queues), Some(5));
     show_departures(&mut text, &close(rt, alloc, session, queues)?)?;

@@ -3,7 +3,7 @@
 use super::row::session;
 use super::trees::drr_over_stride;
 use clk_packet::{Fault, Packet};
-use clk_sched::{Ask, END_OF_DRAINED_PULLS, END_OF_PULLS, Session};
+use clk_sched::{Ask, Session};
 use std::alloc::Global;
 use std::process::Abort;
 
@@ -120,12 +120,10 @@ impl Run {
 
     fn pull(&mut self, rt: &impl Abort, moment: u32, expected: Option<Packet>) {
         let before = self.state();
-        assert!(rt; self.session.pulls() < END_OF_PULLS);
         let mut got = self.session.pull(&mut self.stock, u64::from(moment));
         if let Err(fault) = got {
             self.note(rt, Call::Pull, fault);
             assert_eq!(rt; self.state(), before);
-            assert!(rt; self.session.pulls() < END_OF_PULLS);
             got = self.session.pull(&mut self.stock, u64::from(moment));
         }
         assert_eq!(rt; got, Ok(expected));
@@ -162,7 +160,6 @@ impl Run {
     fn drain_left(&mut self, rt: &impl Abort, left: u64) -> Result<u64, Fault> {
         assert!(rt; left <= 1_000_000);
         assert!(rt; self.session.now() < 1 << 40);
-        assert!(rt; self.session.pulls() < END_OF_DRAINED_PULLS);
         self.session.drain(&mut self.stock, left, 7)
     }
 

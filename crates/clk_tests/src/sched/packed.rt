@@ -41,7 +41,6 @@ fn pull(
     moment: u64,
 ) -> Result<(), Fault> {
     assert!(rt; moment < 1 << 44);
-    assert!(rt; session.pulls() < 1 << 63);
     session.pull(queues, moment)?;
     Ok(())
 }

@@ -8,7 +8,7 @@ use super::trees::{drr_over_one, drr_over_two};
 use crate::script::{Command, command_of};
 use clk_packet::{Fault, Packet};
 use clk_rows::DEFICIT_TWO_QUEUES;
-use clk_sched::{Ask, END_OF_DRAINED_PULLS, END_OF_PULLS, Session, Tree, Visit};
+use clk_sched::{Ask, Session, Tree, Visit};
 use std::alloc::Global;
 use std::process::Abort;
 
@@ -100,13 +100,11 @@ impl Row {
     fn pull(&mut self, rt: &impl Abort, sent: &mut Sent, moment: u64) {
         let before = (self.session.log().len(), self.session.now(), *sent);
         assert!(rt; moment < 1 << 44);
-        assert!(rt; self.session.pulls() < END_OF_PULLS);
         let mut got = self.session.pull(sent, moment);
         if let Err(fault) = got {
             self.note(rt, Call::Pull, fault);
             let after = (self.session.log().len(), self.session.now(), *sent);
             assert_eq!(rt; after, before);
-            assert!(rt; self.session.pulls() < END_OF_PULLS);
             got = self.session.pull(sent, moment);
         }
         let last = self.session.log().last().expect(rt, "a visit");
@@ -117,13 +115,11 @@ impl Row {
     fn drain(&mut self, rt: &impl Abort, sent: &mut Sent) {
         let mut before = self.session.now();
         assert_eq!(rt; before, 0);
-        assert!(rt; self.session.pulls() < END_OF_DRAINED_PULLS);
         let mut made = self.session.drain(sent, 1, 0);
         if let Err(fault) = made {
             self.note(rt, Call::Drain, fault);
             before = self.session.now();
             assert!(rt; before < PULLS);
-            assert!(rt; self.session.pulls() < END_OF_DRAINED_PULLS);
             made = self.session.drain(sent, 1, 0);
         }
         assert_eq!(rt; made, Ok(PULLS - before));

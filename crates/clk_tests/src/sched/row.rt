@@ -5,7 +5,7 @@ use super::text::{show_packets, show_visit};
 use crate::script::{Command, assert_answered, command_of, show_got, show_pull, show_sent};
 use clk_packet::{Fault, Offered, Packet};
 use clk_rows::Row;
-use clk_sched::{Ask, END_OF_DRAINED_PULLS, END_OF_PULLS, Session, Tree};
+use clk_sched::{Ask, Session, Tree};
 use std::alloc::{AllocError, Global};
 use std::process::Abort;
 
@@ -171,7 +171,6 @@ impl Shown {
 
     fn pull(&mut self, rt: &impl Abort, moment: u64) -> Result<(), Fault> {
         assert!(rt; moment < 1 << 44);
-        assert!(rt; self.session.pulls() < END_OF_PULLS);
         let got = self.session.pull(&mut self.queues, moment)?;
         if let Some(packet) = got {
             self.emitted.push(packet)?;
@@ -185,7 +184,6 @@ impl Shown {
         assert!(rt; left <= 1_000_000);
         let latest = self.session.now().max(moment);
         assert!(rt; latest < (1 << 43) - 1);
-        assert!(rt; self.session.pulls() < END_OF_DRAINED_PULLS);
         let before = self.session.log().len();
         let pulls = self.session.drain(&mut self.queues, left, moment)?;
         assert_eq!(rt; pulls, self.session.now().saturating_sub(latest));
@@ -227,7 +225,6 @@ impl Shown {
         for moment in moments {
             let moment = *moment;
             assert!(rt; moment < 1 << 44);
-            assert!(rt; self.session.pulls() < END_OF_PULLS);
             let got = self.session.pull(&mut self.queues, moment)?;
             show_pull(&mut self.text, moment, got)?;
         }
@@ -237,7 +234,6 @@ impl Shown {
     fn pull_many(&mut self, rt: &impl Abort, count: u32) -> Result<(), Fault> {
         let mut before = None;
         for pull in 0..count {
-            assert!(rt; self.session.pulls() < END_OF_PULLS);
             let got = self.session.pull(&mut self.queues, 0)?;
             if !follows(before, got) {
                 show_pull(&mut self.text, u64::from(pull), got)?;
@@ -251,7 +247,6 @@ impl Shown {
         assert!(rt; left <= 1_000_000);
         let latest = self.session.now().max(moment);
         assert!(rt; latest < (1 << 43) - 1);
-        assert!(rt; self.session.pulls() < END_OF_DRAINED_PULLS);
         match self.session.drain(&mut self.queues, left, moment) {
             Ok(pulls) => writeln!(self.text, "drain: {pulls}")?,
             Err(fault) => writeln!(self.text, "drain: {fault}")?,

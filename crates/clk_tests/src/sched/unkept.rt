@@ -1,25 +1,17 @@
 //! Sessions that keep nothing emit what a session emits that keeps all.
 
-ghost use Rattle.std.specs.Prelude.{◌<◌, ◌≤◌};
-ghost use Rattle.clk_sched.specs.Limits.{end_of_moments};
+ghost use Rattle.std.specs.Prelude.{◌≤◌};
 
 use super::queues::Queues;
 use super::row::session;
 use super::trees::{drr_over_stride, prio_over_two, round_robin_over_three, shaped_drr_path};
-use clk_packet::{Fault, Packet};
-use clk_sched::{END_OF_DRAINED_PULLS, END_OF_DRAINS, END_OF_PULLS, Keeps, Session, Tree};
+use clk_packet::Fault;
+use clk_sched::{END_OF_DRAINS, Keeps, Session, Tree};
 use std::alloc::Global;
 use std::process::Abort;
 
 /// How many queues there are, each with a sender of its number.
 const QUEUES: u16 = 13;
-
-/// What a session keeps that keeps nothing.
-const NOTHING: Keeps = Keeps {
-    visits: false,
-    packed: false,
-    packets: false,
-};
 
 /// Two sessions over the same tree, each with queues of its own: one that keeps all, and one that keeps nothing.
 #[derive(Drop)]
@@ -64,8 +56,8 @@ impl Both {
 
     fn pull(&mut self, rt: &impl Abort, moment: u64) -> Result<(), Fault> {
         assert!(rt; moment < 1 << 44);
-        let got = pull(rt, &mut self.bare, &mut self.others, moment)?;
-        assert_eq!(rt; got, pull(rt, &mut self.keeping, &mut self.queues, moment)?);
+        let got = self.bare.pull(&mut self.others, moment)?;
+        assert_eq!(rt; got, self.keeping.pull(&mut self.queues, moment)?);
         Ok(())
     }
 
@@ -107,19 +99,7 @@ fn keeping(rt: &impl Abort, alloc: Global, tree: Result<Tree, Fault>) -> Session
 fn bare(rt: &impl Abort, alloc: Global, tree: Result<Tree, Fault>) -> Session {
     let tree = tree.expect(rt, "a tree");
     assert!(rt; tree.leaves_distinct());
-    Session::keeping(alloc, tree, NOTHING).expect(rt, "ample memory")
-}
-
-fn pull(
-    rt: &impl Abort,
-    session: &mut Session,
-    queues: &mut Queues,
-    moment: u64,
-) -> Result<Option<Packet>, Fault>
-    requires { moment < end_of_moments }
-{
-    assert!(rt; session.pulls() < END_OF_PULLS);
-    session.pull(queues, moment)
+    Session::keeping(alloc, tree, Keeps::NOTHING).expect(rt, "ample memory")
 }
 
 fn drain(
@@ -132,7 +112,6 @@ fn drain(
     requires { left ≤ 1000000 }
 {
     assert!(rt; session.now().max(moment) < END_OF_DRAINS);
-    assert!(rt; session.pulls() < END_OF_DRAINED_PULLS);
     session.drain(queues, left, moment)
 }
 

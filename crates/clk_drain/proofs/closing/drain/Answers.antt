@@ -2,7 +2,7 @@ use Rattle.std.proofs.Common.{ℕ, Option, List}
 use Rattle.clk_packet.specs.declared.packet.Packet.{Packet}
 use Rattle.clk_sched.specs.Closing.{TakesOne}
 use Rattle.clk_sched.specs.Session.{progress_of, newly}
-use Rattle.clk_sched.specs.Places.{tree_queue}
+use Rattle.clk_sched.specs.Answers.{tree_queue}
 use Rattle.clk_drain.specs.Line.{LineLists, PullsAt}
 use Rattle.clk_drain.specs.inside.Parts.{held_at}
 use Rattle.clk_drain.proofs.PulledLines.{answers-weaker, lines-drained}

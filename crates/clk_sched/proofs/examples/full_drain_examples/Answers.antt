@@ -1,7 +1,7 @@
 use Rattle.std.proofs.Common.{[], ◌∷◌, Some, None, map, length, drop, get_or, refl, sym, lit≤, arith, ap, ◌∙◌, subst}
 use Rattle.std.proofs.lemmas.Bool.{false≢true}
 use Rattle.clk_sched.specs.Log.{moment_of}
-use Rattle.clk_sched.specs.Session.{LastGives, given_in}
+use Rattle.clk_sched.specs.Session.{given_in, LastGives}
 use Rattle.clk_sched.specs.Examples.Priority.{p1_0}
 use Rattle.clk_sched.specs.Examples.Draining.{pull_giving}
 use Rattle.clk_sched.proofs.Runs.WorkedPulls.{run-of-two, run-of-three, run-of-four}

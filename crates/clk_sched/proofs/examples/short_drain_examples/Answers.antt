@@ -1,7 +1,8 @@
 use Rattle.std.proofs.Common.{◌≡◌, ℕ, zero, suc, [], ◌∷◌, Some, None, map, length, drop, get_or, refl, lit≤, arith, ap, ◌∙◌}
 use Rattle.std.specs.List.{range_with_len}
 use Rattle.clk_sched.specs.Log.{moment_of}
-use Rattle.clk_sched.specs.Session.{StopsShort, given_in}
+use Rattle.clk_sched.specs.Session.{given_in}
+use Rattle.clk_sched.specs.Drain.{StopsShort}
 use Rattle.clk_sched.specs.Examples.Priority.{p1_0}
 use Rattle.clk_sched.specs.Examples.Draining.{pull_giving, pulled_twice, drained, stopped_at_first, stopped_at_bound}
 use Rattle.clk_sched.proofs.Runs.WorkedPulls.{run-of-three, run-of-four}

@@ -10,7 +10,7 @@ use Rattle.clk_sched.specs.declared.session.inputs.Inputs.{Inputs}
 use Rattle.clk_sched.specs.declared.session.nodes.Nodes.{Nodes}
 use Rattle.clk_sched.specs.declared.session.inputs.Input.TheVariants.{Queue, Scheduler}
 use Rattle.clk_sched.specs.declared.session.state.State.TheVariants.{RoundRobin, Drr, Stride}
-use Rattle.clk_sched.specs.Places.{at_queue}
+use Rattle.clk_sched.specs.Answers.{at_queue}
 use Rattle.clk_sched.specs.inside.Places.{edges_in, input_at, queue_asked}
 use Rattle.clk_sched.specs.inside.Pulling.{CanPull, added}
 use Rattle.clk_sched.specs.inside.Ranks.{AreInOrder, inputs_in}

@@ -9,7 +9,6 @@ use Rattle.clk_sched.specs.Session.{progress_of}
 use Rattle.clk_gate.specs.Limits.{most_step, most_limit}
 use Rattle.clk_drain.specs.inside.Threads.{Terms, Feed}
 use Rattle.clk_drain.proofs.ClosingSteps.{AreClosing, moment-within, closing-more, next-ready, next-fault, all-closed}
-use Rattle.clk_drain.proofs.Pulling.{pulls-few}
 use Rattle.clk_drain.proofs.running.closing.close_devices.Goals as goal
 
 pub returns-in_err-with_capacity-clause-fault : goal.returns-in_err-with_capacity-clause-fault
@@ -35,13 +34,6 @@ close-requires-clause-moment g c =
     let rest = into_iter_items c.next.new.self in
     let ready = next-ready c.args.course.now c.args.closings.items c.loop-session.yielded rest (into_iter_items c.loop-session.session-iterator) f c.loop-session.outcome (c.in-Some.ensures.steps.0 ∙ ap (λ x. x ∷ rest) (sym c.session.view_is)) c.loop-session.invariant c.requires.ready in
     moment-within c.args.course.now f (subst (λ (t : Terms). t.step ≤ most_step) c.course.view_is c.course.invariant.0) (subst (λ (t : Terms). t.limit ≤ most_limit) c.course.view_is c.course.invariant.1) ready
-
-pub close-requires-clause-pulls : goal.close-requires-clause-pulls
-close-requires-clause-pulls g c =
-    let f : Feed = record { session = progress_of c.session.inside.session; visits = keeps_visits c.session.inside.session.keeps; lines = c.session.inside.lines.items } in
-    let rest = into_iter_items c.next.new.self in
-    let ready = next-ready c.args.course.now c.args.closings.items c.loop-session.yielded rest (into_iter_items c.loop-session.session-iterator) f c.loop-session.outcome (c.in-Some.ensures.steps.0 ∙ ap (λ x. x ∷ rest) (sym c.session.view_is)) c.loop-session.invariant c.requires.ready in
-    λ unkept. pulls-few f.session c.args.course.now.step c.args.course.now.limit ready.made ready.moments ready.within (subst (λ (t : Terms). t.limit ≤ most_limit) c.course.view_is c.course.invariant.1)
 
 pub returns-in_err-drained-clause-fault : goal.returns-in_err-drained-clause-fault
 returns-in_err-drained-clause-fault g c =

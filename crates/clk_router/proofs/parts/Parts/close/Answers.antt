@@ -3,7 +3,8 @@ use Rattle.std.specs.Vec.{with_item}
 use Rattle.clk_router.specs.declared.devices.Device.{Device}
 use Rattle.clk_router.specs.declared.parts.Parts.{Parts}
 use Rattle.clk_router.specs.inside.Parts.{ClosesBy}
-use Rattle.clk_router.proofs.ClosingLemmas.{can-close, closes-by, either-drained, LeadsOnByPulls-closed, drained-ok, unless-after}
+use Rattle.clk_sched.proofs.Callers.Drained.{either-drained, drained-ok, unless-after}
+use Rattle.clk_router.proofs.ClosingLemmas.{can-close, closes-by, LeadsOnByPulls-closed}
 use Rattle.clk_router.proofs.NeverShort.{queues-lose-nothing, kept-is}
 use Rattle.clk_router.proofs.PartsLemmas.{set-device}
 use Rattle.clk_router.proofs.parts.Parts.close.Goals as goal

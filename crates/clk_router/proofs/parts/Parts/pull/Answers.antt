@@ -20,7 +20,8 @@ returns-clause-unkept c =
     let old = c.args.self.now in
     let before = c.index_mut.result.now in
     let set = set-device old.devices.items c.args.device c.from.result before before c.from.ensures (can-pull old.keeps old.devices.items c.args.device c.requires.can) c.index_mut.ensures.value in
-    λ nothing. c.pull.ensures.unkept ((subst (CanPullAt old.keeps) set.was c.requires.can).0.0 ∙ nothing)
+    let can = subst (CanPullAt old.keeps) set.was c.requires.can in
+    λ nothing. c.pull.ensures.unkept (can.0.0 ∙ nothing) can.1
 
 pub returns-clause-stays : goal.returns-clause-stays
 returns-clause-stays c =

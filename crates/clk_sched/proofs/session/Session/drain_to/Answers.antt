@@ -1,9 +1,11 @@
-use Rattle.std.proofs.Common.{◌≡◌, ◌+◌, true, max, Ok, refl, sym, ap, ◌∙◌, subst, arith}
+use Rattle.std.proofs.Common.{◌≡◌, ◌+◌, true, length, max, Ok, refl, sym, ap, ◌∙◌, subst, arith}
 use Rattle.std.proofs.lemmas.Bool.{false≢true}
+use Rattle.std.proofs.lemmas.List.{length-append}
 use Rattle.clk_sched.specs.Run.{IsRun}
 use Rattle.clk_sched.specs.Tree.{leaves_distinct}
-use Rattle.clk_sched.specs.Drain.{drain_start}
-use Rattle.clk_sched.specs.Session.{GivesAll, progress_of}
+use Rattle.clk_sched.specs.Drain.{drain_start, GivesAll}
+use Rattle.clk_sched.specs.Log.{pulls}
+use Rattle.clk_sched.specs.Session.{progress_of, pulls_made}
 use Rattle.clk_sched.proofs.Sessions.SessionDrain.{draining-first, drain-step, draining-all, given-one, given-none}
 use Rattle.clk_sched.proofs.Closing.Emptied.{emptied-first}
 use Rattle.clk_sched.specs.Departures.{departure_at, departures_in, pulls_since, IsAddedTo}
@@ -81,7 +83,18 @@ pub returns-in_err-reserve-clause-departures : goal.returns-in_err-reserve-claus
 returns-in_err-reserve-clause-departures g c = added-same c.args.departures.now c.loop-given.departures c.reserve.new.self _ c.loop-given.invariant.5 c.reserve.ensures.same
 
 pub returns-in_err-reserve-clause-unkept : goal.returns-in_err-reserve-clause-unkept
-returns-in_err-reserve-clause-unkept g c = λ keeps dropped. absurd (false≢true (rw c.in_err-reserve.was at c.reserve.ensures.dropped (still-dropped c.args.departures.now c.loop-given.departures _ c.loop-given.invariant.5 dropped)))
+returns-in_err-reserve-clause-unkept g c = λ keeps few dropped. absurd (false≢true (rw c.in_err-reserve.was at c.reserve.ensures.dropped (still-dropped c.args.departures.now c.loop-given.departures _ c.loop-given.invariant.5 dropped)))
+
+pub returns-in_err-got-clause-unkept : goal.returns-in_err-got-clause-unkept
+returns-in_err-got-clause-unkept g c =
+    let now = c.loop-given.self in
+    let drained = c.loop-given.invariant.1.drained in
+    let made : pulls_made (progress_of now) ≡ pulls_made (progress_of c.args.self.now) + c.loop-given.made =
+    ap length drained.pulls_are ∙ length-append (pulls c.args.self.now.log) drained.more ∙ ap (λ n. pulls_made (progress_of c.args.self.now) + n) drained.made_are
+    in
+    let within = c.loop-given.invariant.0 in
+    let least = c.bound-bound.ensures.limit in
+    λ keeps few dropped. absurd (false≢true (rw c.in_err-got.was at c.pull.ensures.unkept (c.loop-given.invariant.3 ∙ keeps) (omega (arith, made, within, least, few))))
 
 pub returns-in_err-got-clause-departures : goal.returns-in_err-got-clause-departures
 returns-in_err-got-clause-departures g c =

@@ -1,19 +1,17 @@
-use Rattle.std.proofs.Common.{◌<◌, ◌||◌, [], ◌++◌, length, refl, sym, ap, ◌∙◌, subst, arith}
+use Rattle.std.proofs.Common.{[], ◌++◌, length, refl, sym, ap, ◌∙◌, subst, arith}
 use Rattle.std.specs.List.{cons_option}
 use Rattle.std.proofs.lemmas.List.{length-append}
-use Rattle.clk_sched.specs.Limits.{end_of_pulls}
 use Rattle.clk_sched.specs.Results.{emitted}
-use Rattle.clk_sched.specs.Places.{Answers, tree_queue}
-use Rattle.clk_sched.specs.Session.{IsPulledOnce, newly, progress_of, pulls_made}
-use Rattle.clk_sched.specs.Keeps.{IsEndless}
-use Rattle.clk_sched.proofs.Sessions.SessionPull.{session-pulled, emitted-once, one-at-most, one_further, pulls-fit, progress, HasGoneOn}
+use Rattle.clk_sched.specs.Answers.{Answers, tree_queue}
+use Rattle.clk_sched.specs.Session.{IsPulledOnce, newly, progress_of}
+use Rattle.clk_sched.proofs.Sessions.SessionPull.{session-pulled, emitted-once, one-at-most, one_further, progress, HasGoneOn}
 use Rattle.clk_sched.proofs.Trees.QueuesAsked.{answers-tree}
 use Rattle.clk_sched.proofs.session.Session.pull.Goals as goal
 
 pub overflow_add-self : goal.overflow_add-self
 overflow_add-self g c =
     let a = c.self.inside.nodes in
-    let fit = pulls-fit a.log.items _ (a.log.kind.keeps || a.log.kind.packs) a.log.kind.gone c.in_ok-reserve.ensures.few (subst (λ s. IsEndless s → pulls_made (progress_of s) < end_of_pulls) (sym c.self.view_is) c.requires.pulls) in
+    let fit = c.if-self-ge-END_OF_PULLS.false in
     let same = c.pull_device-got.ensures.keeps.pull in
     let counted = c.self.invariant.0.pull in
     omega (arith, fit, same, counted)
@@ -21,7 +19,7 @@ overflow_add-self g c =
 pub add-requires : goal.add-requires
 add-requires g c =
     let a = c.self.inside.nodes in
-    let fit = pulls-fit a.log.items _ (a.log.kind.keeps || a.log.kind.packs) a.log.kind.gone c.in_ok-reserve.ensures.few (subst (λ s. IsEndless s → pulls_made (progress_of s) < end_of_pulls) (sym c.self.view_is) c.requires.pulls) in
+    let fit = c.if-self-ge-END_OF_PULLS.false in
     let counted = c.self.invariant.0.pull in
     let few = c.self.invariant.5 in
     let same = c.reserve-2.ensures.count in

@@ -8,7 +8,7 @@ use Rattle.clk_report.specs.Counts.{counts_line}
 use Rattle.clk_report.specs.Devices.{all_emitted}
 use Rattle.clk_report.proofs.TotalLemmas.{AreTotals-zero}
 use Rattle.clk_report.proofs.ReportLemmas.{HasWritten-part, Wrote-part, flat_map-split, text-alone}
-use Rattle.clk_report.proofs.senders.write_lines.Goals as goal
+use Rattle.clk_report.proofs.reports.write_lines.Goals as goal
 
 pub count_by_sender-requires-clause-none : goal.count_by_sender-requires-clause-none
 count_by_sender-requires-clause-none g c = AreTotals-zero _ _ refl

@@ -3,7 +3,7 @@ use Rattle.std.specs.List.{flat_map}
 use Rattle.clk_packet.proofs.Callers.Bytes.{HasWritten}
 use Rattle.clk_report.specs.Counts.{counts_line}
 use Rattle.clk_report.specs.Devices.{all_emitted}
-use Rattle.clk_report.proofs.senders.write_lines.Given as goal
+use Rattle.clk_report.proofs.reports.write_lines.Given as goal
 
 abbrev pub invariant-loop-rest : goal.invariant-loop-rest
 invariant-loop-rest g l = record {

@@ -2,7 +2,7 @@ use Rattle.std.proofs.Common.{◌∙◌, ℕ, replicate, arith}
 use Rattle.std.proofs.lemmas.List.{length-replicate}
 use Rattle.clk_report.specs.Counts.{line_with}
 use Rattle.clk_report.proofs.ReportLemmas.{text-alone}
-use Rattle.clk_report.proofs.senders.report_line.Goals as goal
+use Rattle.clk_report.proofs.reports.report_line.Goals as goal
 
 pub returns : goal.returns
 returns g c =

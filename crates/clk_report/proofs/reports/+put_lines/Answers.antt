@@ -5,7 +5,7 @@ use Rattle.clk_report.specs.declared.counts.Counts.{Counts}
 use Rattle.clk_report.specs.Counts.{counts_line, line_with}
 use Rattle.clk_report.proofs.TotalLemmas.{total-at}
 use Rattle.clk_report.proofs.ReportLemmas.{first-alone}
-use Rattle.clk_report.proofs.senders.+put_lines.Goals as goal
+use Rattle.clk_report.proofs.reports.+put_lines.Goals as goal
 
 -- what would stand beyond the table
 abbrev none : Total

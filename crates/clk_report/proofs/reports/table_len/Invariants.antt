@@ -1,5 +1,5 @@
 use Rattle.std.proofs.Common.{◌<◌, ◌≤◌, All, take}
-use Rattle.clk_report.proofs.senders.table_len.Given as goal
+use Rattle.clk_report.proofs.reports.table_len.Given as goal
 
 abbrev pub invariant-loop-sender : goal.invariant-loop-sender
 invariant-loop-sender g l = record {

@@ -1,5 +1,5 @@
 use Rattle.std.proofs.Common.{length}
-use Rattle.clk_report.proofs.senders.+put_lines.Given as goal
+use Rattle.clk_report.proofs.reports.+put_lines.Given as goal
 
 abbrev pub decreases-put_lines : goal.decreases-put_lines
 decreases-put_lines g l = length l.senders.now
