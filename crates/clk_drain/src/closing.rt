@@ -32,8 +32,8 @@ use std::sync::Wait;
 ///
 /// # Errors
 ///
-/// Fault 1 if an allocation fails. Fault 21, with the leaf of the queue, for the first queue that refused or evicted a packet though it
-/// accepted fewer than its capacity. Nothing is returned then.
+/// Fault 1 if an allocation fails, or at the end of 2^63 pulls. Fault 21, with the leaf of the queue, for the first queue that refused or
+/// evicted a packet though it accepted fewer than its capacity. Nothing is returned then.
 pub fn close_and_drain<W: Wait>(
     alloc: Global,
     wait: &W,

@@ -58,7 +58,7 @@ impl<'a, W: Wait> Lines<'a, W> {
     ///
     /// # Errors
     ///
-    /// Fault 1 if an allocation fails. Then nothing has changed, and nothing was asked.
+    /// Fault 1 if an allocation fails, or if 2^63 pulls were made before. Then nothing has changed, and nothing was asked.
     pub fn pull(&mut self, session: &mut Session, moment: u64) -> Result<Option<Packet>, Fault>
         requires moment { moment < end_of_moments }
         requires lines { AreLinesOf (progress_of session.old) self.old }

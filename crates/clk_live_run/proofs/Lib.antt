@@ -4,4 +4,3 @@ mod Takings
 mod Sendings
 mod Records
 mod Runs
-mod ReportLemmas

@@ -1,5 +1,4 @@
 -- What the parts of a run say to each other.
 pub mod Consuming
 pub mod Recording
-pub mod Reporting
 pub mod Sending

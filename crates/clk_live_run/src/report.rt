@@ -1,16 +1,12 @@
 //! The report of a run.
 
-ghost use Rattle.std.specs.Prelude.{◌≡◌, ◌<◌, ◌+◌, ◌^◌, Some, length};
-ghost use Rattle.std.specs.List.{flat_map, AllByRecursion};
+ghost use Rattle.std.specs.Prelude.{Some};
 ghost use Rattle.clk_packet.specs.Bytes.{Wrote};
-ghost use Rattle.clk_router.specs.Events.{sender_numbers};
-ghost use Rattle.clk_router.specs.Settled.{offered_of};
 ghost use Rattle.clk_script.specs.Meaning.{ending_text};
-ghost use Rattle.clk_live_run.specs.inside.Reporting.{account_line, counts_in, sent_in, total_in};
 
 use clk_packet::{Fault, Sink};
-use clk_report::{Counts, Total, report_line};
-use clk_router::{Account, CountingRouter, Router};
+use clk_router::CountingRouter;
+use clk_script::{accounts_tell, write_accounts};
 
 /// Writes the report of each sender's packets so far: a line for each sender, in order.
 ///
@@ -25,76 +21,7 @@ pub fn report_accounts<W: Sink>(router: &CountingRouter, writer: &mut W) -> Resu
     ensures wrote { Wrote (W.Sink.taken writer.old) (W.Sink.taken writer.new)
         (W.Sink.failures writer.old) (W.Sink.failures writer.new) result (ending_text router.now.setup (Some 0) router.now.events) }
 {
-    // Only its own device emits packets of a sender, by this law, which does nothing.
-    router.has_account();
-    see_offers(router);
+    // The lines of the accounts are the report, by this law.
+    accounts_tell(router);
     write_accounts(router.accounts(), writer)
-}
-
-// Reads how many packets each sender has offered: fewer than 2^32, so that no total of its account is capped.
-fn see_offers(router: &Router)
-    ensures { AllByRecursion (λ s. length (offered_of router.now.events s) < 2 ^ 32) (sender_numbers router.now.setup) }
-{
-    for place in 0..router.senders().len() {
-        let _ = router.sent(place);
-    }
-}
-
-// Writes the line of each account, in order.
-fn write_accounts<W: Sink>(accounts: &[Account], writer: &mut W) -> Result<(), Fault>
-    ensures { Wrote (W.Sink.taken writer.old) (W.Sink.taken writer.new)
-        (W.Sink.failures writer.old) (W.Sink.failures writer.new) result (flat_map account_line accounts.now) }
-{
-    for account in accounts {
-        write_account(account, writer)?;
-    }
-    Ok(())
-}
-
-// Writes the line of an account.
-fn write_account<W: Sink>(account: &Account, writer: &mut W) -> Result<(), Fault>
-    ensures { Wrote (W.Sink.taken writer.old) (W.Sink.taken writer.new)
-        (W.Sink.failures writer.old) (W.Sink.failures writer.new) result (account_line account.now) }
-{
-    report_line(&counts_in(account), total_in(account.emitted), writer)
-}
-
-// What a report says of an account, except what was emitted.
-fn counts_in(account: &Account) -> Counts
-    ensures { result ≡ counts_in account.now }
-{
-    Counts {
-        sender: account.sender,
-        sent: sent_in(account),
-        accepted: total_in(account.accepted),
-        refused: total_in(account.refused),
-        evicted: total_in(account.evicted),
-    }
-}
-
-// The total of what was accepted and refused together.
-fn sent_in(account: &Account) -> Total
-    ensures { result ≡ sent_in account.now }
-{
-    Total {
-        packets: sum(account.accepted.packets, account.refused.packets),
-        bytes: sum(account.accepted.bytes, account.refused.bytes),
-    }
-}
-
-// The sum of two counts.
-fn sum(one: u64, other: u64) -> u128
-    ensures { result ≡ one + other }
-{
-    u128::from(one) + u128::from(other)
-}
-
-// A total of an account, as reports have it.
-fn total_in(total: clk_router::Total) -> Total
-    ensures { result ≡ total_in total }
-{
-    Total {
-        packets: u128::from(total.packets),
-        bytes: u128::from(total.bytes),
-    }
 }

@@ -1,6 +1,5 @@
 -- Lemmas that answers cite, of which `Callers` has those that crates above may cite too.
 pub mod Callers
-mod CountLemmas
 mod ReportLemmas
 mod RowLemmas
 mod TotalLemmas

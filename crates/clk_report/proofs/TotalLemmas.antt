@@ -12,8 +12,8 @@ use Rattle.clk_report.specs.declared.total.Total.{Total}
 use Rattle.clk_report.specs.Devices.{all_emitted}
 use Rattle.clk_packet.specs.Lists.{of_sender}
 use Rattle.clk_report.specs.Report.{bytes_of}
-use Rattle.clk_report.specs.Counts.{total_of, with_packet, HasRoom}
-use Rattle.clk_report.specs.inside.Totals.{both, AreTotals}
+use Rattle.clk_report.specs.Counts.{total_of}
+use Rattle.clk_report.specs.inside.Totals.{both, AreTotals, with_packet, HasRoom}
 
 pub bytes-few : (packets : List Packet) → bytes_of packets ≤ 65535 * length packets
 bytes-few [] = omega arith

@@ -1,7 +1,5 @@
 -- What a report says of a sender, counted: how many packets, and their bytes.
-use Rattle.std.specs.Prelude.{ℕ, ◌+◌, ◌*◌, ◌^◌, ◌<◌, List, ◌++◌, codes, decimal, length}
-use Rattle.std.specs.List.{flat_map}
-use Rattle.clk_packet.specs.Limits.{most_length}
+use Rattle.std.specs.Prelude.{ℕ, List, ◌++◌, codes, decimal, length}
 use Rattle.clk_packet.specs.Lists.{of_sender}
 use Rattle.clk_packet.specs.declared.packet.Packet.{Packet}
 use Rattle.clk_packet.specs.declared.tally.Tally.{Tally}
@@ -17,15 +15,6 @@ total_of packets = record { packets = length packets; bytes = bytes_of packets }
 abbrev pub counts_of : Tally → Counts
 counts_of t = record { sender = t.sender; sent = total_of (t.accepted ++ t.refused); accepted = total_of t.accepted; refused = total_of t.refused; evicted = total_of t.evicted }
 
--- a total with one packet more
-abbrev pub with_packet : Packet → Total → Total
-with_packet p total = record { packets = total.packets + 1; bytes = total.bytes + p.length }
-
--- There is room to count `more` more packets.
-pub record HasRoom (more : ℕ) (total : Total) : Type 0 where
-  pub packets : total.packets + more < 2 ^ 128
-  pub bytes : total.bytes + most_length * more < 2 ^ 128
-
 -- these words, and then ` N B`
 abbrev pub words_text : List ℕ → Total → List ℕ
 words_text words total = words ++ numbers_text total.packets total.bytes
@@ -39,7 +28,3 @@ line_with c emitted =
 -- the line of a sender with these counts, if these packets were emitted at all devices
 abbrev pub counts_line : List Packet → Counts → List ℕ
 counts_line emitted c = line_with c (total_of (of_sender c.sender emitted))
-
--- the report of senders with these counts, in order, if these packets were emitted at all devices
-abbrev pub counts_text : List Packet → List Counts → List ℕ
-counts_text emitted counts = flat_map (counts_line emitted) counts

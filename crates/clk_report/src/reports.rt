@@ -4,12 +4,12 @@ ghost use Rattle.std.specs.Prelude.{◌≡◌, ◌+◌, ◌*◌, ◌<◌, ◌≤
 ghost use Rattle.std.specs.List.{flat_map};
 ghost use Rattle.clk_packet.specs.Bytes.{Wrote};
 ghost use Rattle.clk_packet.specs.declared.packet.Packet.{Packet};
-ghost use Rattle.clk_report.specs.Counts.{counts_line, counts_text, line_with};
+ghost use Rattle.clk_report.specs.Counts.{counts_line, counts_of, line_with};
 ghost use Rattle.clk_report.specs.Devices.{all_emitted};
 ghost use Rattle.clk_report.specs.Report.{report_text};
 ghost use Rattle.clk_report.specs.inside.Totals.{AreTotals};
 
-use crate::counts::{Counted, Counts};
+use crate::counts::Counts;
 use crate::line::{LINE, put_line};
 use crate::total::{FEW, SENDERS, Total, count_by_sender};
 use clk_packet::{Fault, Packet, Sink, Tally, write_all};
@@ -43,29 +43,15 @@ pub fn report<W: Sink>(
     ensures { Wrote (W.Sink.taken writer.old) (W.Sink.taken writer.new)
         (W.Sink.failures writer.old) (W.Sink.failures writer.new) result (report_text (all_emitted emitted.now) tallies.now) }
 {
-    write_report(tallies, emitted, writer)
-}
-
-/// Writes the report as `report` does, by the counts of each sender. It is the report of the tallies with these counts
-/// (`counts_tell_tallies`). Doesn't allocate. Takes time in proportion to the emitted packets and the senders.
-///
-/// # Errors
-///
-/// Fault 20 if the sink fails. It has then taken a front of the report.
-pub fn report_counts<W: Sink>(
-    counts: &[Counts],
-    emitted: &[Vec<Packet>],
-    writer: &mut W,
-) -> Result<(), Fault>
-    requires { length emitted.now ≤ MAX_DEVICES }
-    ensures { Wrote (W.Sink.taken writer.old) (W.Sink.taken writer.new)
-        (W.Sink.failures writer.old) (W.Sink.failures writer.new) result (counts_text (all_emitted emitted.now) counts.now) }
-{
-    write_report(counts, emitted, writer)
+    if table_len(tallies) <= FEW {
+        write_lines::<FEW, W>(tallies, emitted, writer)
+    } else {
+        write_lines::<SENDERS, W>(tallies, emitted, writer)
+    }
 }
 
 /// Writes the line of one sender. `emitted` is the total of its packets that all devices emitted. It is for a caller that has counted all
-/// packets: the lines of its senders, in order, are the report. Doesn't allocate.
+/// packets: the lines of its senders, in order, are the report (`counts_tell_tallies`). Doesn't allocate.
 ///
 /// # Errors
 ///
@@ -80,32 +66,14 @@ pub fn report_line<W: Sink>(counts: &Counts, emitted: Total, writer: &mut W) -> 
     write_all(writer, text)
 }
 
-/// Writes the report of some senders by their counts.
-fn write_report<T: Counted, W: Sink>(
-    senders: &[T],
-    emitted: &[Vec<Packet>],
-    writer: &mut W,
-) -> Result<(), Fault>
-    requires { length emitted.now ≤ MAX_DEVICES }
-    ensures { Wrote (W.Sink.taken writer.old) (W.Sink.taken writer.new)
-        (W.Sink.failures writer.old) (W.Sink.failures writer.new) result
-        (flat_map (λ t. counts_line (all_emitted emitted.now) (T.Counted.counted t)) senders.now) }
-{
-    if table_len(senders) <= FEW {
-        write_lines::<FEW, T, W>(senders, emitted, writer)
-    } else {
-        write_lines::<SENDERS, T, W>(senders, emitted, writer)
-    }
-}
-
 /// How many totals a table needs to have one for each of these senders: one more than the greatest of their numbers.
-fn table_len<T: Counted>(senders: &[T]) -> usize
-    ensures within { All (λ t. (T.Counted.counted t).sender < result) senders.now }
+fn table_len(tallies: &[Tally]) -> usize
+    ensures within { All (λ t. t.sender < result) tallies.now }
     ensures limit { result ≤ SENDERS }
 {
     let mut len = 0;
-    for sender in senders {
-        len = len.max(usize::from(sender.number()) + 1);
+    for tally in tallies {
+        len = len.max(usize::from(tally.sender) + 1);
     }
     len
 }
@@ -113,22 +81,22 @@ fn table_len<T: Counted>(senders: &[T]) -> usize
 /// Writes the report by a table of N totals. It isn't inlined, so that the larger table doesn't stand in the frame of a report of few
 /// senders.
 #[inline(never)]
-fn write_lines<const N: usize, T: Counted, W: Sink>(
-    senders: &[T],
+fn write_lines<const N: usize, W: Sink>(
+    tallies: &[Tally],
     emitted: &[Vec<Packet>],
     writer: &mut W,
 ) -> Result<(), Fault>
     requires size { N ≤ SENDERS }
-    requires within { All (λ t. (T.Counted.counted t).sender < N) senders.now }
+    requires within { All (λ t. t.sender < N) tallies.now }
     requires few { length emitted.now ≤ MAX_DEVICES }
     ensures { Wrote (W.Sink.taken writer.old) (W.Sink.taken writer.new)
         (W.Sink.failures writer.old) (W.Sink.failures writer.new) result
-        (flat_map (λ t. counts_line (all_emitted emitted.now) (T.Counted.counted t)) senders.now) }
+        (flat_map (λ t. counts_line (all_emitted emitted.now) (counts_of t)) tallies.now) }
 {
     let mut totals = [Total::NONE; N];
     count_by_sender(&mut totals, emitted);
     let mut lines = [0; ROOM];
-    let mut rest = senders;
+    let mut rest = tallies;
     while !rest.is_empty() {
         let (part, after) = rest.split_at(rest.len().min(LINES));
         let start = put_lines(&mut lines, part, &totals, ROOM);
@@ -141,18 +109,18 @@ fn write_lines<const N: usize, T: Counted, W: Sink>(
 
 /// Puts the lines of some senders before the place `end`. `totals` has the total of each sender's emitted packets, by its number. Returns
 /// where the lines start.
-fn put_lines<T: Counted>(lines: &mut [u8], senders: &[T], totals: &[Total], end: usize) -> usize
-    requires reached { All (λ t. (T.Counted.counted t).sender < length totals.now) senders.now }
-    requires room { 512 * length senders.now ≤ end }
+fn put_lines(lines: &mut [u8], tallies: &[Tally], totals: &[Total], end: usize) -> usize
+    requires reached { All (λ t. t.sender < length totals.now) tallies.now }
+    requires room { 512 * length tallies.now ≤ end }
     requires within { end ≤ length lines.old }
-    ensures piece { (emitted : List Packet) → AreTotals emitted totals.now → drop result lines.new ≡ flat_map (λ t. counts_line emitted (T.Counted.counted t)) senders.now ++ drop end lines.old }
-    ensures near { end ≤ result + 512 * length senders.now }
+    ensures piece { (emitted : List Packet) → AreTotals emitted totals.now → drop result lines.new ≡ flat_map (λ t. counts_line emitted (counts_of t)) tallies.now ++ drop end lines.old }
+    ensures near { end ≤ result + 512 * length tallies.now }
     ensures before { result ≤ end }
 {
-    let [first, rest @ ..] = senders else {
+    let [first, rest @ ..] = tallies else {
         return end;
     };
     let end = put_lines(lines, rest, totals, end);
-    let counts = first.counts();
+    let counts = Counts::of(first);
     put_line(lines, &counts, totals[usize::from(counts.sender)], end)
 }

@@ -2,9 +2,8 @@
 
 ghost use Rattle.std.specs.Prelude.{◌≤◌, ◌++◌, [], List, All, length};
 ghost use Rattle.clk_packet.specs.declared.packet.Packet.{Packet};
-ghost use Rattle.clk_report.specs.Counts.{HasRoom};
 ghost use Rattle.clk_report.specs.Devices.{all_emitted};
-ghost use Rattle.clk_report.specs.inside.Totals.{AreTotals};
+ghost use Rattle.clk_report.specs.inside.Totals.{AreTotals, HasRoom};
 
 use crate::reports::MAX_DEVICES;
 use clk_packet::{MAX_SENDER, Packet};
@@ -24,8 +23,8 @@ pub struct Total {
 
 impl Total {
     ghost use Rattle.std.specs.Prelude.{◌≡◌, ◌+◌, ◌<◌, ◌^◌};
-    ghost use Rattle.clk_report.specs.Counts.{total_of, with_packet};
-    ghost use Rattle.clk_report.specs.inside.Totals.{both};
+    ghost use Rattle.clk_report.specs.Counts.{total_of};
+    ghost use Rattle.clk_report.specs.inside.Totals.{both, with_packet};
 
     /// The total of no packets.
     pub(crate) const NONE: Total = Total {

@@ -1,8 +1,8 @@
 -- The accounts of senders after one event more.
-use Rattle.std.proofs.Common.{◌≡◌, ℕ, ◌+◌, ◌<◌, ◌==◌, Bool, true, false, if◌then◌else◌, List, [], ◌∷◌, ◌++◌, length, map, set, Option, Some, None, slice_get, get_or, refl, sym, ap, ap₂, ◌∙◌, subst, arith}
+use Rattle.std.proofs.Common.{◌≡◌, ℕ, ◌+◌, ◌<◌, ◌==◌, Bool, true, false, if◌then◌else◌, List, [], ◌∷◌, ◌++◌, length, map, set, drop, Option, Some, None, slice_get, get_or, refl, sym, ap, ap₂, ◌∙◌, subst, arith}
 use Rattle.std.specs.List.{list_any, filter_map, cons_option, sum_by}
 use Rattle.std.specs.Option.{option_map}
-use Rattle.std.proofs.lemmas.List.{append-nil, length-append, length-map}
+use Rattle.std.proofs.lemmas.List.{append-nil, append_assoc, drop_more, length-append, length-map}
 use Rattle.std.proofs.lemmas.List.Elements.{filter-append, filter_map-append}
 use Rattle.std.proofs.lemmas.List.Sums.{sum_by-append}
 use Rattle.std.proofs.lemmas.Option.{slice_get-map, slice_get_read, slice_get_within}
@@ -12,17 +12,43 @@ use Rattle.clk_packet.specs.declared.packet.Offered.{Offered}
 use Rattle.clk_packet.specs.declared.packet.Offered.TheVariants.{Accepted, Refused, Evicted}
 use Rattle.clk_packet.specs.Lists.{of_sender, AreRising}
 use Rattle.clk_sched.specs.declared.visit.Visit.{Visit}
-use Rattle.clk_sched.specs.Log.{visits_of, result_of}
+use Rattle.clk_sched.specs.declared.session.departures.Departure.{Departure}
+use Rattle.clk_sched.specs.Departures.{departure_at, departures_in}
+use Rattle.clk_sched.specs.Log.{visits_of, moment_of, result_of}
 use Rattle.clk_tree.specs.declared.plan.parts.SenderSpec.{SenderSpec}
 use Rattle.clk_tree.specs.PlanParts.{number_of}
 use Rattle.clk_router.specs.declared.accounts.Total.{Total}
 use Rattle.clk_router.specs.declared.accounts.Account.{Account}
-use Rattle.clk_router.specs.Accounts.{capped, length_of, total_of, account_after}
+use Rattle.clk_router.specs.Accounts.{capped, length_of, total_of, account_after, account_sender}
 use Rattle.clk_sched.specs.Keeps.{keeps_nothing}
 use Rattle.clk_router.specs.Course.{Course, after}
-use Rattle.clk_router.specs.Events.{sender_numbers, Event, offered, pulled, accepted_in, refused_in, evicted_in, emitted_in}
-use Rattle.clk_router.specs.inside.Accounts.{with_packet, with_its, account_sender, taken_in, turned_away, put_out, with_emitted, noted, given}
+use Rattle.clk_router.specs.Events.{sender_numbers, Event, offered, pulled, pulls_from, accepted_in, refused_in, evicted_in, emitted_in}
+use Rattle.clk_router.specs.inside.Accounts.{with_packet, with_its, put_out, with_emitted}
 use Rattle.clk_router.proofs.Callers.Keyed.{ChangesOnly, others-stay, changed-at}
+
+-- an account after a packet was accepted
+abbrev pub taken_in : Packet → Account → Account
+taken_in p a = record { sender = a.sender; queue = a.queue; accepted = with_its a.sender p a.accepted; refused = a.refused; evicted = a.evicted; emitted = a.emitted }
+
+-- an account after a packet was refused
+abbrev pub turned_away : Packet → Account → Account
+turned_away p a = record { sender = a.sender; queue = a.queue; accepted = a.accepted; refused = with_its a.sender p a.refused; evicted = a.evicted; emitted = a.emitted }
+
+-- an account after an offer with this outcome
+abbrev pub noted : Packet → Offered → Account → Account
+noted p Accepted a = taken_in p a
+noted p (Refused q) a = turned_away p a
+noted p (Evicted front) a = put_out front (taken_in p a)
+
+-- an account after a pull with this result
+abbrev pub given : Option Packet → Account → Account
+given None a = a
+given (Some p) a = with_emitted p a
+
+-- an account after a drain that emitted these packets
+abbrev pub departed : List Departure → Account → Account
+departed [] a = a
+departed (d ∷ more) a = departed more (with_emitted d.packet a)
 
 -- a count that was capped before more came
 capped-plus : (n k : ℕ) → capped (n + k) ≡ capped (capped n + k)
@@ -110,12 +136,44 @@ pub accounts-pulled : (events : List Event) (d moment : ℕ) (visits : List Visi
 accounts-pulled events d moment visits got is = map-after (given got) (account_after events) (account_after (events ++ pulled d moment visits ∷ []))
     (λ s. ap (λ o. given o (account_after events s)) (sym is) ∙ given-event d moment visits (account_after events s) ∙ account-after events (pulled d moment visits) s)
 
+-- one departure more
+departed-next : (moment : ℕ) (got : Option Packet) (more : List Departure) (a : Account) → departed (departure_at moment got ++ more) a ≡ departed more (given got a)
+departed-next moment None more a = refl
+departed-next moment (Some p) more a = refl
+
+account-drained : (events : List Event) (d moment : ℕ) (pulls : List (List Visit)) (s : SenderSpec) → departed (departures_in pulls) (account_after events s) ≡ account_after (events ++ pulls_from d moment pulls) s
+account-drained events d moment [] s = ap (λ es. account_after es s) (sym (append-nil events))
+account-drained events d moment (pull ∷ pulls) s =
+    let got = result_of (visits_of 0 pull) in
+    let e = pulled d moment pull in
+    departed-next (moment_of pull) got (departures_in pulls) (account_after events s)
+    ∙ ap (departed (departures_in pulls)) (given-event d moment pull (account_after events s) ∙ account-after events e s)
+    ∙ account-drained (events ++ e ∷ []) d (moment + 1) pulls s
+    ∙ ap (λ es. account_after es s) (append_assoc events (e ∷ []) (pulls_from d (moment + 1) pulls))
+
+pub accounts-drained : (events : List Event) (d moment : ℕ) (pulls : List (List Visit)) (specs : List SenderSpec)
+    → map (departed (departures_in pulls)) (map (account_after events) specs) ≡ map (account_after (events ++ pulls_from d moment pulls)) specs
+accounts-drained events d moment pulls = map-after (departed (departures_in pulls)) (account_after events) (account_after (events ++ pulls_from d moment pulls)) (account-drained events d moment pulls)
+
+-- what is left of a drain, after the departure at a place was counted
+pub departed-on : (departures : List Departure) (i : ℕ) (d : Departure) (accounts : List Account) → i < length departures
+    → map (departed (drop (i + 1) departures)) (map (with_emitted (get_or departures i d).packet) accounts) ≡ map (departed (drop i departures)) accounts
+departed-on departures i d accounts within =
+    map-after (departed (drop (i + 1) departures)) (with_emitted (get_or departures i d).packet) (departed (drop i departures)) (λ a. ap (λ ds. departed ds a) (sym (drop_more departures i d within))) accounts
+
+pub departed-none : (accounts : List Account) → map (departed []) accounts ≡ accounts
+departed-none [] = refl
+departed-none (a ∷ accounts) = ap (λ l. a ∷ l) (departed-none accounts)
+
 -- whose accounts these are
 pub accounts-senders : (events : List Event) (specs : List SenderSpec) → map account_sender (map (account_after events) specs) ≡ map number_of specs
 accounts-senders events = map-after account_sender (account_after events) number_of (λ s. refl)
 
 pub taken_in-senders : (p : Packet) (accounts : List Account) → map account_sender (map (taken_in p) accounts) ≡ map account_sender accounts
 taken_in-senders p = map-after account_sender (taken_in p) account_sender (λ a. refl)
+
+pub emitted-senders : (p : Packet) (accounts : List Account) → map account_sender (map (with_emitted p) accounts) ≡ map account_sender accounts
+emitted-senders p = map-after account_sender (with_emitted p) account_sender (λ a. refl)
 
 pub evicted-both : (p front : Packet) (accounts : List Account) → map (put_out front) (map (taken_in p) accounts) ≡ map (noted p (Evicted front)) accounts
 evicted-both p front = map-after (put_out front) (taken_in p) (noted p (Evicted front)) (λ a. refl)
@@ -192,8 +250,7 @@ module _ (old new : Course) (more : List Event) where
   alike-after accounts numbers are goes_on numbers_are =
       ap (map account_sender) are ∙ accounts-senders old.events old.setup.senders ∙ ap (λ (c : Course). sender_numbers c.setup) (sym goes_on) ∙ sym numbers_are
 
-  pub accounts-go_on : (f : Account → Account) (accounts changed : List Account) (names : List (List ℕ)) → (old.keeps ≡ keeps_nothing) × (accounts ≡ map (account_after old.events) old.setup.senders) × (names ≡ old.setup.names) → new ≡ after old more
-      → map f (map (account_after old.events) old.setup.senders) ≡ map (account_after (old.events ++ more)) old.setup.senders → changed ≡ map f accounts
-      → (new.keeps ≡ keeps_nothing) × (changed ≡ map (account_after new.events) new.setup.senders) × (names ≡ new.setup.names)
-  accounts-go_on f accounts changed names were goes_on step are =
-      (ap (λ (c : Course). c.keeps) goes_on ∙ were.0, are ∙ ap (map f) were.1 ∙ step ∙ ap (λ (c : Course). map (account_after c.events) c.setup.senders) (sym goes_on), were.2 ∙ ap (λ (c : Course). c.setup.names) (sym goes_on))
+  pub accounts-go_on : (accounts changed : List Account) (names : List (List ℕ)) → (old.keeps ≡ keeps_nothing) × (accounts ≡ map (account_after old.events) old.setup.senders) × (names ≡ old.setup.names) → new ≡ after old more
+      → changed ≡ map (account_after (old.events ++ more)) old.setup.senders → (new.keeps ≡ keeps_nothing) × (changed ≡ map (account_after new.events) new.setup.senders) × (names ≡ new.setup.names)
+  accounts-go_on accounts changed names were goes_on are =
+      (ap (λ (c : Course). c.keeps) goes_on ∙ were.0, are ∙ ap (λ (c : Course). map (account_after c.events) c.setup.senders) (sym goes_on), were.2 ∙ ap (λ (c : Course). c.setup.names) (sym goes_on))

@@ -30,3 +30,7 @@ account_after events s = record {
   evicted = total_of (of_sender s.number (filter_map evicted_in events));
   emitted = total_of (of_sender s.number (filter_map emitted_in events));
 }
+
+-- the number of the sender of an account
+abbrev pub account_sender : Account → ℕ
+account_sender a = a.sender

@@ -1,11 +1,17 @@
 //! The totals of the packets of each sender of a router.
 
-ghost use Rattle.std.specs.Prelude.{◌≡◌, Some, map, slice_get, IfOk, IsOkUnless};
+ghost use Rattle.std.specs.Prelude.{◌≡◌, ℕ, ◌++◌, ◌∷◌, [], List, Some, map, slice_get, IfOk, IsOkUnless};
 ghost use Rattle.clk_packet.specs.Lists.{AreRising};
-ghost use Rattle.clk_router.specs.inside.Accounts.{account_made, account_sender, noted, put_out, with_emitted, given};
+ghost use Rattle.clk_sched.specs.declared.visit.Visit.{Visit};
+ghost use Rattle.clk_sched.specs.Departures.{departures_in};
+ghost use Rattle.clk_sched.specs.Log.{visits_of, result_of};
+ghost use Rattle.clk_router.specs.Accounts.{account_after, account_sender};
+ghost use Rattle.clk_router.specs.Events.{Event, offered, pulled, pulls_from};
+ghost use Rattle.clk_router.specs.inside.Accounts.{put_out, with_emitted};
 
 use crate::senders::place_of;
 use clk_packet::{Fault, Offered, Packet};
+use clk_sched::Departure;
 use clk_tree::SenderSpec;
 use std::alloc::Global;
 
@@ -61,7 +67,7 @@ impl Total {
 
 /// The accounts of these senders, before they have sent anything. Fault 1 if an allocation fails.
 pub fn accounts_of(alloc: Global, specs: &[SenderSpec]) -> Result<Vec<Account>, Fault>
-    ensures made { IfOk result (λ accounts. accounts.items ≡ map account_made specs.now) }
+    ensures made { IfOk result (λ accounts. accounts.items ≡ map (account_after []) specs.now) }
     ensures fault { IsOkUnless result Fault.Memory }
 {
     let mut accounts = Vec::new(alloc);
@@ -90,7 +96,7 @@ pub fn count_offered(
     requires alike { map account_sender accounts.old.items ≡ numbers.now }
     requires rising { AreRising numbers.now }
     requires here { slice_get numbers.now place ≡ Some packet.sender }
-    ensures { accounts.new.items ≡ map (noted packet outcome) accounts.old.items }
+    ensures { (events : List Event) (specs : _) → accounts.old.items ≡ map (account_after events) specs → accounts.new.items ≡ map (account_after (events ++ offered packet outcome ∷ [])) specs }
 {
     let account = &mut accounts[place];
     match outcome {
@@ -116,14 +122,28 @@ fn count_evicted(accounts: &mut Vec<Account>, numbers: &[u16], front: Packet)
 }
 
 /// Counts the packet that a pull emitted, if it emitted one. `numbers` has the senders of the accounts.
-pub fn count_given(accounts: &mut Vec<Account>, numbers: &[u16], got: Option<Packet>)
+pub fn count_pulled(accounts: &mut Vec<Account>, numbers: &[u16], got: Option<Packet>)
     requires alike { map account_sender accounts.old.items ≡ numbers.now }
     requires rising { AreRising numbers.now }
-    ensures { accounts.new.items ≡ map (given got) accounts.old.items }
+    ensures { (events : List Event) (specs : _) (device moment : ℕ) (visits : List Visit) → result_of (visits_of 0 visits) ≡ got → accounts.old.items ≡ map (account_after events) specs
+        → accounts.new.items ≡ map (account_after (events ++ pulled device moment visits ∷ [])) specs }
 {
     match got {
         Some(packet) => count_emitted(accounts, numbers, packet),
         None => {}
+    }
+}
+
+/// Counts the packets that a drain of a device emitted. `numbers` has the senders of the accounts.
+pub fn count_drained(accounts: &mut Vec<Account>, numbers: &[u16], departures: &[Departure])
+    requires alike { map account_sender accounts.old.items ≡ numbers.now }
+    requires rising { AreRising numbers.now }
+    ensures alike { map account_sender accounts.new.items ≡ numbers.now }
+    ensures counted { (events : List Event) (specs : _) (device moment : ℕ) (pulls : List (List Visit)) → departures.now ≡ departures_in pulls → accounts.old.items ≡ map (account_after events) specs
+        → accounts.new.items ≡ map (account_after (events ++ pulls_from device moment pulls)) specs }
+{
+    for departure in departures {
+        count_emitted(accounts, numbers, departure.packet);
     }
 }
 

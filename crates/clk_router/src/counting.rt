@@ -1,6 +1,6 @@
 //! A router that keeps only totals.
 
-use crate::accounts::{Account, accounts_of, count_given, count_offered};
+use crate::accounts::{Account, accounts_of, count_offered, count_pulled};
 use crate::router::Router;
 use clk_packet::{Fault, Offered, Packet};
 use clk_sched::Keeps;
@@ -39,7 +39,7 @@ impl Model for CountingRouter {
 }
 
 impl CountingRouter {
-    ghost use Rattle.std.specs.Prelude.{◌≡◌, ◌<◌, ◌≤◌, ◌∷◌, [], Some, None, false, map, length, slice_get, IfOk, IsOkUnless, MatchOption};
+    ghost use Rattle.std.specs.Prelude.{◌≡◌, ◌<◌, ◌≤◌, ◌∷◌, [], Some, None, map, length, slice_get, IfOk, IsOkUnless, MatchOption};
     ghost use Rattle.clk_sched.specs.Keeps.{keeps_nothing};
     ghost use Rattle.clk_router.specs.Accounts.{account_after};
     ghost use Rattle.clk_router.specs.Course.{after, sender_at, CanOffer, CanPull, IsOpened, IsPulled};
@@ -93,7 +93,7 @@ impl CountingRouter {
     {
         // Nothing is kept, so that no allocation fails.
         let got = self.router.pull(device, moment).unwrap();
-        count_given(&mut self.accounts, self.router.senders(), got);
+        count_pulled(&mut self.accounts, self.router.senders(), got);
         got
     }
 

@@ -143,6 +143,7 @@ impl Session {
         ensures gone { self.new.gone ≡ self.old.gone }
         ensures fault { IsOkUnless result Fault.Memory }
         ensures unkept { self.old.keeps ≡ keeps_nothing → pulls_made (progress_of self.old) < end_of_pulls → IsOk result }
+        ensures ended { end_of_pulls ≤ pulls_made (progress_of self.old) → result ≡ Err Fault.Memory }
         ensures unchanged { OnErr result (self.new ≡ self.old) }
         ensures unasked { OnErr result (q.new ≡ q.old) }
     {
@@ -180,9 +181,9 @@ impl Session {
     ///
     /// # Errors
     ///
-    /// Fault 1 if a pull fails, which never happens to a session that keeps nothing before it was pulled 2^62 times. Fault 17, with the number of pulls, if `bound(left)` pulls
-    /// emitted fewer packets. The session then holds the pulls that were made. Fault 17 never comes if `q` loses nothing, and the heads and
-    /// the leaves of the tree together hold exactly `left` packets.
+    /// Fault 1 if an allocation fails, or at the end of pulls. It never comes if nothing is kept and fewer than 2^62 pulls were made
+    /// before. Fault 17, with the number of pulls, if `bound(left)` pulls emitted fewer packets. The session then holds the pulls that were
+    /// made. Fault 17 never comes if `q` loses nothing, and the heads and the leaves of the tree together hold exactly `left` packets.
     pub fn drain<Q: Ask>(&mut self, q: &mut Q, left: u64, moment: u64) -> Result<u64, Fault>
         requires left { left ≤ most_left }
         requires moment { drain_start self.old moment < end_of_drains }
@@ -233,9 +234,9 @@ impl Session {
     ///
     /// # Errors
     ///
-    /// Fault 1 if an allocation fails. Fault 17, with the number of pulls, if `bound(left)` pulls emitted fewer packets. The session then
-    /// holds the pulls that were made. Fault 17 never comes if `q` loses nothing, and the heads and the leaves of the tree together hold
-    /// exactly `left` packets.
+    /// Fault 1 if an allocation fails, or at the end of pulls. Fault 17, with the number of pulls, if `bound(left)` pulls emitted fewer
+    /// packets. The session then holds the pulls that were made. Fault 17 never comes if `q` loses nothing, and the heads and the leaves of
+    /// the tree together hold exactly `left` packets.
     pub fn close<Q: Ask>(
         &mut self,
         alloc: Global,

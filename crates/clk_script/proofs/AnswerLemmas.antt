@@ -1,23 +1,21 @@
 -- How a router goes on by the commands of some rows, and what it comes to.
-use Rattle.std.proofs.Common.{◌≡◌, ℕ, ◌+◌, ◌<◌, ◌≤◌, zero, suc, nat_lt, true, List, [], ◌∷◌, ◌++◌, length, map, All, take, drop, set, get_or, Option, Some, None, IfSome, Vec, refl, sym, ap, ap₂, subst, ◌∙◌, append_assoc, append-nil, arith}
+use Rattle.std.proofs.Common.{◌≡◌, ℕ, ◌+◌, ◌<◌, ◌≤◌, zero, suc, nat_lt, true, List, [], ◌∷◌, ◌++◌, length, map, take, drop, set, get_or, Option, Some, None, IfSome, Vec, refl, sym, ap, ap₂, subst, ◌∙◌, append_assoc, append-nil, arith}
 use Rattle.std.specs.Option.{is_some}
 use Rattle.std.specs.List.{flat_map, filter_map, cons_option, AllByRecursion, AllZip}
 use Rattle.std.specs.declared.alloc.Global.{Global}
 use Rattle.std.proofs.lemmas.List.{map-append, length-map, length-take, take_all, length-set, take-append-drop, take_more, take_more_set, drop_more, drop-set-lt}
 use Rattle.std.proofs.lemmas.List.Elements.{filter_map-append}
-use Rattle.std.proofs.lemmas.List.Folds.{flat_map-map}
 use Rattle.std.proofs.lemmas.List.FromFn.{length-map-range_with_len}
 use Rattle.std.proofs.lemmas.Grind.{drop_more_same}
 use Rattle.clk_packet.specs.declared.packet.Packet.{Packet}
 use Rattle.clk_packet.specs.declared.packet.Offered.{Offered}
 use Rattle.clk_report.specs.Report.{report_text}
-use Rattle.clk_report.specs.Counts.{counts_text}
-use Rattle.clk_report.proofs.Callers.Counts.{counts-tell}
-use Rattle.clk_report.specs.Devices.{all_emitted, lists_of}
+use Rattle.clk_report.specs.Devices.{lists_of}
+use Rattle.clk_router.specs.Accounts.{account_after}
+use Rattle.clk_script.specs.AccountLines.{account_line}
 use Rattle.clk_sched.specs.declared.visit.Visit.{Visit}
 use Rattle.clk_sched.specs.declared.session.departures.Departure.{Departure}
 use Rattle.clk_sched.specs.Results.{emitted}
-use Rattle.clk_packet.specs.Lists.{AreRising}
 use Rattle.clk_script.specs.declared.script.Command.{Command}
 use Rattle.clk_script.specs.declared.script.Command.TheVariants.{Send, Pull}
 use Rattle.clk_script.specs.declared.rows.Row.{Row}
@@ -26,12 +24,11 @@ use Rattle.clk_script.specs.declared.past.Past.{Past}
 use Rattle.clk_script.specs.declared.script_router.ScriptRouter.{ScriptRouter}
 use Rattle.clk_script.specs.Script.{Names, most_lines}
 use Rattle.clk_router.specs.Events.{Setup, sender_numbers, Event, offered, pulled, events_at, log_of, logs_of, tally_after, emitted_in}
-use Rattle.clk_script.specs.Meaning.{names_of, has_several, command_of, event_text, CloseFirst, Writes}
-use Rattle.clk_script.specs.inside.ScriptRouter.{names_in, numbers_in, IsAt, AreLogs, IsPastOf, Starts, IsReady, given_kept, LeadsOnByPull, IsReadable, HasRoomForOne}
+use Rattle.clk_script.specs.Meaning.{names_of, has_several, command_of, event_text, ending_text, CloseFirst, Writes}
+use Rattle.clk_script.specs.inside.ScriptRouter.{names_in, IsAt, AreLogs, IsPastOf, Starts, IsReady, given_kept, LeadsOnByPull, IsReadable}
 use Rattle.clk_script.specs.inside.Rows.{command_asked, asked_by, row_at, IsRowOf, IsToDo, CarriesOut, AnswersRows, IsClosedFrom, rows_text, closings_text, are_several, closings_of, given_first, given_of, ending_of}
 use Rattle.clk_script.proofs.RowLemmas.{rows-written}
-use Rattle.clk_script.proofs.CountLemmas.{room-after}
-use Rattle.clk_script.proofs.ScriptRouterLemmas.{numbers-its}
+use Rattle.clk_script.proofs.ScriptRouterLemmas.{alike-its}
 
 -- the commands of rows that are to be carried out are readable
 row-readable : (names : Names) (r : Row) → IsToDo names r → IsReadable (command_asked r)
@@ -120,14 +117,11 @@ IsReady-answered setup old new asked done starts to_do few answers =
     let carried = answers setup [] starts.leads in
     let at = carried.leads in
     let count : length asked ≡ length carried.more = sym (length-map asked command_asked) ∙ ap length carried.theirs ∙ length-map carried.more command_of in
-    let readable = subst (AllByRecursion IsReadable) carried.theirs (each-readable (names_in old) asked to_do) in
-    let alike : numbers_in new.counts.items ≡ sender_numbers new.router.setup = numbers-its setup carried.more new at ∙ ap sender_numbers (sym at.setup_is) in (
+    let readable = subst (AllByRecursion IsReadable) carried.theirs (each-readable (names_in old) asked to_do) in (
       record {
         few = subst (λ l. length l ≤ most_lines) (sym at.events_are) (omega (arith, count, few));
-        room = subst (All HasRoomForOne) (sym at.counts) (room-after carried.more (sender_numbers setup) (omega (arith, count, few)));
         readable = subst (λ l. AllByRecursion IsReadable (map command_of l)) (sym at.events_are) readable;
-        alike = alike;
-        rising = subst AreRising (sym (numbers-its setup carried.more new at)) starts.rising;
+        alike = alike-its setup carried.more new starts.rising at;
       },
       names-its setup carried.more new at ∙ sym (names-its setup [] old starts.leads),
     )
@@ -223,13 +217,11 @@ module _ (setup : Setup) (old mid : ScriptRouter) (asked done : List Row) (start
     logs : AreLogs new.router.keeps.visits past (logs_of setup (carried.more ++ later))
     logs are_kept = is.logs are_kept ∙ its_logs
 
-    report : counts_text (all_emitted past.emitted.items) past.counts.items
+    report : flat_map account_line past.accounts.items
         ≡ report_text (flat_map emitted (logs_of setup (carried.more ++ later))) (map (tally_after (carried.more ++ later)) (sender_numbers setup))
     report =
-        ap₂ counts_text
-        (sym (flat_map-map (λ l. l) (λ (l : Vec Packet Global). l.items) past.emitted.items) ∙ ap (flat_map (λ l. l)) came ∙ flat_map-map (λ l. l) emitted (logs_of setup (carried.more ++ later)))
-        (is.counts ∙ at.counts)
-        ∙ counts-tell (flat_map emitted (logs_of setup (carried.more ++ later))) (map (tally_after (carried.more ++ later)) (sender_numbers setup))
+        ap (flat_map account_line) (is.accounts ∙ at.accounts ∙ (λ i. map (account_after (sym at.events_are i)) (sym at.setup_is i).senders)) ∙ is.report
+        ∙ (λ i. ending_text (at.setup_is i) (Some 0) (at.events_are i))
 
   -- What it comes to, without a closing and with one.
   pub Writes-answered : (new : ScriptRouter) (past : Past) (drain : Option ℕ) (closings : Option (List (List Departure))) → IsClosedFrom mid new drain closings → IsPastOf new past

@@ -8,7 +8,7 @@ use Rattle.clk_sched.specs.declared.session.departures.Departure.{Departure}
 use Rattle.clk_script.specs.declared.script_router.ScriptRouter.{ScriptRouter}
 use Rattle.clk_router.specs.Events.{Setup, Event}
 use Rattle.clk_script.specs.Meaning.{has_several, closing_text}
-use Rattle.clk_script.specs.inside.ScriptRouter.{IsAt, IsReady, departure_text, LeadsOnByDrain, StaysElsewhere}
+use Rattle.clk_script.specs.inside.ScriptRouter.{AreAlike, IsAt, IsReady, departure_text, LeadsOnByDrain, StaysElsewhere}
 use Rattle.clk_router.specs.Course.{events_of, CanClose}
 use Rattle.clk_script.specs.Script.{most_moment}
 use Rattle.clk_script.specs.inside.Rows.{closings_text, ClosesFirst, IsClosedAt}
@@ -34,10 +34,11 @@ pub record IsClosedTo (old new : ScriptRouter) (moment : ℕ) (closings : List (
   pub closings_count : length closings ≡ d
   pub given : new.given ≡ old.given
   pub keeps : new.router.keeps ≡ old.router.keeps
+  pub alike : AreAlike new
   pub closes : (setup : Setup) (events : List Event) → IsAt setup events old → ClosesFirst setup new moment d closings events
 
-pub IsClosedTo-none : (r : ScriptRouter) (moment : ℕ) (closings : List (List Departure)) → closings ≡ [] → IsClosedTo r r moment closings 0
-IsClosedTo-none r moment closings none =
+pub IsClosedTo-none : (r : ScriptRouter) (moment : ℕ) (closings : List (List Departure)) → closings ≡ [] → AreAlike r → IsClosedTo r r moment closings 0
+IsClosedTo-none r moment closings none alike =
     record {
       within = omega arith;
       setup = refl;
@@ -45,6 +46,7 @@ IsClosedTo-none r moment closings none =
       closings_count = ap length none;
       given = refl;
       keeps = refl;
+      alike = alike;
       closes = λ setup events at. record {
         closing = record { closed = []; closes = refl; leads = subst (λ l. IsAt setup l r) (sym (append-nil events)) at };
         lines = ap (closings_text (has_several setup) 0) (sym none);
@@ -59,9 +61,9 @@ IsClosedTo-can old new moment closings d closed ready low within =
 
 -- One device more was drained.
 pub IsClosedTo-more : (old mid new : ScriptRouter) (moment : ℕ) (closings : List (List Departure)) (d : ℕ) (departures : List Departure) → IsClosedTo old mid moment closings d → d < length mid.router.setup.trees
-    → StaysElsewhere d mid.router new.router → new.router.setup ≡ mid.router.setup → new.given ≡ mid.given → new.router.keeps ≡ mid.router.keeps
+    → StaysElsewhere d mid.router new.router → new.router.setup ≡ mid.router.setup → new.given ≡ mid.given → new.router.keeps ≡ mid.router.keeps → AreAlike new
     → ((setup : Setup) (events : List Event) → IsAt setup events mid → LeadsOnByDrain setup new d moment events departures) → IsClosedTo old new moment (closings ++ departures ∷ []) (d + 1)
-IsClosedTo-more old mid new moment closings d departures closed within elsewhere setup_is given keeps leads =
+IsClosedTo-more old mid new moment closings d departures closed within elsewhere setup_is given keeps alike leads =
     subst (IsClosedTo old new moment (closings ++ departures ∷ [])) (sym (add-one d)) (record {
       within = let count = ap (λ (s : Setup). length s.trees) closed.setup in omega (arith, count, within);
       setup = setup_is ∙ closed.setup;
@@ -72,6 +74,7 @@ IsClosedTo-more old mid new moment closings d departures closed within elsewhere
       closings_count = length-append closings (departures ∷ []) ∙ ap (λ n. n + 1) closed.closings_count ∙ add-one d;
       given = given ∙ closed.given;
       keeps = keeps ∙ closed.keeps;
+      alike = alike;
       closes = closes;
     })
   where

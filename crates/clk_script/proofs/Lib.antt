@@ -8,8 +8,8 @@ mod Record
 mod Alike
 mod ScriptRouterLemmas
 mod DrainLemmas
-mod CountLemmas
-mod TallyLemmas
+mod LengthLemmas
+mod ReportLemmas
 mod ReadingLemmas
 mod SourceLemmas
 mod RowLemmas

@@ -8,36 +8,43 @@ use Rattle.std.proofs.lemmas.List.Elements.{filter-append, filter_map-append}
 use Rattle.clk_packet.specs.declared.packet.Packet.{Packet}
 use Rattle.clk_packet.specs.declared.packet.Offered.{Offered}
 use Rattle.clk_packet.specs.declared.packet.Offered.TheVariants.{Accepted, Refused, Evicted}
-use Rattle.clk_packet.specs.declared.tally.Tally.{Tally}
-use Rattle.clk_report.specs.Counts.{counts_of}
+use Rattle.clk_packet.specs.Lists.{AreRising}
 use Rattle.clk_sched.specs.declared.visit.Visit.{Visit}
 use Rattle.clk_sched.specs.declared.session.departures.Departure.{Departure}
 use Rattle.clk_sched.specs.Departures.{departure_at, departures_in}
 use Rattle.clk_sched.specs.Log.{visits_of, moment_of, result_of}
+use Rattle.clk_tree.specs.declared.plan.parts.SenderSpec.{SenderSpec}
 use Rattle.clk_tree.specs.PlanParts.{number_of}
+use Rattle.clk_router.specs.Accounts.{account_after, account_sender}
+use Rattle.clk_router.proofs.Callers.Accounts.{accounts-senders}
 use Rattle.clk_router.specs.Course.{Course, after, events_of, accepted_at, IsPulled, IsClosed, CanOffer, CanPull, CanClose}
-use Rattle.clk_router.specs.Events.{Setup, sender_numbers, Event, offered, pulled, happens_at, events_at, number_from, pull_in, moment_in, accepted_in, evicted_in, tally_after, CanHappen, pulls_from, Closes}
+use Rattle.clk_router.specs.Events.{Setup, sender_numbers, Event, offered, pulled, happens_at, events_at, number_from, pull_in, moment_in, accepted_in, evicted_in, CanHappen, pulls_from, Closes}
 use Rattle.clk_router.proofs.Callers.Events.{pulls-elsewhere, pulls-add_none}
 use Rattle.clk_script.specs.declared.script_router.ScriptRouter.{ScriptRouter}
 use Rattle.clk_script.specs.Script.{most_lines, most_moment}
 use Rattle.clk_script.specs.Meaning.{has_several, command_of, given_text, closing_text}
-use Rattle.clk_script.specs.inside.ScriptRouter.{noted, names_in, numbers_in, evicted_kept, IsAt, IsReadable, IsReady, LeadsOnByPull, departure_text, LeadsOnByDrain, StaysElsewhere}
-use Rattle.clk_script.proofs.CountLemmas.{numbers-counted, length-filter-le, length-filter_map-le}
-use Rattle.clk_script.proofs.TallyLemmas.{tallies-offered, tallies-pulled, tallies-closed, map-tallies}
+use Rattle.clk_script.specs.inside.ScriptRouter.{names_in, evicted_kept, AreAlike, IsAt, IsReadable, IsReady, LeadsOnByPull, departure_text, LeadsOnByDrain, StaysElsewhere}
+use Rattle.clk_script.proofs.LengthLemmas.{length-filter-le, length-filter_map-le}
 
--- whose the counts are
-pub numbers-its : (setup : Setup) (events : List Event) (r : ScriptRouter) → IsAt setup events r → numbers_in r.counts.items ≡ sender_numbers setup
-numbers-its setup events r at = ap numbers_in at.counts ∙ numbers-counted (map (tally_after events) (sender_numbers setup)) ∙ map-tallies events (sender_numbers setup)
+-- whose the accounts are
+pub alike-its : (setup : Setup) (events : List Event) (r : ScriptRouter) → AreRising (sender_numbers setup) → IsAt setup events r → AreAlike r
+alike-its setup events r rising at =
+    let numbers = ap sender_numbers at.setup_is in
+    record { numbers = ap (map account_sender) at.accounts ∙ accounts-senders events setup.senders ∙ sym numbers; rising = subst AreRising (sym numbers) rising }
+
+-- They stay so where the router goes on.
+pub alike-still : (old new : ScriptRouter) (more : List Event) (numbers : List ℕ) → AreAlike old → new.router ≡ after old.router more → numbers ≡ sender_numbers new.router.setup → map account_sender old.accounts.items ≡ numbers
+alike-still old new more numbers alike goes_on are = alike.numbers ∙ ap (λ (c : Course). sender_numbers c.setup) (sym goes_on) ∙ sym are
 
 -- A packet more was offered.
 pub IsAt-offered : (setup : Setup) (events : List Event) (old new : ScriptRouter) (p : Packet) (outcome : Offered) → IsAt setup events old → new.router ≡ after old.router (offered p outcome ∷ [])
-    → CanHappen new.router.setup new.router.events → ((ts : List Tally) → old.counts.items ≡ map counts_of ts → new.counts.items ≡ map counts_of (map (noted p outcome) ts)) → new.evicted.items ≡ evicted_kept outcome old.evicted.items → IsAt setup (events ++ offered p outcome ∷ []) new
+    → CanHappen new.router.setup new.router.events → ((before : List Event) (specs : List SenderSpec) → old.accounts.items ≡ map (account_after before) specs → new.accounts.items ≡ map (account_after (before ++ offered p outcome ∷ [])) specs) → new.evicted.items ≡ evicted_kept outcome old.evicted.items → IsAt setup (events ++ offered p outcome ∷ []) new
 IsAt-offered setup events old new p outcome at goes_on can counted evicted =
     record {
       can_happen = subst (λ s. CanHappen s (events ++ offered p outcome ∷ [])) setup_is (subst (λ l. CanHappen new.router.setup l) events_are can);
       setup_is = setup_is;
       events_are = events_are;
-      counts = counted (map (tally_after events) (sender_numbers setup)) at.counts ∙ ap (map counts_of) (tallies-offered events p outcome (sender_numbers setup));
+      accounts = counted events setup.senders at.accounts;
       evicted = evicted ∙ ap (evicted_kept outcome) at.evicted ∙ fronts outcome ∙ sym (filter_map-append evicted_in events (offered p outcome ∷ []));
     }
   where
@@ -54,8 +61,10 @@ IsAt-offered setup events old new p outcome at goes_on can counted evicted =
 
 -- A device was pulled once more.
 pub LeadsOnByPull-pulled : (setup : Setup) (events : List Event) (old new : ScriptRouter) (d moment : ℕ) (got : Option Packet) → IsAt setup events old → IsPulled old.router new.router d moment got
-    → CanHappen new.router.setup new.router.events → new.counts ≡ old.counts → new.evicted ≡ old.evicted → LeadsOnByPull setup new d moment got events
-LeadsOnByPull-pulled setup events old new d moment got at pull can counts evicted =
+    → CanHappen new.router.setup new.router.events
+    → ((before : List Event) (specs : List SenderSpec) (device t : ℕ) (visits : List Visit) → result_of (visits_of 0 visits) ≡ got → old.accounts.items ≡ map (account_after before) specs → new.accounts.items ≡ map (account_after (before ++ pulled device t visits ∷ [])) specs)
+    → new.evicted ≡ old.evicted → LeadsOnByPull setup new d moment got events
+LeadsOnByPull-pulled setup events old new d moment got at pull can counted evicted =
     record {
       visits = pull.visits;
       result = pull.result;
@@ -63,7 +72,7 @@ LeadsOnByPull-pulled setup events old new d moment got at pull can counts evicte
         can_happen = subst (λ s. CanHappen s (events ++ pulled d moment pull.visits ∷ [])) setup_is (subst (λ l. CanHappen new.router.setup l) events_are can);
         setup_is = setup_is;
         events_are = events_are;
-        counts = ap (λ cs. cs.items) counts ∙ at.counts ∙ ap (map counts_of) (tallies-pulled events d moment pull.visits (sender_numbers setup));
+        accounts = counted events setup.senders d moment pull.visits pull.result at.accounts;
         evicted = ap (λ ps. ps.items) evicted ∙ at.evicted ∙ sym (filter_map-append evicted_in events (pulled d moment pull.visits ∷ []) ∙ append-nil (filter_map evicted_in events));
       };
     }
@@ -100,7 +109,10 @@ module _ (old new : ScriptRouter) (d moment : ℕ) (departures : List Departure)
       ∙ ap (λ l. events_of old.router k ++ l) (pulls-elsewhere old.router.setup d k _ closed.closes.closing other)
       ∙ append-nil (events_of old.router k)
 
-  module _ (setup : Setup) (events : List Event) (at : IsAt setup events old) (can : CanHappen new.router.setup new.router.events) (counts : new.counts ≡ old.counts) (evicted : new.evicted ≡ old.evicted) where
+  module _ (setup : Setup) (events : List Event) (at : IsAt setup events old) (can : CanHappen new.router.setup new.router.events)
+      (counted : (before : List Event) (specs : List SenderSpec) (device t : ℕ) (pulls : List (List Visit)) → departures ≡ departures_in pulls → old.accounts.items ≡ map (account_after before) specs
+      → new.accounts.items ≡ map (account_after (before ++ pulls_from device t pulls)) specs)
+      (evicted : new.evicted ≡ old.evicted) where
     setup_is : new.router.setup ≡ setup
     setup_is = ap (λ (c : Course). c.setup) closed.goes_on ∙ at.setup_is
 
@@ -126,9 +138,9 @@ module _ (old new : ScriptRouter) (d moment : ℕ) (departures : List Departure)
             can_happen = subst (λ s. CanHappen s (events ++ closed.last)) setup_is (subst (λ l. CanHappen new.router.setup l) events_are can);
             setup_is = setup_is;
             events_are = events_are;
-            counts =
-                ap (λ cs. cs.items) counts ∙ at.counts ∙ ap (map counts_of) (tallies-closed events d start closed.closes.closing (sender_numbers setup))
-                ∙ ap (λ l. map counts_of (map (tally_after (events ++ l)) (sender_numbers setup))) (sym closed.closes.are);
+            accounts =
+                counted events setup.senders d start closed.closes.closing closed.emitted at.accounts
+                ∙ ap (λ l. map (account_after (events ++ l)) setup.senders) (sym closed.closes.are);
             evicted =
                 ap (λ ps. ps.items) evicted ∙ at.evicted ∙ sym (pulls-add_none evicted_in (λ k n visits. refl) events d start closed.closes.closing)
                 ∙ ap (λ l. filter_map evicted_in (events ++ l)) (sym closed.closes.are);
@@ -164,18 +176,18 @@ module _ (r : ScriptRouter) (ready : IsReady r) where
   few-pulls : (d : ℕ) → length (filter_map pull_in (events_of r.router d)) ≤ most_lines
   few-pulls d = let fewer = length-filter_map-le pull_in (events_of r.router d) in let few = few-at d in omega (arith, fewer, few)
 
-  -- what is counted of a sender stands at its place among those that may be named
-  pub place-there : (place sender : ℕ) → slice_get (names_in r).senders place ≡ Some sender → place < length r.counts.items
+  -- the account of a sender stands at its place among those that may be named
+  pub place-there : (place sender : ℕ) → slice_get (names_in r).senders place ≡ Some sender → place < length r.accounts.items
   place-there place sender here =
       let within = slice_get_within (sender_numbers r.router.setup) place sender here in
-      let count = sym (length-map r.counts.items (λ c. c.sender)) ∙ ap length ready.alike in
+      let count = sym (length-map r.accounts.items account_sender) ∙ ap length ready.alike.numbers in
       omega (arith, within, count)
 
-  pub can-offer : (place : ℕ) → place < length r.counts.items → CanOffer r.router place
+  pub can-offer : (place : ℕ) → place < length r.accounts.items → CanOffer r.router place
   can-offer place within =
       record {
         there =
-            let count = sym (length-map r.counts.items (λ c. c.sender)) ∙ ap length ready.alike ∙ length-map r.router.setup.senders number_of in
+            let count = sym (length-map r.accounts.items account_sender) ∙ ap length ready.alike.numbers ∙ length-map r.router.setup.senders number_of in
             omega (arith, within, count);
         numbers = λ sender here. let fewer = length-filter_map-le (number_from sender) r.router.events in let few = ready.few in omega (arith, fewer, few);
         packets = λ device its. let few = few-accepted device in omega (arith, few);

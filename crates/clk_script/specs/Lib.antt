@@ -5,5 +5,6 @@ pub mod Record
 pub mod Records
 pub mod OneMeaning
 pub mod OneDevice
+pub mod AccountLines
 pub mod Examples
 pub mod inside

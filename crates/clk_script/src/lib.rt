@@ -2,7 +2,6 @@
 #![tactic(auto)]
 
 mod answer;
-mod counts;
 mod fields;
 mod held;
 mod laws;
@@ -11,6 +10,7 @@ mod lines;
 mod moment;
 mod past;
 mod reading;
+mod report;
 mod rows;
 mod run;
 mod script;
@@ -26,6 +26,7 @@ pub use laws::{
     scripts_have_at_most_one_meaning, word_examples, writer_examples,
 };
 pub use limits::{MAX_DEVICE, MAX_LINES, MAX_MOMENT, MAX_SCRIPT_BYTES};
+pub use report::{accounts_tell, write_accounts};
 pub use run::{run_script, run_script_logged};
 pub use script::{Command, Line};
 pub use text::{COMMAND_ROOM, command_line, drain_line};

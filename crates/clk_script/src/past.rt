@@ -1,7 +1,7 @@
 //! What the router of a script did.
 
 use clk_packet::Packet;
-use clk_report::Counts;
+use clk_router::Account;
 use clk_sched::Visit;
 
 /// All that the router of a script did.
@@ -15,6 +15,6 @@ pub struct Past {
     pub given: Vec<Packet>,
     /// The packets that queues evicted for later ones, in order.
     pub put_out: Vec<Packet>,
-    /// The counts of the packets of each sender.
-    pub counts: Vec<Counts>,
+    /// The account of each sender.
+    pub accounts: Vec<Account>,
 }

@@ -1,10 +1,9 @@
 //! A router, with all that the answer to a script needs of its past.
 
-use crate::counts::{count_offered, counts_of_senders};
 use crate::past::Past;
+use crate::report::accounts_tell;
 use clk_packet::{Fault, Offered, Packet};
-use clk_report::Counts;
-use clk_router::Router;
+use clk_router::{Account, Router, accounts_of, count_drained, count_offered, count_pulled};
 use clk_sched::{Departure, Keeps};
 use clk_tree::Plan;
 use std::alloc::Global;
@@ -13,8 +12,8 @@ use std::alloc::Global;
 #[derive(Drop)]
 pub struct ScriptRouter {
     pub router: Router,
-    /// The counts of the packets of each sender, at its place.
-    counts: Vec<Counts>,
+    /// The account of each sender, at its place.
+    accounts: Vec<Account>,
     /// If there are several devices: the packets that pulls gave before the drain, in order. A single device has them itself.
     given: Vec<Packet>,
     /// The packets that queues evicted for later ones, in order.
@@ -26,7 +25,7 @@ impl ScriptRouter {
     ghost use Rattle.clk_packet.specs.declared.fault.Fault.TheVariants.{Memory};
     ghost use Rattle.clk_router.specs.Course.{sender_at, CanPull, CanClose, IsOpened};
     ghost use Rattle.clk_router.specs.Events.{Setup, offered};
-    ghost use Rattle.clk_script.specs.inside.ScriptRouter.{evicted_kept, given_kept, IsAt, IsPlace, IsReady, IsPastOf, LeadsOnByPull, LeadsOnByDrain, Starts, StaysElsewhere, ChangesGiven};
+    ghost use Rattle.clk_script.specs.inside.ScriptRouter.{evicted_kept, given_kept, AreAlike, IsAt, IsPlace, IsReady, IsPastOf, LeadsOnByPull, LeadsOnByDrain, Starts, StaysElsewhere, ChangesGiven};
 
     /// The router of a plan, before anything has happened. `visits` says whether its devices keep their visits. Fault 1 if an
     /// allocation fails.
@@ -43,11 +42,13 @@ impl ScriptRouter {
         let router = Router::open(alloc, plan, keeps)?;
         // A law, which does nothing.
         router.has_happened();
-        let counts = counts_of_senders(alloc, router.senders())?;
+        let accounts = accounts_of(alloc, plan.senders())?;
+        // Reading these brings into scope that senders rise, and how many devices there are.
+        let _ = router.senders();
         let _ = router.devices();
         Ok(ScriptRouter {
             router,
-            counts,
+            accounts,
             given: Vec::new(alloc),
             evicted: Vec::new(alloc),
         })
@@ -57,7 +58,7 @@ impl ScriptRouter {
     /// if an allocation fails.
     pub fn send(&mut self, place: usize, length: u16) -> Result<(Packet, Offered), Fault>
         requires ready { IsReady self.old }
-        requires is_there { IsPlace self.old.counts.items place }
+        requires is_there { IsPlace self.old.accounts.items place }
         requires has_length { 1 ≤ length }
         ensures sender { IfOk result (λ r. sender_at self.old.router.setup place ≡ Some r.0.sender) }
         ensures length { IfOk result (λ r. r.0.length ≡ length) }
@@ -69,13 +70,8 @@ impl ScriptRouter {
         let (packet, outcome) = self.router.offer(place, length);
         // A law, which does nothing.
         self.router.has_happened();
-        count_offered(
-            &mut self.counts,
-            self.router.senders(),
-            place,
-            packet,
-            outcome,
-        );
+        let numbers = self.router.senders();
+        count_offered(&mut self.accounts, numbers, place, packet, outcome);
         self.keep_evicted(outcome)?;
         Ok((packet, outcome))
     }
@@ -95,6 +91,7 @@ impl ScriptRouter {
 
     /// Pulls a device once, at this moment in ticks, or at the device's latest moment if that is later. Fault 1 if an allocation fails.
     pub fn pull(&mut self, device: u16, moment: u64) -> Result<Option<Packet>, Fault>
+        requires alike { AreAlike self.old }
         requires can { CanPull self.old.router device moment }
         ensures leads { IfOk result (λ got. (setup : Setup) (events : _) → IsAt setup events self.old → LeadsOnByPull setup self.new device moment got events) }
         ensures given { IfOk result (λ got. self.new.given.items ≡ given_kept self.old got) }
@@ -104,6 +101,7 @@ impl ScriptRouter {
         let got = self.router.pull(device, moment)?;
         // A law, which does nothing.
         self.router.has_happened();
+        count_pulled(&mut self.accounts, self.router.senders(), got);
         self.keep(got)?;
         Ok(got)
     }
@@ -131,8 +129,10 @@ impl ScriptRouter {
         device: u16,
         moment: u64,
     ) -> Result<Vec<Departure>, Fault>
+        requires alike { AreAlike self.old }
         requires can { CanClose self.old.router device moment }
         ensures leads { IfOk result (λ departures. (setup : Setup) (events : _) → IsAt setup events self.old → LeadsOnByDrain setup self.new device moment events departures.items) }
+        ensures alike { OnOk result (AreAlike self.new) }
         ensures elsewhere { OnOk result (StaysElsewhere device self.old.router self.new.router) }
         ensures setup { OnOk result (self.new.router.setup ≡ self.old.router.setup) }
         ensures keeps { OnOk result (self.new.router.keeps ≡ self.old.router.keeps) }
@@ -142,6 +142,7 @@ impl ScriptRouter {
         let departures = self.router.close(alloc, device, moment)?;
         // A law, which does nothing.
         self.router.has_happened();
+        count_drained(&mut self.accounts, self.router.senders(), &departures);
         Ok(departures)
     }
 
@@ -151,13 +152,15 @@ impl ScriptRouter {
         ensures past { IfOk result (IsPastOf self) }
         ensures fault { IsOkUnless result Fault.Memory }
     {
+        // The lines of the accounts are the report, by this law.
+        accounts_tell(&self.router);
         let (logs, emitted) = self.router.into_kept(alloc)?;
         Ok(Past {
             logs,
             emitted,
             given: self.given,
             put_out: self.evicted,
-            counts: self.counts,
+            accounts: self.accounts,
         })
     }
 }

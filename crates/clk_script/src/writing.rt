@@ -12,10 +12,11 @@ ghost use Rattle.clk_script.specs.inside.ScriptRouter.{departure_text};
 use crate::answer::Answer;
 use crate::lines::Lines;
 use crate::past::Past;
+use crate::report::write_accounts;
 use crate::rows::{Fate, Row};
 use crate::text::{LINE, put_offer, put_pull};
 use clk_packet::{Fault, Offered, Packet, Sink};
-use clk_report::{MAX_DEVICES, report_counts};
+use clk_report::MAX_DEVICES;
 use clk_sched::Departure;
 
 /// Writes the lines of an answer, and the report if the script has a drain.
@@ -24,7 +25,6 @@ use clk_sched::Departure;
 ///
 /// Fault 20 if the sink fails. It has then taken a front of these lines.
 pub fn write_answer<W: Sink>(answer: &Answer, writer: &mut W) -> Result<(), Fault>
-    requires few { length answer.now.past.emitted.items ≤ MAX_DEVICES }
     requires closings { IfSome answer.now.closing (λ closings. length closings.items ≤ MAX_DEVICES) }
     ensures { Wrote (W.Sink.taken writer.old) (W.Sink.taken writer.new)
         (W.Sink.failures writer.old) (W.Sink.failures writer.new) result (answer_text answer.now) }
@@ -45,7 +45,7 @@ pub fn write_answer<W: Sink>(answer: &Answer, writer: &mut W) -> Result<(), Faul
     };
     write_closings(&mut lines, several, 0, closings, writer)?;
     lines.write(writer)?;
-    report_counts(&past.counts, &past.emitted, writer)
+    write_accounts(&past.accounts, writer)
 }
 
 /// Whether there are several devices.

@@ -8,8 +8,7 @@ use Rattle.clk_packet.specs.declared.packet.Offered.{Offered}
 use Rattle.clk_packet.specs.declared.packet.Offered.TheVariants.{Accepted, Refused, Evicted}
 use Rattle.clk_sched.specs.declared.session.departures.Departure.{Departure}
 use Rattle.clk_sched.specs.Log.{visits_of, result_of}
-use Rattle.clk_report.specs.Counts.{counts_text}
-use Rattle.clk_report.specs.Devices.{lists_of, all_emitted}
+use Rattle.clk_report.specs.Devices.{lists_of}
 use Rattle.clk_script.specs.declared.script.Command.{Command}
 use Rattle.clk_script.specs.declared.script.Command.TheVariants.{Send, Pull}
 use Rattle.clk_script.specs.declared.script.Line.{Line}
@@ -24,6 +23,7 @@ use Rattle.clk_script.specs.declared.script_router.ScriptRouter.{ScriptRouter}
 use Rattle.clk_script.specs.Script.{Names, command_in, drain_in, most_lines, most_moment}
 use Rattle.clk_router.specs.Events.{Setup, Event, offered, pulled, emitted_in}
 use Rattle.clk_script.specs.Meaning.{has_several, command_of, offer_text, pull_text, closing_text}
+use Rattle.clk_script.specs.AccountLines.{account_line}
 use Rattle.clk_script.specs.inside.ScriptRouter.{IsAt, departure_text, LeadsOnByClosing}
 
 -- the command of a row, whether it was carried out or not
@@ -170,7 +170,7 @@ given_of past = given_first (lists_of past.emitted.items) past.given.items
 -- the lines of the drain that emitted these packets, if there was one, and then the report
 abbrev pub ending_of : Past → Option (List (List Departure)) → List ℕ
 ending_of past None = []
-ending_of past (Some closings) = closings_text (are_several past) 0 closings ++ counts_text (all_emitted past.emitted.items) past.counts.items
+ending_of past (Some closings) = closings_text (are_several past) 0 closings ++ flat_map account_line past.accounts.items
 
 -- all that an answer writes
 abbrev pub answer_text : Answer → List ℕ

@@ -1,21 +1,20 @@
 -- What the router of a script keeps, in the words of the definitions.
-use Rattle.std.specs.Prelude.{◌≡◌, ℕ, Bool, All, ◌<◌, ◌≤◌, List, [], ◌∷◌, ◌++◌, length, map, true, false, nat_lt, if◌then◌else◌, ◌==◌, ⊤, Option, Some, slice_get}
+use Rattle.std.specs.Prelude.{◌≡◌, ℕ, Bool, ◌<◌, ◌≤◌, List, [], ◌∷◌, ◌++◌, length, map, true, false, nat_lt, if◌then◌else◌, ◌==◌, ⊤, Option, Some}
 use Rattle.std.specs.List.{list_any, flat_map, filter_map, cons_option, AllByRecursion}
 use Rattle.clk_packet.specs.declared.packet.Packet.{Packet}
 use Rattle.clk_packet.specs.declared.packet.Offered.{Offered}
-use Rattle.clk_packet.specs.declared.packet.Offered.TheVariants.{Accepted, Refused, Evicted}
-use Rattle.clk_packet.specs.declared.tally.Tally.{Tally}
+use Rattle.clk_packet.specs.declared.packet.Offered.TheVariants.{Evicted}
 use Rattle.clk_packet.specs.Limits.{most_elements}
-use Rattle.clk_packet.specs.Lists.{of_sender, AreRising}
-use Rattle.clk_report.specs.declared.counts.Counts.{Counts}
-use Rattle.clk_report.specs.Counts.{counts_of, HasRoom}
+use Rattle.clk_packet.specs.Lists.{AreRising}
 use Rattle.clk_report.specs.Devices.{lists_of}
 use Rattle.clk_sched.specs.declared.session.departures.Departure.{Departure}
 use Rattle.clk_sched.specs.declared.visit.Visit.{Visit}
 use Rattle.clk_sched.specs.Log.{visits_of, result_of}
 use Rattle.clk_sched.specs.Results.{emitted}
+use Rattle.clk_router.specs.declared.accounts.Account.{Account}
+use Rattle.clk_router.specs.Accounts.{account_after, account_sender}
 use Rattle.clk_router.specs.Course.{Course, events_of}
-use Rattle.clk_router.specs.Events.{Setup, sender_numbers, Event, pulled, events_at, evicted_in, tally_after, logs_of, CanHappen, Closes}
+use Rattle.clk_router.specs.Events.{Setup, sender_numbers, Event, pulled, events_at, evicted_in, logs_of, CanHappen, Closes}
 use Rattle.clk_script.specs.declared.past.Past.{Past}
 use Rattle.clk_script.specs.declared.script_router.ScriptRouter.{ScriptRouter}
 use Rattle.clk_script.specs.declared.script.Command.{Command}
@@ -23,48 +22,12 @@ use Rattle.clk_script.specs.declared.script.Command.TheVariants.{Send, Pull}
 use Rattle.clk_script.specs.declared.script.Line.{Line}
 use Rattle.clk_script.specs.declared.script.Line.TheVariants as line
 use Rattle.clk_script.specs.Script.{Names, most_lines, most_moment}
-use Rattle.clk_script.specs.Meaning.{names_of, command_of, has_several, given_text, closing_text, CloseFirst}
+use Rattle.clk_script.specs.Meaning.{names_of, command_of, has_several, given_text, closing_text, ending_text, CloseFirst}
+use Rattle.clk_script.specs.AccountLines.{account_line}
 
--- the tally of a sender that has sent nothing
-abbrev pub tally_made : ℕ → Tally
-tally_made sender = record { sender = sender; accepted = []; refused = []; evicted = [] }
-
--- a tally after a packet was accepted, if it is its sender's
-abbrev pub taken_in : Packet → Tally → Tally
-taken_in p t = record { sender = t.sender; accepted = t.accepted ++ of_sender t.sender (p ∷ []); refused = t.refused; evicted = t.evicted }
-
--- a tally after a packet was refused, if it is its sender's
-abbrev pub turned_away : Packet → Tally → Tally
-turned_away p t = record { sender = t.sender; accepted = t.accepted; refused = t.refused ++ of_sender t.sender (p ∷ []); evicted = t.evicted }
-
--- a tally after a packet was evicted, if it is its sender's
-abbrev pub put_out : Packet → Tally → Tally
-put_out p t = record { sender = t.sender; accepted = t.accepted; refused = t.refused; evicted = t.evicted ++ of_sender t.sender (p ∷ []) }
-
--- a tally after a packet was offered, by its sender or another, with this outcome
-abbrev pub noted : Packet → Offered → Tally → Tally
-noted p Accepted t = taken_in p t
-noted p (Refused q) t = turned_away p t
-noted p (Evicted front) t = put_out front (taken_in p t)
-
--- the numbers of the senders whose counts these are, in order
-abbrev pub numbers_in : List Counts → List ℕ
-numbers_in counts = map (λ c. c.sender) counts
-
--- some sender's counts stand at this place
-abbrev pub IsPlace : List Counts → ℕ → Type 0
-IsPlace counts place = place < length counts
-
--- the counts of this sender stand at this place
-abbrev pub IsPlaceOf : List Counts → ℕ → ℕ → Type 0
-IsPlaceOf counts sender place = slice_get (numbers_in counts) place ≡ Some sender
-
--- There is room to count one more packet, whatever its outcome.
-pub record HasRoomForOne (c : Counts) : Type 0 where
-  pub sent : HasRoom 1 c.sent
-  pub accepted : HasRoom 1 c.accepted
-  pub refused : HasRoom 1 c.refused
-  pub evicted : HasRoom 1 c.evicted
+-- some sender's account stands at this place
+abbrev pub IsPlace : List Account → ℕ → Type 0
+IsPlace accounts place = place < length accounts
 
 -- what a script may name: senders of these numbers, and the first `devices` devices
 abbrev pub named_by : List ℕ → ℕ → Names
@@ -79,7 +42,7 @@ pub record IsAt (setup : Setup) (events : List Event) (r : ScriptRouter) : Type 
   pub can_happen : CanHappen setup events
   pub setup_is : r.router.setup ≡ setup
   pub events_are : r.router.events ≡ events
-  pub counts : r.counts.items ≡ map counts_of (map (tally_after events) (sender_numbers setup))
+  pub accounts : r.accounts.items ≡ map (account_after events) setup.senders
   pub evicted : r.evicted.items ≡ filter_map evicted_in events
 
 -- Nothing has happened over this setup. It has at least one device and not too many, and senders by rising numbers.
@@ -108,26 +71,29 @@ abbrev pub IsSound : Names → Command → Type 0
 IsSound names (Send sender length) = (list_any (λ s. s == sender) names.senders ≡ true) × (1 ≤ length)
 IsSound names (Pull device moment) = device < names.devices
 
--- No more has happened than a script may ask for, so there is room to count one more packet. The counts stand by rising numbers of the
--- senders.
+-- The accounts are those of the senders, whose numbers rise.
+pub record AreAlike (r : ScriptRouter) : Type 0 where
+  pub numbers : map account_sender r.accounts.items ≡ sender_numbers r.router.setup
+  pub rising : AreRising (sender_numbers r.router.setup)
+
+-- No more has happened than a script may ask for.
 pub record IsReady (r : ScriptRouter) : Type 0 where
   pub few : length r.router.events ≤ most_lines
   pub readable : AllByRecursion IsReadable (map command_of r.router.events)
-  pub alike : numbers_in r.counts.items ≡ sender_numbers r.router.setup
-  pub rising : AreRising (numbers_in r.counts.items)
-  pub room : All HasRoomForOne r.counts.items
+  pub alike : AreAlike r
 
 -- These are the logs of the devices, if visits are kept.
 abbrev pub AreLogs : Bool → Past → List (List Visit) → Type 0
 AreLogs visits past logs = visits ≡ true → lists_of past.logs.items ≡ logs
 
--- All that a router did, as it was recorded.
+-- All that a router did, as it was recorded. The lines of its senders' accounts are its report.
 pub record IsPastOf (r : ScriptRouter) (past : Past) : Type 0 where
   pub logs : AreLogs r.router.keeps.visits past (logs_of r.router.setup r.router.events)
   pub emitted : lists_of past.emitted.items ≡ map emitted (logs_of r.router.setup r.router.events)
   pub given : past.given.items ≡ r.given.items
   pub put_out : past.put_out.items ≡ r.evicted.items
-  pub counts : past.counts.items ≡ r.counts.items
+  pub accounts : past.accounts.items ≡ r.accounts.items
+  pub report : flat_map account_line (map (account_after r.router.events) r.router.setup.senders) ≡ ending_text r.router.setup (Some 0) r.router.events
 
 -- One more pull of a device, at a moment that was handed in, led on from these events to this result.
 pub record LeadsOnByPull (setup : Setup) (new : ScriptRouter) (device moment : ℕ) (got : Option Packet) (events : List Event) : Type 0 where

@@ -1,10 +1,8 @@
 //! Reports of worked rows, and of many senders and packets.
 
-ghost use Rattle.clk_report.specs.Counts.{HasRoom};
-
 use super::{packet, sink_of};
 use clk_packet::{Fault, Packet, Packets, Tally};
-use clk_report::{Counts, MAX_DEVICES, Total, report, report_counts};
+use clk_report::{Counts, MAX_DEVICES, Total, report, report_line};
 use clk_rows::{EVICTS_OTHER_SENDER, Row, TAIL_DROP_FULL};
 use std::alloc::{AllocError, Global};
 use std::process::Abort;
@@ -38,16 +36,8 @@ fn lists(alloc: Global, emitted: &[&[Packet]]) -> Result<Vec<Vec<Packet>>, Alloc
     Ok(lists)
 }
 
-fn counts_of(alloc: Global, tallies: &[Tally]) -> Result<Vec<Counts>, AllocError> {
-    let mut counts = Vec::new(alloc);
-    for tally in tallies {
-        counts.push(Counts::of(tally))?;
-    }
-    Ok(counts)
-}
-
-// Fails unless this is the report of these tallies, of what is counted of them, and of the packets emitted at each device. Fails unless a
-// writer that fails after fewer bytes has taken these.
+// Fails unless this is the report of these tallies and of the packets emitted at each device. Fails unless a writer that fails after fewer
+// bytes has taken these.
 fn assert_reports(
     rt: &impl Abort,
     alloc: Global,
@@ -82,10 +72,6 @@ fn assert_takes(
     assert!(rt; emitted.len() <= MAX_DEVICES);
     let mut sink = sink_of(alloc, bytes.len()).expect(rt, "ample memory");
     assert_eq!(rt; report(tallies, emitted, &mut sink), expected);
-    assert!(rt; sink.taken() == bytes);
-    let counts = counts_of(alloc, tallies).expect(rt, "ample memory");
-    let mut sink = sink_of(alloc, bytes.len()).expect(rt, "ample memory");
-    assert_eq!(rt; report_counts(&counts, emitted, &mut sink), expected);
     assert!(rt; sink.taken() == bytes);
 }
 
@@ -189,31 +175,21 @@ fn without_a_device_nothing_is_emitted(rt: HostRuntime) {
     assert_reports(&rt, rt.alloc(), &sent, &[], expected);
 }
 
-// Fails unless few packets and bytes are counted.
-fn assert_few(rt: &impl Abort, total: Total)
-    ensures { HasRoom 1 total }
-{
-    assert!(rt; total.packets < 1_000);
-    assert!(rt; total.bytes < 1_000);
-}
-
 #[test]
-fn packets_are_counted_one_by_one(rt: HostRuntime) {
+fn a_line_stands_alone(rt: HostRuntime) {
     let [first, second, third] = [packet(3, 0, 10), packet(3, 1, 20), packet(3, 2, 40)];
-    let mut counts = Counts::none(3);
-    for packet in [first, third] {
-        assert_few(&rt, counts.sent);
-        assert_few(&rt, counts.accepted);
-        counts.accept(packet);
-    }
-    assert_few(&rt, counts.sent);
-    assert_few(&rt, counts.refused);
-    counts.refuse(second);
-    assert_few(&rt, counts.evicted);
-    counts.evict(third);
-    let expected = b"sender 3: sent 3 70, accepted 2 50, refused 1 20, evicted 1 40, emitted 0 0\n";
+    let tally = tally(rt.alloc(), (3, &[first, third], &[second], &[third])).expect(&rt, "memory");
+    let emitted = Total {
+        packets: 1,
+        bytes: 10,
+    };
+    let expected =
+        b"sender 3: sent 3 70, accepted 2 50, refused 1 20, evicted 1 40, emitted 1 10\n";
     let mut sink = sink_of(rt.alloc(), expected.len()).expect(&rt, "ample memory");
-    assert_eq!(rt; report_counts(&[counts], &[], &mut sink), Ok(()));
+    assert_eq!(rt;
+        report_line(&Counts::of(&tally), emitted, &mut sink),
+        Ok(())
+    );
     assert!(rt; sink.taken() == expected.as_slice());
 }
 

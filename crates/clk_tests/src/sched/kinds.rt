@@ -128,7 +128,7 @@ fn visits_that_were_let_go_of_leave_the_log(rt: HostRuntime) {
     session.let_go();
     assert_kept_of_pulls(&rt, &session, 0, 3);
     let mut queues = Queues::new(rt.alloc(), 2).expect(&rt, "ample memory");
-    let got = pull(&rt, &mut session, &mut queues).expect(&rt, "ample memory");
+    let got = session.pull(&mut queues, 5).expect(&rt, "ample memory");
     assert_eq!(rt; got, None);
     assert_kept_of_pulls(&rt, &session, 3, 4);
 }

@@ -1,9 +1,6 @@
-use Rattle.std.proofs.Common.{refl, ◌∙◌}
-use Rattle.clk_packet.proofs.BytesLemmas.{HasWritten-more, HasWritten-none}
+use Rattle.std.proofs.Common.{◌∙◌}
+use Rattle.clk_packet.proofs.BytesLemmas.{HasWritten-more}
 use Rattle.clk_packet.proofs.bytes.write_all.Goals as goal
-
-pub loop-rest-init : goal.loop-rest-init
-loop-rest-init g c = record { front = HasWritten-none _ _; failures = refl }
 
 pub loop-rest-preserved : goal.loop-rest-preserved
 loop-rest-preserved g c =

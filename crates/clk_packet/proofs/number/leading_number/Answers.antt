@@ -1,20 +1,5 @@
-use Rattle.std.proofs.Common.{arith, refl}
-use Rattle.clk_packet.proofs.NumberLemmas.{Leads-none, Leads-wrapped, Leads-past}
+use Rattle.clk_packet.proofs.NumberLemmas.{Leads-wrapped, Leads-past}
 use Rattle.clk_packet.proofs.number.leading_number.Goals as goal
-
-pub loop-byte-init : goal.loop-byte-init
-loop-byte-init c = record { leads = Leads-none c.args.text.now; small = omega arith; len = refl }
-
-pub loop-byte-preserved : goal.loop-byte-preserved
-loop-byte-preserved c =
-    let len = c.loop-byte.invariant.len in
-    let small = c.if-number-most.false in
-    record {
-      leads = Leads-wrapped c.args.text.now c.loop-byte.number c.loop-byte.byte-index c.loop-byte.len c.from-digit.result c.loop-byte-test.true c.from-digit.ensures c.from-digit.type_inv c.if-digit-gt9.false
-          c.loop-byte.invariant.leads;
-      small = omega (arith, small);
-      len = omega (arith, len);
-    }
 
 pub returns-then-number-most-clause-large : goal.returns-then-number-most-clause-large
 returns-then-number-most-clause-large c =

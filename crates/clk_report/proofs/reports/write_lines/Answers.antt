@@ -1,24 +1,12 @@
-use Rattle.std.proofs.Common.{◌≡◌, refl, ◌∙◌, ◌<◌, length, arith}
-use Rattle.std.proofs.lemmas.List.{length-replicate}
-use Rattle.std.proofs.lemmas.List.Elements.{All-take, All-drop}
+use Rattle.std.proofs.Common.{◌∙◌, ◌<◌, arith}
+use Rattle.std.proofs.lemmas.List.Elements.{All-drop}
 use Rattle.std.proofs.lemmas.Result.{err_from_is_err_and}
-use Rattle.clk_report.specs.declared.total.Total.{Total}
 use Rattle.std.specs.List.{flat_map}
-use Rattle.clk_report.specs.Counts.{counts_line}
+use Rattle.clk_report.specs.Counts.{counts_of, counts_line}
 use Rattle.clk_report.specs.Devices.{all_emitted}
-use Rattle.clk_report.proofs.TotalLemmas.{AreTotals-zero}
 use Rattle.clk_report.proofs.ReportLemmas.{HasWritten-part, Wrote-part, flat_map-split, text-alone}
+use Rattle.clk_packet.specs.declared.tally.Tally.{Tally}
 use Rattle.clk_report.proofs.reports.write_lines.Goals as goal
-
-pub count_by_sender-requires-clause-none : goal.count_by_sender-requires-clause-none
-count_by_sender-requires-clause-none g c = AreTotals-zero _ _ refl
-
-pub put_lines-start-requires-clause-reached : goal.put_lines-start-requires-clause-reached
-put_lines-start-requires-clause-reached g c =
-    let part = c.split_at.result.0.now in
-    let front = All-take (λ t. (g.T.Counted.counted t).sender < g.row.N) c.min.result c.loop-rest.rest.now c.loop-rest.invariant.within in
-    let many : length c.count_by_sender.new.totals ≡ g.row.N = omega (arith, c.count_by_sender.auto.totals, length-replicate {A = Total}) in
-    rw (many, c.split_at.ensures.front) front
 
 pub returns-in_err-write_all : goal.returns-in_err-write_all
 returns-in_err-write_all g c =
@@ -26,7 +14,7 @@ returns-in_err-write_all g c =
     let emitted = all_emitted c.args.emitted.now in
     let part = c.split_at.result.0.now in
     let after = c.split_at.result.1.now in
-    let line = λ (t : g.row.T.Denot). counts_line emitted (g.T.Counted.counted t) in
+    let line = λ (t : Tally). counts_line emitted (counts_of t) in
     let is = c.split_at-in-loop-rest.ensures.back ∙ text-alone (flat_map line part) _ c.loop-rest.lines 32768 (omega arith) (c.put_lines-start.ensures.piece emitted c.count_by_sender.ensures.totals) in
     let split = flat_map-split line c.loop-rest.rest.now part after c.min.result c.split_at.ensures.front c.split_at.ensures.back in
     let failed = rw is at c.in_err-write_all.ensures in
@@ -37,12 +25,12 @@ loop-rest-preserved g c =
     let emitted = all_emitted c.args.emitted.now in
     let part = c.split_at.result.0.now in
     let after = c.split_at.result.1.now in
-    let line = λ (t : g.row.T.Denot). counts_line emitted (g.T.Counted.counted t) in
+    let line = λ (t : Tally). counts_line emitted (counts_of t) in
     let is = c.split_at-in-loop-rest.ensures.back ∙ text-alone (flat_map line part) _ c.loop-rest.lines 32768 (omega arith) (c.put_lines-start.ensures.piece emitted c.count_by_sender.ensures.totals) in
     let split = flat_map-split line c.loop-rest.rest.now part after c.min.result c.split_at.ensures.front c.split_at.ensures.back in
     let wrote = rw is at c.in_ok-write_all.ensures in
     record {
       front = HasWritten-part _ _ _ _ (flat_map line c.loop-rest.rest.now) (flat_map line part) (flat_map line after) c.loop-rest.invariant.front split wrote.whole;
       failures = wrote.succeeds ∙ c.loop-rest.invariant.failures;
-      within = rw c.split_at.ensures.back (All-drop (λ t. (g.T.Counted.counted t).sender < g.row.N) c.min.result c.loop-rest.rest.now c.loop-rest.invariant.within);
+      within = rw c.split_at.ensures.back (All-drop (λ t. t.sender < g.row.N) c.min.result c.loop-rest.rest.now c.loop-rest.invariant.within);
     }

@@ -1,16 +1,16 @@
 use Rattle.std.proofs.Common.{◌≡◌, ◌<◌, All, length}
 use Rattle.std.specs.List.{flat_map}
 use Rattle.clk_packet.proofs.Callers.Bytes.{HasWritten}
-use Rattle.clk_report.specs.Counts.{counts_line}
+use Rattle.clk_report.specs.Counts.{counts_of, counts_line}
 use Rattle.clk_report.specs.Devices.{all_emitted}
 use Rattle.clk_report.proofs.reports.write_lines.Given as goal
 
 abbrev pub invariant-loop-rest : goal.invariant-loop-rest
 invariant-loop-rest g l = record {
-  front : HasWritten (g.W.Sink.taken l.fn.writer) (g.W.Sink.taken l.writer) (flat_map (λ t. counts_line (all_emitted l.emitted) (g.T.Counted.counted t)) l.senders)
-      (flat_map (λ t. counts_line (all_emitted l.emitted) (g.T.Counted.counted t)) l.rest);
+  front : HasWritten (g.W.Sink.taken l.fn.writer) (g.W.Sink.taken l.writer) (flat_map (λ t. counts_line (all_emitted l.emitted) (counts_of t)) l.tallies)
+      (flat_map (λ t. counts_line (all_emitted l.emitted) (counts_of t)) l.rest);
   failures : g.W.Sink.failures l.writer ≡ g.W.Sink.failures l.fn.writer;
-  within : All (λ t. (g.T.Counted.counted t).sender < g.row.N) l.rest;
+  within : All (λ t. t.sender < g.row.N) l.rest;
 }
 
 abbrev pub decreases-loop-rest : goal.decreases-loop-rest

@@ -2,11 +2,8 @@ use Rattle.std.proofs.Common.{None, map, arith}
 use Rattle.std.proofs.lemmas.Result.{err_from_is_err_and}
 use Rattle.clk_packet.proofs.Callers.Bytes.{Wrote-cut, Wrote-then}
 use Rattle.clk_report.specs.VisitCsv.{header_text, rows_text, devices_text}
-use Rattle.clk_report.proofs.VisitLemmas.{devices_header, no-log, one-log, many-logs}
+use Rattle.clk_report.proofs.VisitLemmas.{devices_header, one-log, many-logs}
 use Rattle.clk_report.proofs.visits.visits_csv.Goals as goal
-
-pub returns-in-empty : goal.returns-in-empty
-returns-in-empty g c = rw (no-log g.L.VisitLog.visits c.args.logs.now (omega arith)) c.visits_header.ensures
 
 pub returns-in_err-visits_header-in-len1 : goal.returns-in_err-visits_header-in-len1
 returns-in_err-visits_header-in-len1 g c =

@@ -1,13 +1,9 @@
-use Rattle.std.proofs.Common.{Some, drop, map, refl, ◌+◌, ◌∙◌, arith}
+use Rattle.std.proofs.Common.{Some, drop, map, ◌+◌, ◌∙◌, arith}
 use Rattle.std.proofs.lemmas.Result.{err_from_is_err_and}
-use Rattle.clk_packet.proofs.Callers.Bytes.{HasWritten-none}
 use Rattle.clk_report.specs.VisitCsv.{devices_text, rows_text}
 use Rattle.clk_report.proofs.ReportLemmas.{HasWritten-part, Wrote-part}
-use Rattle.clk_report.proofs.VisitLemmas.{all-devices, devices-more}
+use Rattle.clk_report.proofs.VisitLemmas.{devices-more}
 use Rattle.clk_report.proofs.visits.write_devices.Goals as goal
-
-pub loop-device-init : goal.loop-device-init
-loop-device-init g c = record { front = HasWritten-none _ _; failures = refl }
 
 pub returns-in_err-rows : goal.returns-in_err-rows
 returns-in_err-rows g c =
@@ -31,14 +27,4 @@ loop-device-preserved g c =
       front = HasWritten-part _ _ _ _ (devices_text i (map visits (drop i logs))) (rows_text (Some i) (visits v)) (devices_text (i + 1) (map visits (drop (i + 1) logs))) c.loop-device.invariant.front
           (devices-more visits logs i v (omega arith) c.index-logs-device.is) wrote.whole;
       failures = wrote.succeeds ∙ c.loop-device.invariant.failures;
-    }
-
-pub returns : goal.returns
-returns g c =
-    record {
-      whole = all-devices g.L.VisitLog.visits c.args.logs.now c.loop-device.device _ _ _ (omega arith) c.loop-device.invariant.front;
-      front = tt;
-      fault = tt;
-      succeeds = c.loop-device.invariant.failures;
-      fails = tt;
     }

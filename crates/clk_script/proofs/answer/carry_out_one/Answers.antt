@@ -12,13 +12,13 @@ pub send-requires-clause-is_there : goal.send-requires-clause-is_there
 send-requires-clause-is_there c =
     let old = c.args.script_router.now in
     let to_do = subst (IsToDo (names_in old)) c.in-Send.is c.requires.to_do in
-    subst (IsPlace old.counts.items) (sym c.from.ensures) (place-there old c.requires.ready c.in-Send.place c.in-Send.packet.sender to_do)
+    subst (IsPlace old.accounts.items) (sym c.from.ensures) (place-there old c.requires.ready c.in-Send.place c.in-Send.packet.sender to_do)
 
 pub pull-requires : goal.pull-requires
 pull-requires c =
     let to_do = subst (IsToDo (names_in c.args.script_router.now)) c.in-Pull.is c.requires.to_do in
     let can = can-pull c.args.script_router.now c.requires.ready c.in-Pull.device c.in-Pull.moment to_do.0 to_do.1 in
-    record { can = subst (CanPull c.args.script_router.now.router c.in-Pull.device) (sym c.ticks.ensures) can }
+    record { alike = c.requires.ready.alike; can = subst (CanPull c.args.script_router.now.router c.in-Pull.device) (sym c.ticks.ensures) can }
 
 pub returns-in_ok-packet-in-Send-clause-done : goal.returns-in_ok-packet-in-Send-clause-done
 returns-in_ok-packet-in-Send-clause-done c =

@@ -6,7 +6,7 @@ use Rattle.clk_script.specs.declared.past.Past.{Past}
 use Rattle.clk_script.specs.declared.reading.Script.{Script}
 use Rattle.clk_script.specs.inside.Rows.{answer_text, CanBeRun}
 use Rattle.clk_packet.proofs.Callers.Written.{wrote-whole, wrote-front, wrote-nothing}
-use Rattle.clk_script.proofs.RefusalLemmas.{not-read-why, same-failures, names-told, names-opened, meaning-known, meaning-over, few-devices, few-closings}
+use Rattle.clk_script.proofs.RefusalLemmas.{not-read-why, same-failures, names-told, names-opened, meaning-known, meaning-over, few-closings}
 use Rattle.clk_script.proofs.SourceLemmas.{source-sound}
 use Rattle.clk_script.proofs.run.run_plan.Goals as goal
 
@@ -15,12 +15,9 @@ answer_script-requires-clause-sound g c =
     let names = names-told c.args.plan.now _ _ _ _ _ c.senders.ensures.senders c.in_ok-senders.ensures.made c.deref.ensures.value c.from-devices.ensures c.devices.ensures.count ∙ names-opened c.args.plan.now _ c.in_ok-script_router.script_router c.in_ok-script_router.ensures.opened in
     subst (λ names. CanBeRun names c.in_ok-script.script) names c.in_ok-script.ensures.read.to_end.runs
 
--- a report takes as many devices as there are, and so do closings
-pub write_answer-requires-clause-few : goal.write_answer-requires-clause-few
-write_answer-requires-clause-few g c = few-devices c.in_ok-script_router.script_router.router.setup c.in_ok-script_router.script_router _ c.in_ok-script_router.ensures.starts c.in_ok-answer.ensures.devices
-
-pub write_answer-requires-clause-closings : goal.write_answer-requires-clause-closings
-write_answer-requires-clause-closings g c = few-closings c.in_ok-script_router.script_router.router.setup c.in_ok-script_router.script_router c.in_ok-answer.answer.closing c.in_ok-script_router.ensures.starts c.in_ok-answer.ensures.closings
+-- closings take as many devices as there are
+pub write_answer-requires : goal.write_answer-requires
+write_answer-requires g c = record { closings = few-closings c.in_ok-script_router.script_router.router.setup c.in_ok-script_router.script_router c.in_ok-answer.answer.closing c.in_ok-script_router.ensures.starts c.in_ok-answer.ensures.closings }
 
 -- why the script isn't read
 pub returns-in_err-script-clause-wrote : goal.returns-in_err-script-clause-wrote

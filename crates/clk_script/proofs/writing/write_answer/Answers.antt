@@ -1,8 +1,9 @@
 use Rattle.std.proofs.Common.{[], ◌++◌, sym, append_assoc, append-nil}
 use Rattle.std.proofs.lemmas.Result.{err_from_is_err_and}
 use Rattle.clk_packet.proofs.Callers.Bytes.{Wrote-then, Wrote-cut}
-use Rattle.clk_report.specs.Counts.{counts_text}
-use Rattle.clk_report.specs.Devices.{lists_of, all_emitted}
+use Rattle.std.specs.List.{flat_map}
+use Rattle.clk_report.specs.Devices.{lists_of}
+use Rattle.clk_script.specs.AccountLines.{account_line}
 use Rattle.clk_script.specs.inside.Rows.{are_several, given_of, rows_text, closings_text, closings_of, ending_of}
 use Rattle.clk_script.proofs.PassLemmas.{Passes-then, Wrote-passed, Wrote-front}
 use Rattle.clk_script.proofs.writing.write_answer.Goals as goal
@@ -29,7 +30,7 @@ returns-in_err-write_closings g c =
     let past = answer.past in
     let rows = rows_text (are_several past) answer.rows.items (given_of past) past.put_out.items in
     let closings = closings_text (are_several past) 0 (lists_of c.in-Some.closings.items) in
-    let report = counts_text (all_emitted past.emitted.items) past.counts.items in
+    let report = flat_map account_line past.accounts.items in
     let p = err_from_is_err_and c.from_residual-in_err-write_closings.result c.from_residual-in_err-write_closings.ensures.1 in
     let passed = rw (c.new-lines.ensures, c.deref.ensures.value, c.deref-2.ensures.value, c.given_of.ensures, c.are_several-several.ensures) at c.in_ok-write_rows.ensures in
     let failed = rw (c.deref-3.ensures.value, c.are_several-several.ensures) at c.in_err-write_closings.ensures in
@@ -42,7 +43,7 @@ returns-in_err-write g c =
     let past = answer.past in
     let rows = rows_text (are_several past) answer.rows.items (given_of past) past.put_out.items in
     let closings = closings_text (are_several past) 0 (lists_of c.in-Some.closings.items) in
-    let report = counts_text (all_emitted past.emitted.items) past.counts.items in
+    let report = flat_map account_line past.accounts.items in
     let p = err_from_is_err_and c.from_residual-in_err-write.result c.from_residual-in_err-write.ensures.1 in
     let passed = rw (c.new-lines.ensures, c.deref.ensures.value, c.deref-2.ensures.value, c.given_of.ensures, c.are_several-several.ensures) at c.in_ok-write_rows.ensures in
     let more = rw (c.deref-3.ensures.value, c.are_several-several.ensures) at c.in_ok-write_closings.ensures in
@@ -55,9 +56,9 @@ returns g c =
     let past = answer.past in
     let rows = rows_text (are_several past) answer.rows.items (given_of past) past.put_out.items in
     let closings = closings_text (are_several past) 0 (lists_of c.in-Some.closings.items) in
-    let report = counts_text (all_emitted past.emitted.items) past.counts.items in
+    let report = flat_map account_line past.accounts.items in
     let passed = rw (c.new-lines.ensures, c.deref.ensures.value, c.deref-2.ensures.value, c.given_of.ensures, c.are_several-several.ensures) at c.in_ok-write_rows.ensures in
     let more = rw (c.deref-3.ensures.value, c.are_several-several.ensures) at c.in_ok-write_closings.ensures in
     let all = Passes-then _ _ _ _ _ _ _ _ _ rows _ closings _ passed more in
-    let reported = rw (c.deref-4.ensures.value, c.deref-5.ensures.value) at c.report_counts.ensures in
+    let reported = rw c.deref-4.ensures.value at c.write_accounts.ensures in
     rw (c.in-Some.is, sym (append_assoc rows closings report)) (Wrote-then _ _ _ _ _ _ _ _ (rows ++ closings) report (Wrote-passed _ _ _ _ _ _ _ _ [] (rows ++ closings) _ all c.in_ok-write.ensures.wrote) reported)

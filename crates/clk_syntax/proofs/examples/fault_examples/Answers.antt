@@ -1,16 +1,12 @@
-use Rattle.std.proofs.Common.{inl, refl}
-use Rattle.clk_packet.specs.declared.fault.Fault.TheVariants.{UnknownName, NoDevice, TooLarge}
-use Rattle.clk_syntax.specs.Examples.{spaces, unknown_names}
-use Rattle.clk_syntax.proofs.Meaning.OneFault.{one-fault}
+use Rattle.std.proofs.Common.{refl}
+use Rattle.clk_packet.specs.declared.fault.Fault.TheVariants.{UnknownName, NoDevice}
+use Rattle.clk_syntax.specs.Examples.{unknown_names}
 use Rattle.clk_syntax.proofs.Meaning.Told.{told-of, has-told}
-use Rattle.clk_syntax.proofs.Meaning.SpaceLemmas.{spaces-told, too-long}
+use Rattle.clk_syntax.proofs.Meaning.SpaceLemmas.{spaces-told}
 use Rattle.clk_syntax.proofs.examples.fault_examples.Goals as goal
 
 pub returns-clause-is_no_device : goal.returns-clause-is_no_device
 returns-clause-is_no_device c = spaces-told
-
-pub returns-clause-not_too_long : goal.returns-clause-not_too_long
-returns-clause-not_too_long c = λ n l h. let e = one-fault (spaces n) NoDevice TooLarge h (inl (too-long 32 n l)) in absurd (cc)
 
 pub returns-clause-is_unknown_name : goal.returns-clause-is_unknown_name
 returns-clause-is_unknown_name c = has-told unknown_names (UnknownName 0) refl

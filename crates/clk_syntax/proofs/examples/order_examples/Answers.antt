@@ -1,18 +1,8 @@
-use Rattle.std.proofs.Common.{inl, refl}
-use Rattle.clk_packet.specs.declared.fault.Fault.TheVariants.{BadText, UnknownClass, BadArgument, NameTwice, UnknownName, BadPort, PortTwice, PortMissing, WrongKind, NoDevice}
-use Rattle.clk_syntax.specs.Examples.{twice_then_broken, unknown_class_then_twice, bad_argument_then_unknown_class, unknown_name_then_bad_argument, bad_port_then_unknown_name, port_twice_then_bad_port, port_missing_then_twice, wrong_kind_then_port_missing, wrong_kind_and_no_device, not_a_tree_and_no_device}
+use Rattle.std.proofs.Common.{refl}
+use Rattle.clk_packet.specs.declared.fault.Fault.TheVariants.{UnknownClass, BadArgument, NameTwice, UnknownName, BadPort, PortTwice, PortMissing, WrongKind, NoDevice}
+use Rattle.clk_syntax.specs.Examples.{unknown_class_then_twice, bad_argument_then_unknown_class, unknown_name_then_bad_argument, bad_port_then_unknown_name, port_twice_then_bad_port, port_missing_then_twice, wrong_kind_then_port_missing, wrong_kind_and_no_device, not_a_tree_and_no_device}
 use Rattle.clk_syntax.proofs.Meaning.Told.{has-told}
-use Rattle.clk_syntax.proofs.Meaning.SpaceLemmas.{too-long, question-marks-told}
 use Rattle.clk_syntax.proofs.examples.order_examples.Goals as goal
-
-pub returns-clause-too_large_first : goal.returns-clause-too_large_first
-returns-clause-too_large_first c = λ n l. inl (too-long 63 n l)
-
-pub returns-clause-bad_text : goal.returns-clause-bad_text
-returns-clause-bad_text c = λ n some l. inl (question-marks-told n some l)
-
-pub returns-clause-bad_text_first : goal.returns-clause-bad_text_first
-returns-clause-bad_text_first c = has-told twice_then_broken (BadText 24) refl
 
 pub returns-clause-name_twice_first : goal.returns-clause-name_twice_first
 returns-clause-name_twice_first c = has-told unknown_class_then_twice (NameTwice 10) refl
@@ -40,6 +30,3 @@ returns-clause-wrong_kind_first c = has-told wrong_kind_and_no_device (WrongKind
 
 pub returns-clause-no_device_first : goal.returns-clause-no_device_first
 returns-clause-no_device_first c = has-told not_a_tree_and_no_device NoDevice refl
-
-pub returns-clause-not_a_tree_first : goal.returns-clause-not_a_tree_first
-returns-clause-not_a_tree_first c = refl

@@ -1,16 +1,8 @@
 use Rattle.std.proofs.Common.{◌∙◌, map, length, sym, ap, subst}
 use Rattle.std.specs.List.{AllByRecursion}
-use Rattle.clk_syntax.specs.Source.{kept, elements, wires}
-use Rattle.clk_syntax.specs.Faults.{links_of}
+use Rattle.clk_syntax.specs.Source.{kept, elements}
 use Rattle.clk_syntax.specs.inside.Naming.{IsTable, IsLinkBelow}
 use Rattle.clk_syntax.proofs.naming.name_all.Goals as goal
-
-pub returns-clause-links : goal.returns-clause-links
-returns-clause-links c =
-    let text = c.args.text.now in
-    let all = elements text (map kept c.args.statements.now.declarations.items) in
-    let table = subst (λ ds. IsTable (elements text (map kept ds)) c.in_ok-names.names) c.deref.ensures.value c.in_ok-names.ensures.1 in
-    (c.in_ok-links.ensures all table).1 ∙ ap (λ cs. links_of all (wires text cs)) c.deref-4.ensures.value
 
 pub returns-clause-within : goal.returns-clause-within
 returns-clause-within c =

@@ -1,5 +1,4 @@
-use Rattle.clk_router.specs.inside.Accounts.{noted}
-use Rattle.clk_router.proofs.AccountLemmas.{alike-after, accounts-go_on, accounts-offered}
+use Rattle.clk_router.proofs.AccountLemmas.{alike-after, accounts-go_on}
 use Rattle.clk_router.proofs.counting.CountingRouter.offer.Goals as goal
 
 pub count_offered-requires-clause-alike : goal.count_offered-requires-clause-alike
@@ -8,7 +7,5 @@ count_offered-requires-clause-alike c =
 
 pub invariant_of-self : goal.invariant_of-self
 invariant_of-self c =
-    let packet = c.offer-outcome.result.0 in
-    let outcome = c.offer-outcome.result.1 in
-    accounts-go_on c.self.inside.router c.offer-outcome.new.self _ (noted packet outcome) c.self.inside.accounts.items _ _ c.self.invariant c.offer-outcome.ensures.goes_on
-    (accounts-offered c.self.inside.router.events packet outcome c.self.inside.router.setup.senders) c.count_offered.ensures
+    let old = c.self.inside.router in
+    accounts-go_on old c.offer-outcome.new.self _ c.self.inside.accounts.items _ _ c.self.invariant c.offer-outcome.ensures.goes_on (c.count_offered.ensures old.events old.setup.senders c.self.invariant.1)

@@ -1,8 +1,8 @@
-use Rattle.std.proofs.Common.{◌<◌, length, slice_set, refl, sym, ap, subst, ◌∙◌}
+use Rattle.std.proofs.Common.{refl, subst, ◌∙◌}
 use Rattle.clk_router.specs.declared.devices.Device.{Device}
 use Rattle.clk_router.specs.inside.Parts.{CanPullAt}
 use Rattle.clk_router.proofs.ClosingLemmas.{can-pull}
-use Rattle.clk_router.proofs.PartsLemmas.{both-ok, both-err, set-device, set-same, IsAt-pulled, IsAt-same}
+use Rattle.clk_router.proofs.PartsLemmas.{both-ok, set-device, IsAt-pulled}
 use Rattle.clk_router.proofs.parts.Parts.pull.Goals as goal
 
 pub returns-clause-leads : goal.returns-clause-leads
@@ -22,14 +22,3 @@ returns-clause-unkept c =
     let set = set-device old.devices.items c.args.device c.from.result before before c.from.ensures (can-pull old.keeps old.devices.items c.args.device c.requires.can) c.index_mut.ensures.value in
     let can = subst (CanPullAt old.keeps) set.was c.requires.can in
     λ nothing. c.pull.ensures.unkept (can.0.0 ∙ nothing) can.1
-
-pub returns-clause-stays : goal.returns-clause-stays
-returns-clause-stays c =
-    let old = c.args.self.now in
-    let before = c.index_mut.result.now in
-    let after : Device = record { session = c.pull.new.self; kept = before.kept } in
-    let within = can-pull old.keeps old.devices.items c.args.device c.requires.can in
-    let same = set-same old.devices.items c.from.result before c.index_mut.ensures.value (subst (λ i. i < length old.devices.items) (sym c.from.ensures) within) in
-    both-err c.pull.result
-    (λ session queues setup events at. IsAt-same setup events old _ at (ap (λ s. slice_set old.devices.items c.from.result (record { session = s; kept = before.kept })) session ∙ same) queues refl refl refl refl)
-    c.pull.ensures.unchanged c.pull.ensures.unasked

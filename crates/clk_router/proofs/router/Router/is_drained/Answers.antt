@@ -12,9 +12,6 @@ loop-device-preserved c = λ d below. by_place d below (d == c.loop-device.devic
         subst (λ n. accepted_at c.args.self.now n ≡ evicted_at c.args.self.now n + emitted_at c.args.self.now n) same (omega (arith, c.left.ensures, c.if-left-gt0.false))
     by_place d below false e = c.loop-device.invariant d (grind (arith, nat_tests, below, e))
 
-pub returns-clause-yes : goal.returns-clause-yes
-returns-clause-yes c = λ _. record { none_left = λ d within. c.loop-device.invariant d (omega (arith, within, c.loop-device-test.false, c.devices-device-end.ensures.count)) }
-
 pub returns-clause-settled : goal.returns-clause-settled
 returns-clause-settled c = λ _. c.has_account.ensures.settled (record { none_left = λ d within. c.loop-device.invariant d (omega (arith, within, c.loop-device-test.false, c.devices-device-end.ensures.count)) })
 

@@ -7,13 +7,6 @@ use Rattle.clk_router.specs.inside.Parts.{sender_after}
 use Rattle.clk_router.proofs.AskLemmas.{sent-by}
 use Rattle.clk_router.proofs.router.Router.sent.Goals as goal
 
-pub index-requires : goal.index-requires
-index-requires c =
-    let past = c.self.inside.past in
-    let within = subst (λ (k : Course). c.args.place < length k.setup.senders) (sym c.self.view_is) c.requires in
-    let many = ap length c.self.invariant.at.senders ∙ length-map past.setup.senders (sender_after past.events) in
-    omega (arith, within, many)
-
 pub returns : goal.returns
 returns c sender at =
     let past = c.self.inside.past in

@@ -1,27 +1,24 @@
-use Rattle.std.proofs.Common.{◌≡◌, ◌++◌, ◌∷◌, [], List, length, map, rules, sym, subst, ◌∙◌}
-use Rattle.std.specs.Vec.{with_items}
-use Rattle.std.proofs.lemmas.List.{with_items_is}
-use Rattle.clk_packet.specs.declared.tally.Tally.{Tally}
-use Rattle.clk_report.specs.Counts.{counts_of}
+use Rattle.std.proofs.Common.{◌++◌, ◌∷◌, [], sym, subst}
 use Rattle.clk_router.specs.Events.{offered}
 use Rattle.clk_script.specs.declared.script_router.ScriptRouter.{ScriptRouter}
-use Rattle.clk_script.specs.inside.ScriptRouter.{noted, IsAt}
-use Rattle.clk_script.proofs.ScriptRouterLemmas.{can-offer, IsAt-offered}
+use Rattle.clk_script.specs.inside.ScriptRouter.{IsAt}
+use Rattle.clk_script.proofs.ScriptRouterLemmas.{alike-still, can-offer, IsAt-offered}
 use Rattle.clk_script.proofs.script_router.ScriptRouter.send.Goals as goal
 
 pub offer-outcome-requires-clause-can : goal.offer-outcome-requires-clause-can
 offer-outcome-requires-clause-can c = can-offer c.args.self.now c.requires.ready c.args.place c.requires.is_there
+
+pub count_offered-requires-clause-alike : goal.count_offered-requires-clause-alike
+count_offered-requires-clause-alike c =
+    let old = c.args.self.now in
+    alike-still old (record old { router = c.offer-outcome.new.self }) _ c.senders-numbers.result.now c.requires.ready.alike c.offer-outcome.ensures.goes_on c.senders-numbers.ensures.numbers
 
 pub returns-clause-leads : goal.returns-clause-leads
 returns-clause-leads c =
     let old = c.args.self.now in
     let p = c.offer-outcome.result.0 in
     let outcome = c.offer-outcome.result.1 in
-    let many : length c.count_offered.new.counts ≡ old.counts.len = search rules in
-    let counted : (ts : List Tally) → old.counts.items ≡ map counts_of ts → (with_items old.counts c.count_offered.new.counts).items ≡ map counts_of (map (noted p outcome) ts) =
-    λ ts are. with_items_is old.counts c.count_offered.new.counts many ∙ c.count_offered.ensures ts (c.deref_mut.ensures.value ∙ are)
-    in
-    let after : ScriptRouter = record old { router = c.offer-outcome.new.self; counts = with_items old.counts c.count_offered.new.counts; evicted = c.keep_evicted.new.self.evicted } in
+    let after : ScriptRouter = record old { router = c.offer-outcome.new.self; accounts = c.count_offered.new.accounts; evicted = c.keep_evicted.new.self.evicted } in
     λ setup events at.
     subst (λ (r : ScriptRouter). IsAt setup (events ++ offered p outcome ∷ []) r) (sym c.in_ok-keep_evicted.ensures.kept)
-    (IsAt-offered setup events old after p outcome at c.offer-outcome.ensures.goes_on c.has_happened.ensures counted c.in_ok-keep_evicted.ensures.evicted)
+    (IsAt-offered setup events old after p outcome at c.offer-outcome.ensures.goes_on c.has_happened.ensures c.count_offered.ensures c.in_ok-keep_evicted.ensures.evicted)

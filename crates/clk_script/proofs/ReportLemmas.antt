@@ -24,7 +24,7 @@ use Rattle.clk_router.specs.Accounts.{length_of, total_of as capped_total, accou
 use Rattle.clk_router.specs.Events.{Room, Setup, Event, sender_numbers, numbers_of, events_at, log_of, logs_of, accepted_in, refused_in, evicted_in, emitted_in, tally_after}
 use Rattle.clk_router.proofs.Callers.Offers.{offered-count}
 use Rattle.clk_router.specs.Settled.{IsCourseAccounted, IsSenderAccounted, emitted_by, offered_of}
-use Rattle.clk_live_run.specs.inside.Reporting.{account_line, counts_in, sent_in, total_in}
+use Rattle.clk_script.specs.AccountLines.{account_line, counts_in, sent_in, total_in}
 
 bytes-are : (packets : List Packet) → sum_by length_of packets ≡ bytes_of packets
 bytes-are [] = refl

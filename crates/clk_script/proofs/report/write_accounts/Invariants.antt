@@ -1,8 +1,8 @@
 use Rattle.std.proofs.Common.{◌≡◌, drop}
 use Rattle.std.specs.List.{flat_map}
 use Rattle.clk_packet.proofs.Callers.Bytes.{HasWritten}
-use Rattle.clk_live_run.specs.inside.Reporting.{account_line}
-use Rattle.clk_live_run.proofs.report.write_accounts.Given as goal
+use Rattle.clk_script.specs.AccountLines.{account_line}
+use Rattle.clk_script.proofs.report.write_accounts.Given as goal
 
 abbrev pub invariant-loop-account : goal.invariant-loop-account
 invariant-loop-account g l = record {

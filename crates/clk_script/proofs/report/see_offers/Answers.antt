@@ -3,8 +3,8 @@ use Rattle.std.proofs.lemmas.Bool.Decides.{nat_tests}
 use Rattle.std.proofs.lemmas.Option.{slice_get_within}
 use Rattle.clk_router.specs.Course.{sender_at}
 use Rattle.clk_router.specs.Events.{sender_numbers, numbers_of}
-use Rattle.clk_live_run.proofs.ReportLemmas.{offers-few}
-use Rattle.clk_live_run.proofs.report.see_offers.Goals as goal
+use Rattle.clk_script.proofs.ReportLemmas.{offers-few}
+use Rattle.clk_script.proofs.report.see_offers.Goals as goal
 
 pub loop-place-preserved : goal.loop-place-preserved
 loop-place-preserved c = record { few = λ p s below at. by_test p s below at (p == c.loop-place.place) refl }

@@ -6,9 +6,9 @@ use Rattle.clk_packet.proofs.Callers.Bytes.{HasWritten-none}
 use Rattle.clk_report.proofs.Callers.Texts.{HasWritten-part, HasWritten-all, Wrote-part}
 use Rattle.clk_router.specs.declared.accounts.Total.{Total}
 use Rattle.clk_router.specs.declared.accounts.Account.{Account}
-use Rattle.clk_live_run.specs.inside.Reporting.{account_line}
-use Rattle.clk_live_run.proofs.ReportLemmas.{accounts-more}
-use Rattle.clk_live_run.proofs.report.write_accounts.Goals as goal
+use Rattle.clk_script.specs.AccountLines.{account_line}
+use Rattle.clk_script.proofs.ReportLemmas.{accounts-more}
+use Rattle.clk_script.proofs.report.write_accounts.Goals as goal
 
 pub loop-account-init : goal.loop-account-init
 loop-account-init g c = record { front = HasWritten-none _ _; failures = refl }
