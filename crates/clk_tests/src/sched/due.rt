@@ -194,155 +194,148 @@ fn packets_are_due_at_once(rt: HostRuntime) {
 
 // A Shaper that has no room has room at the next tick.
 #[test]
-fn packets_below_a_shaper_are_due_when_it_has_room(rt: HostRuntime) {
+fn a_shaper_without_burst_has_room_at_the_next_tick(rt: HostRuntime) {
     let alloc = rt.alloc();
-    for (name, tree, steps) in [
-        (
-            "a Shaper without burst",
-            Tree::shaper(alloc, 1, 1, Tree::leaf(0)),
-            &[
-                IsIdle,
-                Sends(0, 10),
-                Sends(0, 10),
-                IsDue(0),
-                Emits(3, 0, 0),
-                IsDue(4),
-                EmitsNone(3),
-                IsDue(4),
-                Emits(4, 0, 1),
-                IsIdle,
-                Sends(0, 10),
-                IsDue(5),
-                Emits(9, 0, 2),
-                IsIdle,
-            ][..],
-        ),
-        (
-            "a Shaper with burst left",
-            Tree::shaper(alloc, 1, 2, Tree::leaf(0)),
-            &[
-                Sends(0, 10),
-                Sends(0, 10),
-                Sends(0, 10),
-                Sends(0, 10),
-                Emits(0, 0, 0),
-                IsDue(0),
-                Emits(0, 0, 1),
-                IsDue(1),
-                Emits(1, 0, 2),
-                IsDue(2),
-                Emits(4, 0, 3),
-                IsIdle,
-                Sends(0, 10),
-                IsDue(4),
-            ][..],
-        ),
-        // The Shaper's room stays while the DRRSched saves up.
-        (
-            "a Shaper over a DRRSched that saves up",
-            shaped_drr_path(alloc, 1, 500),
-            &[
-                Sends(0, 600),
-                Sends(0, 10),
-                IsDue(0),
-                EmitsNone(0),
-                IsDue(0),
-                Emits(0, 0, 0),
-                IsDue(1),
-                Emits(1, 0, 1),
-                IsIdle,
-            ][..],
-        ),
-        // The DRRSched holds the packet of queue 0 as a head, and both queues are empty.
-        (
-            "a Shaper over a head",
-            shaped_drr_over_two(alloc),
-            &[
-                Sends(0, 1000),
-                Sends(1, 100),
-                IsDue(0),
-                Emits(0, 1, 0),
-                IsDue(1),
-                EmitsNone(0),
-                IsDue(1),
-                Emits(1, 0, 0),
-                IsIdle,
-            ][..],
-        ),
-    ] {
-        assert_steps(&rt, alloc, name, tree, steps);
+    let steps = [
+        IsIdle,
+        Sends(0, 10),
+        Sends(0, 10),
+        IsDue(0),
+        Emits(3, 0, 0),
+        IsDue(4),
+        EmitsNone(3),
+        IsDue(4),
+        Emits(4, 0, 1),
+        IsIdle,
+        Sends(0, 10),
+        IsDue(5),
+        Emits(9, 0, 2),
+        IsIdle,
+    ];
+    let tree = Tree::shaper(alloc, 1, 1, Tree::leaf(0));
+    assert_steps(&rt, alloc, "a Shaper without burst", tree, &steps);
+}
+
+#[test]
+fn a_shaper_with_burst_left_has_room_at_once(rt: HostRuntime) {
+    let alloc = rt.alloc();
+    let steps = [
+        Sends(0, 10),
+        Sends(0, 10),
+        Sends(0, 10),
+        Sends(0, 10),
+        Emits(0, 0, 0),
+        IsDue(0),
+        Emits(0, 0, 1),
+        IsDue(1),
+        Emits(1, 0, 2),
+        IsDue(2),
+        Emits(4, 0, 3),
+        IsIdle,
+        Sends(0, 10),
+        IsDue(4),
+    ];
+    let tree = Tree::shaper(alloc, 1, 2, Tree::leaf(0));
+    assert_steps(&rt, alloc, "a Shaper with burst left", tree, &steps);
+}
+
+#[test]
+fn a_shaper_keeps_its_room_while_a_drr_saves_up(rt: HostRuntime) {
+    let alloc = rt.alloc();
+    let steps = [
+        Sends(0, 600),
+        Sends(0, 10),
+        IsDue(0),
+        EmitsNone(0),
+        IsDue(0),
+        Emits(0, 0, 0),
+        IsDue(1),
+        Emits(1, 0, 1),
+        IsIdle,
+    ];
+    let tree = shaped_drr_path(alloc, 1, 500);
+    assert_steps(&rt, alloc, "a Shaper over a DRRSched", tree, &steps);
+}
+
+// The DRRSched holds the packet of queue 0 as a head, and both queues are empty.
+#[test]
+fn a_head_below_a_shaper_is_due_when_it_has_room(rt: HostRuntime) {
+    let alloc = rt.alloc();
+    let steps = [
+        Sends(0, 1000),
+        Sends(1, 100),
+        IsDue(0),
+        Emits(0, 1, 0),
+        IsDue(1),
+        EmitsNone(0),
+        IsDue(1),
+        Emits(1, 0, 0),
+        IsIdle,
+    ];
+    let tree = shaped_drr_over_two(alloc);
+    assert_steps(&rt, alloc, "a Shaper over a head", tree, &steps);
+}
+
+// The upper one has no burst, and then the lower one.
+#[test]
+fn both_of_two_shapers_in_a_row_need_room(rt: HostRuntime) {
+    let alloc = rt.alloc();
+    for (upper, lower) in [(1, 2), (2, 1)] {
+        let steps = [
+            Sends(0, 10),
+            Sends(0, 10),
+            Emits(0, 0, 0),
+            IsDue(1),
+            Emits(1, 0, 1),
+        ];
+        let tree = shaper_over_shaper(alloc, upper, lower);
+        assert_steps(&rt, alloc, "two Shapers in a row", tree, &steps);
     }
 }
 
-// Both of two Shapers in a row need room, and one of two side by side.
 #[test]
-fn packets_below_two_shapers_are_due_at_the_right_one(rt: HostRuntime) {
+fn a_queue_beside_a_shaper_without_room_is_due(rt: HostRuntime) {
     let alloc = rt.alloc();
-    for (name, tree, steps) in [
-        (
-            "the upper of two Shapers has no room",
-            shaper_over_shaper(alloc, 1, 2),
-            &[
-                Sends(0, 10),
-                Sends(0, 10),
-                Emits(0, 0, 0),
-                IsDue(1),
-                Emits(1, 0, 1),
-            ][..],
-        ),
-        (
-            "the lower of two Shapers has no room",
-            shaper_over_shaper(alloc, 2, 1),
-            &[
-                Sends(0, 10),
-                Sends(0, 10),
-                Emits(0, 0, 0),
-                IsDue(1),
-                Emits(1, 0, 1),
-            ][..],
-        ),
-        (
-            "a Shaper without room and a queue",
-            prio_over_shaper(alloc),
-            &[
-                Sends(0, 10),
-                Sends(0, 10),
-                Sends(1, 10),
-                Emits(0, 0, 0),
-                IsDue(0),
-                Emits(0, 1, 0),
-                IsDue(1),
-                EmitsNone(0),
-                Emits(1, 0, 1),
-                IsIdle,
-            ][..],
-        ),
-        // The first Shaper's burst is 1, and the second's is 2.
-        (
-            "two Shapers side by side",
-            prio_over_shapers(alloc),
-            &[
-                Sends(0, 10),
-                Sends(0, 10),
-                Sends(1, 10),
-                Sends(1, 10),
-                Sends(1, 10),
-                Emits(0, 0, 0),
-                IsDue(0),
-                Emits(0, 1, 0),
-                IsDue(0),
-                Emits(0, 1, 1),
-                IsDue(1),
-                EmitsNone(0),
-                Emits(1, 0, 1),
-                IsDue(1),
-                Emits(1, 1, 2),
-                IsIdle,
-            ][..],
-        ),
-    ] {
-        assert_steps(&rt, alloc, name, tree, steps);
-    }
+    let steps = [
+        Sends(0, 10),
+        Sends(0, 10),
+        Sends(1, 10),
+        Emits(0, 0, 0),
+        IsDue(0),
+        Emits(0, 1, 0),
+        IsDue(1),
+        EmitsNone(0),
+        Emits(1, 0, 1),
+        IsIdle,
+    ];
+    let tree = prio_over_shaper(alloc);
+    assert_steps(&rt, alloc, "a Shaper and a queue", tree, &steps);
+}
+
+// The first Shaper's burst is 1, and the second's is 2.
+#[test]
+fn one_of_two_shapers_side_by_side_needs_room(rt: HostRuntime) {
+    let alloc = rt.alloc();
+    let steps = [
+        Sends(0, 10),
+        Sends(0, 10),
+        Sends(1, 10),
+        Sends(1, 10),
+        Sends(1, 10),
+        Emits(0, 0, 0),
+        IsDue(0),
+        Emits(0, 1, 0),
+        IsDue(0),
+        Emits(0, 1, 1),
+        IsDue(1),
+        EmitsNone(0),
+        Emits(1, 0, 1),
+        IsDue(1),
+        Emits(1, 1, 2),
+        IsIdle,
+    ];
+    let tree = prio_over_shapers(alloc);
+    assert_steps(&rt, alloc, "two Shapers side by side", tree, &steps);
 }
 
 /// What random steps came upon: pulls before the due moment, and packets for which a DRRSched saved up at the due moment.
