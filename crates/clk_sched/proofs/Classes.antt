@@ -5,6 +5,8 @@ pub mod Table
 pub mod Bucket
 pub mod BusyTurns
 pub mod Deficits
+pub mod RankBehind
 pub mod RankLemmas
+pub mod RankLess
 pub mod RankMerge
 pub mod StridePasses

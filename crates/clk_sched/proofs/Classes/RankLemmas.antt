@@ -8,7 +8,7 @@ use Rattle.std.proofs.lemmas.List.{drop-drop, drop-map, get_or-drop, length-appe
 use Rattle.std.proofs.lemmas.List.Edits.{drop-paste}
 use Rattle.std.proofs.lemmas.Option.{slice_get_within, get_or_from_slice_get}
 use Rattle.clk_sched.specs.declared.session.stride.Rank.{Rank}
-use Rattle.clk_sched.specs.inside.Ranks.{greatest_stride, IsRankOf, FollowOneAnother, HasOnePass, HasRisingPasses, IsBefore, AreInOrder, is_up_to, put_rank, put_all, at_pass, after_win, first_pass, from_least, less, inputs_in}
+use Rattle.clk_sched.specs.inside.Ranks.{greatest_stride, IsRankOf, FollowOneAnother, HasRisingPasses, IsBefore, AreInOrder, is_up_to, put_rank, put_all, at_pass, after_win, first_pass, from_least, less, inputs_in}
 use Rattle.clk_sched.proofs.Lists.Members.{all-weaker}
 use Rattle.clk_sched.proofs.Lists.Apart.{all-map}
 
@@ -24,7 +24,7 @@ from-place row place d r l e = drop-cons row place d l ∙ ap (λ x. x ∷ drop 
 abbrev pub StandBefore : Rank → List Rank → ℕ → Type 0
 StandBefore r row n = put_rank r row ≡ take n row ++ put_rank r (drop n row)
 
-put-past : (r other : Rank) (others : List Rank) → is_up_to r other ≡ false → put_rank r (other ∷ others) ≡ other ∷ put_rank r others
+pub put-past : (r other : Rank) (others : List Rank) → is_up_to r other ≡ false → put_rank r (other ∷ others) ≡ other ∷ put_rank r others
 put-past r other others e = ap (λ b. if b then r ∷ other ∷ others else other ∷ put_rank r others) e
 
 pub before-next : (r : Rank) (row : List Rank) (n : ℕ) (d other : Rank) → n < length row → other ≡ get_or row n d → is_up_to r other ≡ false → StandBefore r row n → StandBefore r row (n + 1)
@@ -79,7 +79,7 @@ put-next r next row from e test =
     let after = from-rank row (from + 1) next e in
     put-first r row from (let l = slice_get_within row (from + 1) next e in omega (arith, l)) (ap (put_rank r) after ∙ put-here r next (drop (suc (from + 1)) row) test ∙ ap (λ x. r ∷ x) (sym after))
 
-put-some : (r : Rank) (others : List Rank) → 0 < length (put_rank r others)
+pub put-some : (r : Rank) (others : List Rank) → 0 < length (put_rank r others)
 put-some r [] = omega arith
 put-some r (other ∷ others) = by_test (is_up_to r other)
   where
@@ -159,7 +159,7 @@ put-rises r (other ∷ others) h = by_test (is_up_to r other) refl (put-rises r 
     by_test true e rest = let l : r.pass ≤ other.pass = grind (arith, nat_tests) in ((l, lower r.pass other.pass others l h.0), h)
     by_test false e rest = (put-holds (λ (o : Rank). other.pass ≤ o.pass) r others (grind (arith, nat_tests)) h.0, rest)
 
-win-rises : (pass stride place : ℕ) (row : List Rank) → HasRisingPasses row → HasRisingPasses (after_win pass stride place row)
+pub win-rises : (pass stride place : ℕ) (row : List Rank) → HasRisingPasses row → HasRisingPasses (after_win pass stride place row)
 win-rises pass stride zero [] h = tt
 win-rises pass stride (suc place) [] h = tt
 win-rises pass stride zero (r ∷ others) h = put-rises (at_pass (pass + stride) r) others h.1
@@ -320,11 +320,18 @@ in_order-after zero row h = h
 in_order-after (suc n) [] h = tt
 in_order-after (suc n) (r ∷ row) h = in_order-after n row h.1
 
--- Ranks in order of which the last has the pass of the first have one pass.
-pub ends-one_pass : (ranks : List Rank) (d : Rank) (k : ℕ) → AreInOrder ranks → length ranks ≡ suc k → (get_or ranks 0 d).pass ≡ (get_or ranks k d).pass → HasOnePass ranks
-ends-one_pass [] d k h l e = tt
-ends-one_pass (r ∷ []) d k h l e = tt
-ends-one_pass (r ∷ s ∷ ranks) d zero h l e = absurd (omega (arith, l))
-ends-one_pass (r ∷ s ∷ ranks) d (suc k) h l e =
-    let same = second-same r s ranks d k h (omega (arith, l)) e in
-    (same, all-weaker (λ (o : Rank). o.pass ≡ s.pass) (λ (o : Rank). o.pass ≡ r.pass) ranks (λ o f. f ∙ same) (ends-one_pass (s ∷ ranks) d k h.1 (omega (arith, l)) (same ∙ e)))
+-- Of ranks in order none has a greater pass than the last.
+last-greatest : (ranks : List Rank) (d : Rank) (k : ℕ) → HasRisingPasses ranks → length ranks ≡ suc k → AllByRecursion (λ (r : Rank). r.pass ≤ (get_or ranks k d).pass) ranks
+last-greatest [] d k h l = tt
+last-greatest (r ∷ []) d zero h l = (omega arith, tt)
+last-greatest (r ∷ []) d (suc k) h l = absurd (omega (arith, l))
+last-greatest (r ∷ s ∷ ranks) d zero h l = absurd (omega (arith, l))
+last-greatest (r ∷ s ∷ ranks) d (suc k) h l = let rest = last-greatest (s ∷ ranks) d k h.1 (omega (arith, l)) in (let a = h.0.0 in let b = rest.0 in omega (arith, a, b), rest)
+
+at_zero-same : (ranks : List Rank) → AllByRecursion (λ (r : Rank). r.pass ≤ 0) ranks → map (at_pass 0) ranks ≡ ranks
+at_zero-same [] h = refl
+at_zero-same (r ∷ ranks) h = ap₂ (λ x xs. x ∷ xs) (ap (λ pass. at_pass pass r) (let l = h.0 in let none : 0 ≡ r.pass = omega (arith, l) in none)) (at_zero-same ranks h.1)
+
+-- Ranks in order of which the last has a pass of 0 keep theirs when they get 0.
+pub last-zero : (ranks : List Rank) (d : Rank) (k : ℕ) → AreInOrder ranks → length ranks ≡ suc k → (get_or ranks k d).pass ≡ 0 → map (at_pass 0) ranks ≡ ranks
+last-zero ranks d k h l e = at_zero-same ranks (subst (λ n. AllByRecursion (λ (r : Rank). r.pass ≤ n) ranks) e (last-greatest ranks d k (in_order-rises ranks h) l))

@@ -3,13 +3,13 @@ use Rattle.std.proofs.Common.{◌≡◌, ℕ, zero, suc, ◌+◌, ◌-◌, ◌<�
 use Rattle.std.specs.List.{AllByRecursion}
 use Rattle.std.proofs.lemmas.Bool.Decides.{nat_tests}
 use Rattle.std.proofs.Math.Seq.{paste, take-add}
-use Rattle.std.proofs.lemmas.List.{length-append, length-map, length-take-le, drop-take, take-append-drop}
+use Rattle.std.proofs.lemmas.List.{length-append, length-take-le, drop-take, take-append-drop}
 use Rattle.clk_sched.specs.declared.session.stride.Rank.{Rank}
-use Rattle.clk_sched.specs.inside.Ranks.{with_pass, IsBefore, AreInOrder, AreUpTo, HasOnePass, is_up_to, put_rank, put_all, at_pass, after_win}
+use Rattle.clk_sched.specs.inside.Ranks.{with_pass, IsBefore, AreInOrder, AreUpTo, is_up_to, put_rank, put_all, at_pass, after_win}
 use Rattle.clk_sched.specs.Laws.Stride.{put_in_order}
 use Rattle.clk_sched.proofs.Lists.Members.{all-weaker}
 use Rattle.clk_sched.proofs.Lists.Rising.{put-put}
-use Rattle.clk_sched.proofs.Classes.RankLemmas.{put-here, put-holds, front-kept, in_order-front, in_order-after, win-each}
+use Rattle.clk_sched.proofs.Classes.RankLemmas.{put-here, put-holds, front-kept, win-each}
 use Rattle.clk_sched.proofs.Classes.StridePasses.{put-pairs}
 
 -- a rank, of its pair
@@ -43,7 +43,7 @@ put-among r (s ∷ ranks) others = by_test (is_up_to r s) (put-among r ranks oth
     by_test true rest = sym (put-later r (s ∷ ranks) others)
     by_test false rest = ap (put_rank s) rest
 
-up-then : (r s o : Rank) → is_up_to r s ≡ true → is_up_to s o ≡ true → is_up_to r o ≡ true
+pub up-then : (r s o : Rank) → is_up_to r s ≡ true → is_up_to s o ≡ true → is_up_to r o ≡ true
 up-then r s o e f = by_test (is_up_to r o) refl
   where
     by_test : (b : Bool) → is_up_to r o ≡ b → b ≡ true
@@ -77,21 +77,8 @@ pub in_order-up : (ranks : List Rank) → AreInOrder ranks → AreUpTo ranks
 in_order-up [] h = tt
 in_order-up (r ∷ ranks) h = (all-weaker (IsBefore r) (λ o. is_up_to r o ≡ true) ranks (λ o k. before-up r o k) h.0, in_order-up ranks h.1)
 
--- Ranks in order that have one pass stay in order with another.
-pub one_pass-up : (pass : ℕ) (ranks : List Rank) → AreInOrder ranks → HasOnePass ranks → AreUpTo (map (at_pass pass) ranks)
-one_pass-up pass [] h one = tt
-one_pass-up pass (r ∷ ranks) h one = (later ranks h.0 one, one_pass-up pass ranks h.1 (rest ranks one))
-  where
-    later : (others : List Rank) → AllByRecursion (IsBefore r) others → AllByRecursion (λ (o : Rank). o.pass ≡ r.pass) others → AllByRecursion (λ (o : Rank). is_up_to (at_pass pass r) o ≡ true) (map (at_pass pass) others)
-    later [] k e = tt
-    later (o ∷ others) k e = ((let l = k.0.1 (sym e.0) in grind (arith, nat_tests, l)), later others k.1 e.1)
-
-    rest : (others : List Rank) → AllByRecursion (λ (o : Rank). o.pass ≡ r.pass) others → HasOnePass others
-    rest [] e = tt
-    rest (s ∷ others) e = all-weaker (λ (o : Rank). o.pass ≡ r.pass) (λ (o : Rank). o.pass ≡ s.pass) others (λ o f. f ∙ sym e.0) e.1
-
 -- one that stands before others in order stays before them
-first-stays : (r : Rank) (others : List Rank) → AllByRecursion (λ (o : Rank). is_up_to r o ≡ true) others → put_rank r others ≡ r ∷ others
+pub first-stays : (r : Rank) (others : List Rank) → AllByRecursion (λ (o : Rank). is_up_to r o ≡ true) others → put_rank r others ≡ r ∷ others
 first-stays r [] h = refl
 first-stays r (o ∷ others) h = put-here r o others h.0
 
@@ -195,37 +182,30 @@ win-alone pass stride place [] d l e = absurd (omega arith)
 win-alone pass stride zero (r ∷ row) d l e = refl
 win-alone pass stride (suc place) (r ∷ row) d l e = absurd (omega (arith, e))
 
--- The winner of a row was put in its place, and those before it have the pass that it had.
-pub record IsPassed (pass stride place : ℕ) (row now : List Rank) : Type 0 where
+-- The winner of a row was put in its place, and those before it have 0.
+pub record IsPassed (stride place : ℕ) (row now : List Rank) : Type 0 where
   pub within : place ≤ length now
   pub front : AreUpTo (take place now)
   pub back : AreUpTo (drop place now)
-  pub won : put_all (take place now) (drop place now) ≡ after_win pass stride place row
+  pub won : put_all (take place now) (drop place now) ≡ after_win 0 stride place row
 
-pub passed : (pass stride place : ℕ) (row put given : List Rank) (winner d : Rank) → place < length row → AreInOrder row → winner ≡ at_pass (pass + stride) (get_or row place d) → put ≡ take place row ++ put_rank winner (drop (place + 1) row)
-    → HasOnePass (take place put) → given ≡ map (at_pass pass) (take place put) → IsPassed pass stride place row (given ++ drop place put)
-passed pass stride place row put given winner d l order won is one gave =
+pub passed : (stride place : ℕ) (row put : List Rank) (winner d : Rank) → place < length row → AreInOrder (take place row) → AreUpTo (drop (place + 1) row) → winner ≡ at_pass stride (get_or row place d)
+    → put ≡ take place row ++ put_rank winner (drop (place + 1) row) → map (at_pass 0) (take place put) ≡ take place put → IsPassed stride place row put
+passed stride place row put winner d l order behind won is zero_now =
     record {
-      within = let all = length-append given (drop place put) in omega (arith, size, all);
-      front = subst AreUpTo (sym front) (one_pass-up pass (take place row) (in_order-front place row order) (subst HasOnePass front_is one));
-      back = subst AreUpTo (sym back) (put-up winner (drop (place + 1) row) (in_order-up (drop (place + 1) row) (in_order-after (place + 1) row order)));
-      won = ap₂ put_all front (back ∙ ap₂ (λ w n. put_rank w (drop n row)) won (let next : place + 1 ≡ suc place = omega arith in next)) ∙ sym (win-each pass stride place row d l);
+      within = let all = ap length is ∙ length-append (take place row) (put_rank winner (drop (place + 1) row)) in let size = length-take-le place row (omega arith) in omega (arith, all, size);
+      front = subst AreUpTo (sym front) (in_order-up (take place row) order);
+      back = subst AreUpTo (sym back) (put-up winner (drop (place + 1) row) behind);
+      won =
+          ap₂ put_all (sym zero_now ∙ ap (map (at_pass 0)) front) (back ∙ ap₂ (λ w n. put_rank w (drop n row)) (won ∙ ap (λ n. at_pass n (get_or row place d)) (let same : stride ≡ 0 + stride = omega arith in same)) (let next : place + 1 ≡ suc place = omega arith in next))
+          ∙ sym (win-each 0 stride place row d l);
     }
   where
     kept : (take place (take place row ++ put_rank winner (drop (place + 1) row)) ≡ take place row) × (drop place (take place row ++ put_rank winner (drop (place + 1) row)) ≡ put_rank winner (drop (place + 1) row))
     kept = front-kept place row (put_rank winner (drop (place + 1) row)) (omega arith)
 
-    front_is : take place put ≡ take place row
-    front_is = ap (take place) is ∙ kept.0
+    front : take place put ≡ take place row
+    front = ap (take place) is ∙ kept.0
 
-    size : length given ≡ place
-    size = ap length gave ∙ length-map (take place put) (at_pass pass) ∙ ap length front_is ∙ length-take-le place row (omega arith)
-
-    split : (take place (given ++ drop place put) ≡ given) × (drop place (given ++ drop place put) ≡ drop place put)
-    split = parts place given (drop place put) size
-
-    front : take place (given ++ drop place put) ≡ map (at_pass pass) (take place row)
-    front = split.0 ∙ gave ∙ ap (map (at_pass pass)) front_is
-
-    back : drop place (given ++ drop place put) ≡ put_rank winner (drop (place + 1) row)
-    back = split.1 ∙ ap (drop place) is ∙ kept.1
+    back : drop place put ≡ put_rank winner (drop (place + 1) row)
+    back = ap (drop place) is ∙ kept.1

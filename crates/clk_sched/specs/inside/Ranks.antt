@@ -12,10 +12,6 @@ with_pass taken r = (r.input, r.pass + taken)
 abbrev pub greatest_stride : ℕ
 greatest_stride = 65536
 
--- the greatest pass in a pull: the winner's grows by its stride before the least is subtracted
-abbrev pub greatest_pass : ℕ
-greatest_pass = 131072
-
 -- a rank of one of so many inputs between pulls
 abbrev pub IsRankOf : ℕ → Rank → Type 0
 IsRankOf inputs r = (r.input < inputs) × (r.pass ≤ greatest_stride)
@@ -60,11 +56,6 @@ IsBefore r other = (r.pass ≤ other.pass) × (r.pass ≡ other.pass → r.input
 abbrev pub AreInOrder : List Rank → Type 0
 AreInOrder [] = ⊤
 AreInOrder (r ∷ others) = AllByRecursion (IsBefore r) others × AreInOrder others
-
--- ranks of one pass
-abbrev pub HasOnePass : List Rank → Type 0
-HasOnePass [] = ⊤
-HasOnePass (r ∷ others) = AllByRecursion (λ (other : Rank). other.pass ≡ r.pass) others
 
 -- the rank of the same input with another pass
 abbrev pub at_pass : ℕ → Rank → Rank

@@ -4,7 +4,7 @@ ghost use Rattle.std.specs.Prelude.{◌≡◌, ◌≤◌, ◌<◌, ◌+◌, ◌^
 ghost use Rattle.std.specs.List.{All, AllByRecursion, range_with_len};
 ghost use Rattle.clk_packet.specs.Limits.{most_inputs, most_tickets};
 ghost use Rattle.clk_sched.specs.Laws.Stride.{stride_of};
-ghost use Rattle.clk_sched.specs.inside.Ranks.{greatest_stride, greatest_pass, IsRankOf, FollowOneAnother, HasRisingPasses, HasRisingPasses-prop, HasOnePass, AreInOrder, AreUpTo, is_up_to, put_rank, put_all, at_pass, after_win, first_pass, from_least, first_rank};
+ghost use Rattle.clk_sched.specs.inside.Ranks.{greatest_stride, IsRankOf, FollowOneAnother, HasRisingPasses, HasRisingPasses-prop, AreInOrder, AreUpTo, is_up_to, put_rank, put_all, at_pass, after_win, first_pass, from_least, less, first_rank};
 
 use crate::ask::Ask;
 use crate::session::nodes::Nodes;
@@ -44,7 +44,7 @@ impl Rank {
 }
 
 /// The inputs of a StrideSched in rising order of (pass, index), with the stride of each. Between pulls the least pass is 0, and none is
-/// above 65,536. In a pull none is above 131,072.
+/// above 65,536. In a pull none is either: the winner's pass is subtracted before its stride is added.
 #[derive(Drop)]
 pub struct Passes {
     row: SmallVec<Rank, 2>,
@@ -97,12 +97,10 @@ impl Passes {
     {
         let row = self.row.as_mut_slice();
         let winner = row[place];
-        place_visited(
-            row,
-            place,
-            winner.pass,
-            self.strides[usize::from(winner.input)],
-        );
+        let stride = self.strides[usize::from(winner.input)];
+        // The winner's pass is to be the least. Those before it get it, so that nothing is to be subtracted from theirs.
+        subtract(&mut row[place..], winner.pass);
+        place_visited(row, place, stride);
         subtract_least(row);
     }
 
@@ -220,52 +218,43 @@ fn strides_of(alloc: Global, tickets: &[u32]) -> Result<SmallVec<u32, 4>, AllocE
     Ok(strides)
 }
 
-/// Puts the winner, whose pass grows by its stride, in its new place, and then those before it. These had no packet, and get
-/// the pass that the winner had, so that an input that was idle has no claim to what it missed.
-fn place_visited(row: &mut [Rank], place: usize, pass: u32, stride: u32)
+/// Puts the winner, whose pass is 0 and grows by its stride, in its new place, and then those before it. These had no packet, and get the
+/// pass that the winner had, 0, so that an input that was idle has no claim to what it missed. The ranks before the place are in order, and
+/// so are those after it.
+fn place_visited(row: &mut [Rank], place: usize, stride: u32)
     requires place { place < length row.old }
-    requires fits { pass + stride ≤ greatest_pass }
-    requires order { AreInOrder row.old }
-    ensures { row.new ≡ after_win pass stride place row.old }
+    requires fits { stride ≤ greatest_stride }
+    requires front { AreInOrder (take place row.old) }
+    requires back { AreUpTo (drop (place + 1) row.old) }
+    ensures { row.new ≡ after_win 0 stride place row.old }
 {
-    let winner = row[place].at_pass(pass + stride);
+    let winner = row[place].at_pass(stride);
     put(row, place, winner);
     if place == 0 {
         return;
     }
-    // If they had one pass, as they mostly do, they keep their order.
-    if has_one_pass(&row[..place]) {
-        give_pass(&mut row[..place], pass);
+    // If all have 0 already, as they mostly do, they keep their order.
+    if are_at_zero(&row[..place]) {
         merge(row, place);
         return;
     }
     // From the last to the first, each is put among ranks that are in order.
     let mut next = row[place];
     for idle in (0..place).rev() {
-        let rank = row[idle].at_pass(pass);
+        let rank = row[idle].at_pass(0);
         next = put_before(row, idle, rank, next);
     }
 }
 
-/// Whether these ranks, which are in order, have one pass: the first and the last tell.
+/// Whether all of these ranks, which are in order, have a pass of 0: the last tells.
 #[inline]
-fn has_one_pass(ranks: &[Rank]) -> bool
+fn are_at_zero(ranks: &[Rank]) -> bool
     requires { AreInOrder ranks.now }
-    ensures { result ≡ true → HasOnePass ranks.now }
+    ensures { result ≡ true → map (at_pass 0) ranks.now ≡ ranks.now }
 {
     match ranks {
         [] => true,
-        [first, ..] => first.pass == ranks[ranks.len() - 1].pass,
-    }
-}
-
-/// Gives each of these ranks this pass.
-#[inline]
-fn give_pass(ranks: &mut [Rank], pass: u32)
-    ensures { ranks.new ≡ map (at_pass pass) ranks.old }
-{
-    for rank in ranks.iter_mut() {
-        rank.pass = pass;
+        [.., last] => last.pass == 0,
     }
 }
 
@@ -302,14 +291,15 @@ fn put_in_front(row: &mut [Rank], from: usize, rank: Rank)
 /// Takes out the rank at a place, and puts this one among those after it, which are in order.
 #[inline]
 fn put(row: &mut [Rank], from: usize, rank: Rank)
-    requires { from < length row.old }
+    requires within { from < length row.old }
+    requires order { AreUpTo (drop (from + 1) row.old) }
     ensures { row.new ≡ take from row.old ++ put_rank rank (drop (from + 1) row.old) }
 {
     // One that stays where it is moves nothing.
     if is_first(rank, &row[from + 1..]) {
         row[from] = rank;
     } else {
-        put_behind(row, from, rank);
+        put_far_behind(row, from, rank);
     }
 }
 
@@ -344,8 +334,7 @@ fn is_first(rank: Rank, others: &[Rank]) -> bool
 
 /// Takes out the rank at a place, and puts this one among those after it, which are in order. Those that stand before it move a place to
 /// the front.
-// Each is moved as it is compared: rows are short, and a call that copies a part of one takes longer.
-#[inline(never)]
+// Each is moved as it is compared.
 fn put_behind(row: &mut [Rank], from: usize, rank: Rank)
     requires { from < length row.old }
     ensures { row.new ≡ take from row.old ++ put_rank rank (drop (from + 1) row.old) }
@@ -356,6 +345,22 @@ fn put_behind(row: &mut [Rank], from: usize, rank: Rank)
         place += 1;
     }
     row[place] = rank;
+}
+
+/// Takes out the rank at a place, and puts this one among those after it, which are in order, as `put_behind` does. Where it moves far,
+/// those that stand before it move eight at a time: the last of eight tells of all.
+#[inline(never)]
+fn put_far_behind(row: &mut [Rank], from: usize, rank: Rank)
+    requires within { from < length row.old }
+    requires order { AreUpTo (drop (from + 1) row.old) }
+    ensures { row.new ≡ take from row.old ++ put_rank rank (drop (from + 1) row.old) }
+{
+    let mut place = from;
+    while place + 8 < row.len() && !rank.is_up_to(&row[place + 8]) {
+        row.copy_within(place + 1..place + 9, place);
+        place += 8;
+    }
+    put_behind(row, place, rank);
 }
 
 /// How many of these ranks, which are in order, stand before this one.
@@ -378,10 +383,19 @@ fn subtract_least(row: &mut [Rank])
     ensures { row.new ≡ from_least row.old }
 {
     let least = row[0].pass;
+    subtract(row, least);
+}
+
+/// Subtracts so much from the pass of each of these ranks.
+#[inline]
+fn subtract(ranks: &mut [Rank], least: u32)
+    requires { All (λ rank. least ≤ rank.pass) ranks.old }
+    ensures { ranks.new ≡ map (less least) ranks.old }
+{
     if least == 0 {
         return;
     }
-    for rank in row.iter_mut() {
+    for rank in ranks.iter_mut() {
         rank.pass -= least;
     }
 }

@@ -10,4 +10,4 @@ returns-then-is_first c =
     let from = c.args.from in
     let rank = c.args.rank in
     let first = subst (λ (xs : List Rank). put_rank rank xs ≡ rank ∷ xs) (after-place row (from + 1)) (c.is_first.ensures c.if-is_first.true) in
-    put-first rank row from c.requires first
+    put-first rank row from c.requires.within first

@@ -1,31 +1,12 @@
-use Rattle.std.proofs.Common.{◌≡◌, ◌+◌, ◌++◌, ◌∙◌, ap, sym, suc, map, take, drop, set, get_or, arith}
+use Rattle.std.proofs.Common.{◌≤◌, ◌∙◌, ap, sym, subst, map}
+use Rattle.std.specs.List.{All}
 use Rattle.clk_sched.specs.declared.session.stride.Rank.{Rank}
-use Rattle.clk_sched.specs.inside.Ranks.{first_pass, less}
-use Rattle.clk_sched.proofs.Classes.RankLemmas.{less-none, first-is, changed-read, changed-more}
+use Rattle.clk_sched.specs.inside.Ranks.{less}
+use Rattle.clk_sched.proofs.Classes.RankLemmas.{first-is}
 use Rattle.clk_sched.proofs.session.stride.subtract_least.Goals as goal
 
-pub returns-then-least-eq0 : goal.returns-then-least-eq0
-returns-then-least-eq0 c =
-    let first = first-is c.args.row.now (record { pass = 0; input = 0 }) c.requires.some in
-    let none : first_pass c.args.row.now ≡ 0 = let test = c.if-least-eq0.true in omega (arith, first, test) in
-    sym (ap (λ n. map (less n) c.args.row.now) none ∙ less-none c.args.row.now)
+pub subtract-requires : goal.subtract-requires
+subtract-requires c = subst (λ n. All (λ (r : Rank). n ≤ r.pass) c.args.row.now) (sym (first-is c.args.row.now (record { pass = 0; input = 0 }) c.requires.some)) c.requires.least
 
-pub overflow_sub-rank : goal.overflow_sub-rank
-overflow_sub-rank c =
-    let blank : Rank = record { pass = 0; input = 0 } in
-    let first = first-is c.args.row.now blank c.requires.some in
-    let least = c.requires.least c.loop-rank.rank-index blank c.loop-rank-test.true in
-    let now = ap (λ (xs : _). (get_or xs c.loop-rank.rank-index blank).pass) c.loop-rank.invariant in
-    let old = ap (λ (r : Rank). r.pass) (changed-read (less (get_or c.args.row.now 0 blank).pass) c.loop-rank.rank-index c.args.row.now blank) in
-    omega (arith, first, least, now, old)
-
-pub loop-rank-preserved : goal.loop-rank-preserved
-loop-rank-preserved c =
-    let blank : Rank = record { pass = 0; input = 0 } in
-    let f = less (get_or c.args.row.now 0 blank).pass in
-    let i = c.loop-rank.rank-index in
-    let next : suc i ≡ i + 1 = omega arith in
-    ap (λ xs. set xs i (f (get_or xs i blank))) c.loop-rank.invariant
-    ∙ ap (λ r. set (map f (take i c.args.row.now) ++ drop i c.args.row.now) i (f r)) (changed-read f i c.args.row.now blank)
-    ∙ changed-more f i c.args.row.now blank c.loop-rank-test.true
-    ∙ ap (λ n. map f (take n c.args.row.now) ++ drop n c.args.row.now) next
+pub returns : goal.returns
+returns c = c.subtract.ensures ∙ ap (λ n. map (less n) c.args.row.now) (first-is c.args.row.now (record { pass = 0; input = 0 }) c.requires.some)
