@@ -20,6 +20,7 @@ use Rattle.clk_sched.proofs.Nodes.Logged.{edge-there, idle-asked}
 use Rattle.clk_sched.proofs.Nodes.Ordered.{order-there}
 use Rattle.clk_sched.proofs.Nodes.Asking.{IsAsking, asking-first, asking-next, asked-vain, can-go_on, edges-append}
 use Rattle.clk_sched.proofs.Nodes.InTwo.{asked-both}
+use Rattle.clk_sched.proofs.Classes.RankLemmas.{inputs-after}
 
 -- an input of so many that are there
 pub there-at : (table : List Inputs) (x first count : ℕ) → AllByRecursion (λ i. IsSome (input_at table x i)) (range_with_len first count) → (i : ℕ) → i < count → IsSome (input_at table x (first + i))
@@ -67,6 +68,13 @@ pub asking-past : {S : Type 0} (gives : S → ℕ → Option Packet → S → Ty
 asking-past gives a b c p q x k n order h passed =
     subst (IsAsking gives a c p q x) (sym (take-both k n order))
     (asked-vain gives a c p q x (take k order ++ take n (drop k order)) None refl (asked-both gives a b c p q q x (take k order) (take n (drop k order)) None h passed))
+
+-- None of a row was passed over.
+pub asking-still : {S : Type 0} (gives : S → ℕ → Option Packet → S → Type 0) (a b c : Nodes) (p q : S) (x k n : ℕ) (row : List Rank) → n ≡ 0 → IsAsking gives a b p q x (take k (inputs_in row))
+    → HasAskedAll gives b c q q x (take n (inputs_in (take (length row - k) (drop k row)))) None → IsAsking gives a c p q x (take k (inputs_in row))
+asking-still gives a b c p q x k n row none h passed =
+    subst (λ m. IsAsking gives a c p q x (take m (inputs_in row))) (let same : k + n ≡ k = omega (arith, none) in same)
+    (asking-past gives a b c p q x k n (inputs_in row) h (subst (λ l. HasAskedAll gives b c q q x (take n l) None) (inputs-after row k) passed))
 
 -- the same of inputs whose numbers follow one another
 pub turn-can : {S : Type 0} (gives : S → ℕ → Option Packet → S → Type 0) (a b : Nodes) (p q : S) (x first count k : ℕ) → k ≤ count → CanPull a x (edges_in a.inputs.items x (range_with_len first count))

@@ -100,17 +100,21 @@ impl Nodes {
     {
         let mut place = 0;
         while place < order.len() {
+            let idle = self.pass_idle_of(q, node, &order[place..]);
+            if idle > 0 {
+                place += idle;
+                continue;
+            }
             if let Some(packet) = self.look(q, node, order[place].input) {
                 return Some((place, packet));
             }
             place += 1;
-            place += self.pass_idle_of(q, node, &order[place..]);
         }
         None
     }
 
     /// Skips the longest run of consecutive, equal-pass inputs, from the first of these on, whose queues are known to be empty. Records a
-    /// visit to each, and returns how many. It is 0 if they are so few that asking each is faster.
+    /// visit to each, and returns how many. It is 0 if the first is not known to be empty, or if they are so few that asking each is faster.
     #[inline]
     fn pass_idle_of<Q: Ask>(&mut self, q: &Q, node: u16, order: &[Rank]) -> usize
         requires can_pull { CanPull self.old node (edges_in self.old.inputs.items node (inputs_in order.now)) }
@@ -130,6 +134,9 @@ impl Nodes {
         }
         let left = self.inputs[node as usize].each.len() - usize::from(first);
         let idle = self.idle_from(q, node, first, order.len().min(left) as u16);
+        if idle == 0 {
+            return 0;
+        }
         let count = following(&order[..usize::from(idle)]);
         self.record_idle(node, first, count as u16);
         count

@@ -17,7 +17,7 @@ use Rattle.clk_sched.specs.inside.Ranks.{AreInOrder, inputs_in}
 use Rattle.clk_sched.proofs.Nodes.Asking.{keeps-more, answers-then, asking-first, asking-ready, asking-given, asking-next, asking-all}
 use Rattle.clk_sched.proofs.Nodes.Asked.{entry, rank_at, entry-input, input-is, edges-scheduler, queue-visited, asks-queue, asks-child}
 use Rattle.clk_sched.proofs.Classes.RankLemmas.{after-place, inputs-after, in_order-after}
-use Rattle.clk_sched.proofs.Nodes.Idle.{rest-can, asking-past, turn-can, turn-past}
+use Rattle.clk_sched.proofs.Nodes.Idle.{rest-can, asking-past, asking-still, turn-can, turn-past}
 use Rattle.clk_sched.proofs.Nodes.Placed.{can-turn, kept-there, pulled-back}
 use Rattle.clk_sched.proofs.Turns.TurnPrio.{prio-asks, prio-pulled}
 use Rattle.clk_sched.proofs.Turns.TurnRoundRobin.{begins, may-first, may-second, had-first, had-second, had-none, few-first, few-second}
@@ -80,12 +80,38 @@ pub nodes::Nodes::ask_in_order-loop-place-init : goal.nodes::Nodes::ask_in_order
 nodes::Nodes::ask_in_order-loop-place-init g t c =
     (omega arith, asking-first g.Q.Ask.gives c.args.self.now c.args.q.now c.args.node c.requires.can_pull.fit)
 
+pub nodes::Nodes::ask_in_order-pass_idle_of-idle-requires : goal.nodes::Nodes::ask_in_order-pass_idle_of-idle-requires
+nodes::Nodes::ask_in_order-pass_idle_of-idle-requires g t c =
+    let k = c.loop-place.place in
+    let now = c.loop-place.self in
+    let rest = rest-can g.Q.Ask.gives c.args.self.now now c.args.q.now c.loop-place.q c.args.node k (inputs_in c.args.order.now) c.requires.can_pull c.requires.within c.loop-place.invariant.1 in
+    let after = sym (inputs-after c.args.order.now k) in
+    record {
+      can_pull = subst (λ l. CanPull now c.args.node (edges_in now.inputs.items c.args.node l)) after rest.0;
+      within = subst (AllByRecursion (λ i. IsSome (input_at now.inputs.items c.args.node i))) after rest.1;
+      order = subst AreInOrder (sym (after-place c.args.order.now k)) (in_order-after k c.args.order.now c.requires.order);
+    }
+
+pub nodes::Nodes::ask_in_order-loop-place-preserved-then-idle-gt0 : goal.nodes::Nodes::ask_in_order-loop-place-preserved-then-idle-gt0
+nodes::Nodes::ask_in_order-loop-place-preserved-then-idle-gt0 g t c =
+    let k = c.loop-place.place in
+    let n = c.pass_idle_of-idle.result in
+    let within = c.pass_idle_of-idle.ensures.within in
+    let test = c.loop-place-test.true in
+    let size = ap length (after-place c.args.order.now k) ∙ length-drop k c.args.order.now in (
+      omega (arith, within, size, test),
+      asking-past g.Q.Ask.gives c.args.self.now c.loop-place.self c.pass_idle_of-idle.new.self c.args.q.now c.loop-place.q c.args.node k n (inputs_in c.args.order.now) c.loop-place.invariant.1
+          (subst (λ l. HasAskedAll g.Q.Ask.gives c.loop-place.self c.pass_idle_of-idle.new.self c.loop-place.q c.loop-place.q c.args.node (take n l) None) (inputs-after c.args.order.now k) c.pass_idle_of-idle.ensures.asked),
+    )
+
 pub nodes::Nodes::ask_in_order-look-requires : goal.nodes::Nodes::ask_in_order-look-requires
 nodes::Nodes::ask_in_order-look-requires g t c =
     let order = inputs_in c.args.order.now in
     let k = c.loop-place.place in
-    let h = c.loop-place.invariant.1 in
-    let ready = asking-ready g.Q.Ask.gives c.args.self.now c.loop-place.self c.args.q.now c.loop-place.q c.args.node k (rank_at c.args.order.now k).input order c.requires.can_pull c.requires.within h (subst (λ n. k < n) (sym (length-map c.args.order.now (λ (r : Rank). r.input))) c.loop-place-test.true) (entry-input c.args.order.now k c.loop-place-test.true) in
+    let now = c.pass_idle_of-idle.new.self in
+    let none = c.if-idle-gt0.false in
+    let h = asking-still g.Q.Ask.gives c.args.self.now c.loop-place.self now c.args.q.now c.loop-place.q c.args.node k c.pass_idle_of-idle.result c.args.order.now (omega (arith, none)) c.loop-place.invariant.1 c.pass_idle_of-idle.ensures.asked in
+    let ready = asking-ready g.Q.Ask.gives c.args.self.now now c.args.q.now c.loop-place.q c.args.node k (rank_at c.args.order.now k).input order c.requires.can_pull c.requires.within h (subst (λ n. k < n) (sym (length-map c.args.order.now (λ (r : Rank). r.input))) c.loop-place-test.true) (entry-input c.args.order.now k c.loop-place-test.true) in
     let same = ap length h.keeps.inputs in
     let less = c.decreases in
     λ κs le. (omega (arith, same, less), (search, (ready.0, ready.1)))
@@ -94,36 +120,23 @@ pub nodes::Nodes::ask_in_order-returns-in-Some : goal.nodes::Nodes::ask_in_order
 nodes::Nodes::ask_in_order-returns-in-Some g t c =
     let order = inputs_in c.args.order.now in
     let k = c.loop-place.place in
+    let now = c.pass_idle_of-idle.new.self in
+    let none = c.if-idle-gt0.false in
+    let h = asking-still g.Q.Ask.gives c.args.self.now c.loop-place.self now c.args.q.now c.loop-place.q c.args.node k c.pass_idle_of-idle.result c.args.order.now (omega (arith, none)) c.loop-place.invariant.1 c.pass_idle_of-idle.ensures.asked in
     record {
       place = c.loop-place-test.true;
-      asked = asking-given g.Q.Ask.gives c.args.self.now c.loop-place.self c.look.new.self c.args.q.now c.loop-place.q c.look.new.q c.args.node k (rank_at c.args.order.now k).input c.look.result c.in-Some.packet order (subst (λ n. k < n) (sym (length-map c.args.order.now (λ (r : Rank). r.input))) c.loop-place-test.true) c.loop-place.invariant.1 (entry-input c.args.order.now k c.loop-place-test.true) c.in-Some.is c.look.ensures;
-    }
-
-pub nodes::Nodes::ask_in_order-pass_idle_of-place-requires : goal.nodes::Nodes::ask_in_order-pass_idle_of-place-requires
-nodes::Nodes::ask_in_order-pass_idle_of-place-requires g t c =
-    let order = inputs_in c.args.order.now in
-    let k = c.loop-place.place in
-    let asked = asking-next g.Q.Ask.gives c.args.self.now c.loop-place.self c.look.new.self c.args.q.now c.loop-place.q c.look.new.q c.args.node k (rank_at c.args.order.now k).input c.look.result order (subst (λ n. k < n) (sym (length-map c.args.order.now (λ (r : Rank). r.input))) c.loop-place-test.true) c.loop-place.invariant.1 (entry-input c.args.order.now k c.loop-place-test.true) c.in_default.is c.look.ensures in
-    let rest = rest-can g.Q.Ask.gives c.args.self.now c.look.new.self c.args.q.now c.look.new.q c.args.node (k + 1) order c.requires.can_pull c.requires.within asked in
-    let after = sym (inputs-after c.args.order.now (k + 1)) in
-    record {
-      can_pull = subst (λ l. CanPull c.look.new.self c.args.node (edges_in c.look.new.self.inputs.items c.args.node l)) after rest.0;
-      within = subst (AllByRecursion (λ i. IsSome (input_at c.look.new.self.inputs.items c.args.node i))) after rest.1;
-      order = subst AreInOrder (sym (after-place c.args.order.now (k + 1))) (in_order-after (k + 1) c.args.order.now c.requires.order);
+      asked = asking-given g.Q.Ask.gives c.args.self.now now c.look.new.self c.args.q.now c.loop-place.q c.look.new.q c.args.node k (rank_at c.args.order.now k).input c.look.result c.in-Some.packet order (subst (λ n. k < n) (sym (length-map c.args.order.now (λ (r : Rank). r.input))) c.loop-place-test.true) h (entry-input c.args.order.now k c.loop-place-test.true) c.in-Some.is c.look.ensures;
     }
 
 pub nodes::Nodes::ask_in_order-loop-place-preserved : goal.nodes::Nodes::ask_in_order-loop-place-preserved
 nodes::Nodes::ask_in_order-loop-place-preserved g t c =
-    let order = inputs_in c.args.order.now in
     let k = c.loop-place.place in
-    let asked = asking-next g.Q.Ask.gives c.args.self.now c.loop-place.self c.look.new.self c.args.q.now c.loop-place.q c.look.new.q c.args.node k (rank_at c.args.order.now k).input c.look.result order (subst (λ n. k < n) (sym (length-map c.args.order.now (λ (r : Rank). r.input))) c.loop-place-test.true) c.loop-place.invariant.1 (entry-input c.args.order.now k c.loop-place-test.true) c.in_default.is c.look.ensures in
-    let n = c.pass_idle_of-place.result in
-    let within = c.pass_idle_of-place.ensures.within in
-    let test = c.loop-place-test.true in
-    let size = ap length (after-place c.args.order.now (k + 1)) ∙ length-drop (k + 1) c.args.order.now in (
-      omega (arith, within, size, test),
-      asking-past g.Q.Ask.gives c.args.self.now c.look.new.self c.pass_idle_of-place.new.self c.args.q.now c.look.new.q c.args.node (k + 1) n order asked
-          (subst (λ l. HasAskedAll g.Q.Ask.gives c.look.new.self c.pass_idle_of-place.new.self c.look.new.q c.look.new.q c.args.node (take n l) None) (inputs-after c.args.order.now (k + 1)) c.pass_idle_of-place.ensures.asked),
+    let now = c.pass_idle_of-idle.new.self in
+    let none = c.if-idle-gt0.false in
+    let h = asking-still g.Q.Ask.gives c.args.self.now c.loop-place.self now c.args.q.now c.loop-place.q c.args.node k c.pass_idle_of-idle.result c.args.order.now (omega (arith, none)) c.loop-place.invariant.1 c.pass_idle_of-idle.ensures.asked in
+    let test = c.loop-place-test.true in (
+      omega (arith, test),
+      asking-next g.Q.Ask.gives c.args.self.now now c.look.new.self c.args.q.now c.loop-place.q c.look.new.q c.args.node k (rank_at c.args.order.now k).input c.look.result (inputs_in c.args.order.now) (subst (λ n. k < n) (sym (length-map c.args.order.now (λ (r : Rank). r.input))) test) h (entry-input c.args.order.now k test) c.in_default.is c.look.ensures,
     )
 
 pub nodes::Nodes::ask_in_order-returns : goal.nodes::Nodes::ask_in_order-returns
