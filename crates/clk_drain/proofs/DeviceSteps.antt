@@ -1,19 +1,20 @@
 -- The devices of a plan are opened one after another, and the queues of each.
-use Rattle.std.proofs.Common.{◌≡◌, ℕ, zero, suc, ◌+◌, ◌<◌, ◌==◌, Bool, true, false, List, [], ◌∷◌, ◌++◌, length, map, take, get_or, slice_get, sym, ap, ◌∙◌, subst, arith, if◌then◌else◌}
+use Rattle.std.proofs.Common.{◌≡◌, ℕ, zero, suc, ◌+◌, ◌<◌, ◌==◌, Bool, true, false, List, [], ◌∷◌, ◌++◌, length, map, take, get_or, slice_get, sym, ap, ◌∙◌, subst, arith, if◌then◌else◌, Vec}
+use Rattle.std.specs.declared.alloc.Global.{Global}
 use Rattle.std.specs.List.{AllByRecursion}
-use Rattle.std.proofs.lemmas.List.{append-nil, map-append, length-map, length-take-le, take_more, get_or-map}
+use Rattle.std.proofs.lemmas.List.{append-nil, length-map, length-take-le, take_more, get_or-map}
 use Rattle.clk_packet.specs.declared.packet.Packet.{Packet}
 use Rattle.clk_ruled.specs.Queue.{SeatLists, TapLists}
-use Rattle.clk_sched.specs.Session.{Progress}
 use Rattle.clk_packet.specs.Lists.{stands_in, AreRising}
 use Rattle.clk_sched.specs.Tree.{Tree, root, leaves}
 use Rattle.clk_tree.specs.Plan.{Planned}
-use Rattle.clk_tree.specs.PlanTree.{IsTreeOf, device_count}
+use Rattle.clk_tree.specs.PlanTree.{IsTreeOf}
 use Rattle.clk_tree.specs.declared.plan.parts.QueueSpec.{QueueSpec}
 use Rattle.clk_tree.specs.PlanParts.{Queued, queued, queues_of, leads_to, HasCapacity}
 use Rattle.clk_drain.specs.declared.running.opening.LeafQueue.{LeafQueue}
+use Rattle.clk_drain.specs.declared.running.opening.OpenQueues.{OpenQueues}
 use Rattle.clk_drain.specs.Outcome.{SharedQueue}
-use Rattle.clk_drain.specs.inside.Handed.{EndLists}
+use Rattle.clk_drain.specs.inside.Threads.{EndLists}
 use Rattle.clk_drain.specs.Opening.{shared_at}
 use Rattle.clk_drain.specs.inside.Opening.{IsOpenAs, AreOpenAs, IsAdded}
 use Rattle.clk_drain.specs.Run.{queues_at}
@@ -45,8 +46,8 @@ queue-of specs plan leaf s are capacities senders lt is =
     }
 
 -- a queue more that was opened
-open-more : (traces : List (List Packet)) (shared : List SharedQueue) (queues : List LeafQueue) (taps : List TapLists) (seats : List (List SeatLists)) (q : SharedQueue) (at : LeafQueue) (t : TapLists) (s : List SeatLists)
-    → AreOpenAs traces shared queues taps seats → IsOpenAs traces q at t s → AreOpenAs traces (shared ++ q ∷ []) (queues ++ at ∷ []) (taps ++ t ∷ []) (seats ++ s ∷ [])
+open-more : (traces : List (List Packet)) (shared : List SharedQueue) (queues : List LeafQueue) (taps : List TapLists) (seats : List (Vec SeatLists Global)) (q : SharedQueue) (at : LeafQueue) (t : TapLists) (s : Vec SeatLists Global)
+    → AreOpenAs traces shared queues taps seats → IsOpenAs traces q at t s.items → AreOpenAs traces (shared ++ q ∷ []) (queues ++ at ∷ []) (taps ++ t ∷ []) (seats ++ s ∷ [])
 open-more traces [] [] [] [] q at t s h is = (is, tt)
 open-more traces (r ∷ shared) (a ∷ queues) (u ∷ taps) (v ∷ seats) q at t s h is = (h.0, open-more traces shared queues taps seats q at t s h.1 is)
 open-more traces shared queues taps seats q at t s h is = absurd h
@@ -66,10 +67,8 @@ at-more device leaf n (p ∷ queues) q e = by_test (p.device == device) (at-more
     by_test false rest = rest
 
 -- The queues of a device among the first so many of a plan's were opened.
-pub record AreOpening (traces : List (List Packet)) (device : ℕ) (plan : List Queued) (session : Progress) (visits : Bool) (queues : List LeafQueue) (ends : EndLists) (leaf : ℕ) : Type 0 where
-  pub opened : AreOpenAs traces (queues_at device 0 (take leaf plan)) queues ends.taps ends.seats
-  pub session_is : ends.session ≡ session
-  pub visits_are : ends.visits ≡ visits
+abbrev pub AreOpening : List (List Packet) → ℕ → List Queued → OpenQueues → ℕ → Type 0
+AreOpening traces device plan opened leaf = AreOpenAs traces (queues_at device 0 (take leaf plan)) opened.queues.items opened.taps.items opened.seats.items
 
 -- those of one queue more
 taken-more : (device leaf : ℕ) (plan : List Queued) (q : Queued) → leaf < length plan → q ≡ get_or plan leaf q → queues_at device 0 (take (leaf + 1) plan) ≡ queues_at device 0 (take leaf plan) ++ if_at device leaf q
@@ -77,63 +76,36 @@ taken-more device leaf plan q lt is =
     ap (queues_at device 0) (take_more plan leaf q lt ∙ (λ i. take leaf plan ++ sym is i ∷ []))
     ∙ at-more device 0 leaf (take leaf plan) q (let le = length-take-le leaf plan (omega arith) in omega (arith, le))
 
-pub opened-more : (traces : List (List Packet)) (device leaf : ℕ) (plan : List Queued) (q : Queued) (session : Progress) (visits : Bool) (queues more : List LeafQueue) (old new : EndLists) → leaf < length plan → q ≡ get_or plan leaf q → (q.device == device) ≡ true
-    → IsAdded traces (shared_at leaf q) queues more old new → AreOpening traces device plan session visits queues old leaf → AreOpening traces device plan session visits more new (leaf + 1)
-opened-more traces device leaf plan q session visits queues more old new lt is own added h = record {
-  opened =
-      let are : queues_at device 0 (take (leaf + 1) plan) ≡ queues_at device 0 (take leaf plan) ++ shared_at leaf q ∷ [] =
-      taken-more device leaf plan q lt is ∙ ap (λ (b : Bool). queues_at device 0 (take leaf plan) ++ (if b then shared_at leaf q ∷ [] else [])) own in
-      let all = open-more traces (queues_at device 0 (take leaf plan)) queues old.taps old.seats (shared_at leaf q) added.at added.tap added.seats h.opened added.opened in
-      let at : List LeafQueue → EndLists → Type 0 = λ qs e. AreOpenAs traces (queues_at device 0 (take (leaf + 1) plan)) qs e.taps e.seats in
-      subst (λ (p : List LeafQueue × EndLists). at p.0 p.1) (λ i. (sym added.queues_are i, sym added.ends_are i))
-      (subst (λ (shared : List SharedQueue). AreOpenAs traces shared (queues ++ added.at ∷ []) (old.taps ++ added.tap ∷ []) (old.seats ++ added.seats ∷ [])) (sym are) all);
-  session_is = ap (λ (e : EndLists). e.session) added.ends_are ∙ h.session_is;
-  visits_are = ap (λ (e : EndLists). e.visits) added.ends_are ∙ h.visits_are;
-}
+pub opened-more : (traces : List (List Packet)) (device leaf : ℕ) (plan : List Queued) (q : Queued) (old new : OpenQueues) → leaf < length plan → q ≡ get_or plan leaf q → (q.device == device) ≡ true
+    → IsAdded traces (shared_at leaf q) old new → AreOpening traces device plan old leaf → AreOpening traces device plan new (leaf + 1)
+opened-more traces device leaf plan q old new lt is own added h =
+    let are : queues_at device 0 (take (leaf + 1) plan) ≡ queues_at device 0 (take leaf plan) ++ shared_at leaf q ∷ [] =
+    taken-more device leaf plan q lt is ∙ ap (λ (b : Bool). queues_at device 0 (take leaf plan) ++ (if b then shared_at leaf q ∷ [] else [])) own in
+    subst (λ (x : List SharedQueue × (List LeafQueue × (List TapLists × List (Vec SeatLists Global)))). AreOpenAs traces x.0 x.1.0 x.1.1.0 x.1.1.1)
+    (λ i. (sym are i, (sym added.queues_are i, (sym added.taps_are i, sym added.seats_are i))))
+    (open-more traces (queues_at device 0 (take leaf plan)) old.queues.items old.taps.items old.seats.items (shared_at leaf q) added.at added.tap added.seats h added.opened)
 
 -- A queue of another device is passed over.
-pub opened-same : (traces : List (List Packet)) (device leaf : ℕ) (plan : List Queued) (q : Queued) (session : Progress) (visits : Bool) (queues : List LeafQueue) (ends : EndLists) → leaf < length plan → q ≡ get_or plan leaf q → (q.device == device) ≡ false
-    → AreOpening traces device plan session visits queues ends leaf → AreOpening traces device plan session visits queues ends (leaf + 1)
-opened-same traces device leaf plan q session visits queues ends lt is other h = record {
-  opened =
-      let are : queues_at device 0 (take (leaf + 1) plan) ≡ queues_at device 0 (take leaf plan) =
-      taken-more device leaf plan q lt is ∙ ap (λ (b : Bool). queues_at device 0 (take leaf plan) ++ (if b then shared_at leaf q ∷ [] else [])) other ∙ append-nil (queues_at device 0 (take leaf plan)) in
-      subst (λ (shared : List SharedQueue). AreOpenAs traces shared queues ends.taps ends.seats) (sym are) h.opened;
-  session_is = h.session_is;
-  visits_are = h.visits_are;
-}
+pub opened-same : (traces : List (List Packet)) (device leaf : ℕ) (plan : List Queued) (q : Queued) (opened : OpenQueues) → leaf < length plan → q ≡ get_or plan leaf q → (q.device == device) ≡ false
+    → AreOpening traces device plan opened leaf → AreOpening traces device plan opened (leaf + 1)
+opened-same traces device leaf plan q opened lt is other h =
+    let are : queues_at device 0 (take (leaf + 1) plan) ≡ queues_at device 0 (take leaf plan) =
+    taken-more device leaf plan q lt is ∙ ap (λ (b : Bool). queues_at device 0 (take leaf plan) ++ (if b then shared_at leaf q ∷ [] else [])) other ∙ append-nil (queues_at device 0 (take leaf plan)) in
+    subst (λ (shared : List SharedQueue). AreOpenAs traces shared opened.queues.items opened.taps.items opened.seats.items) (sym are) h
 
--- Some devices of a plan were opened, from a number on and below another.
-abbrev pub AreOpenBelow : List Planned → List (List Packet) → ℕ → ℕ → List (List LeafQueue) → List EndLists → Type 0
-AreOpenBelow plan traces device last [] [] = device ≡ last
-AreOpenBelow plan traces device last (queues ∷ more) (e ∷ ends) = IsOpenOf plan traces device queues e × AreOpenBelow plan traces (suc device) last more ends
-AreOpenBelow plan traces device last queues ends = ⊥
-
-open-below : (plan : List Planned) (traces : List (List Packet)) (device last : ℕ) (queues : List (List LeafQueue)) (ends : List EndLists) (more : List LeafQueue) (e : EndLists) → AreOpenBelow plan traces device last queues ends → IsOpenOf plan traces last more e
-    → AreOpenBelow plan traces device (last + 1) (queues ++ more ∷ []) (ends ++ e ∷ [])
-open-below plan traces device last [] [] more e h is = (subst (λ (n : ℕ). IsOpenOf plan traces n more e) (sym h) is, omega (arith, h))
-open-below plan traces device last (q ∷ queues) (f ∷ ends) more e h is = (h.0, open-below plan traces (suc device) last queues ends more e h.1 is)
-open-below plan traces device last queues ends more e h is = absurd h
-
--- The queues of each device are in a list of its own.
-pub opened-below : {X : Type 0} (items : X → List LeafQueue) (plan : List Planned) (traces : List (List Packet)) (last : ℕ) (queues given : List X) (ends handed : List EndLists) (more : X) (e : EndLists) → given ≡ queues ++ more ∷ [] → handed ≡ ends ++ e ∷ []
-    → AreOpenBelow plan traces 0 last (map items queues) ends → IsOpenOf plan traces last (items more) e → AreOpenBelow plan traces 0 (last + 1) (map items given) handed
-opened-below {X} items plan traces last queues given ends handed more e its their h is =
-    let joined : map items given ≡ map items queues ++ items more ∷ [] = ap (map items) its ∙ map-append items queues (more ∷ []) in
-    subst (λ (p : List (List LeafQueue) × List EndLists). AreOpenBelow plan traces 0 (last + 1) p.0 p.1) (λ i. (sym joined i, sym their i)) (open-below plan traces 0 last (map items queues) ends (items more) e h is)
-
-pub all-open : (plan : List Planned) (traces : List (List Packet)) (device : ℕ) (queues : List (List LeafQueue)) (ends : List EndLists) → AreOpenBelow plan traces device (device_count plan) queues ends → AreOpenFrom plan traces device queues ends
-all-open plan traces device [] [] h = h
-all-open plan traces device (q ∷ queues) (e ∷ ends) h = (h.0, all-open plan traces (suc device) queues ends h.1)
-all-open plan traces device queues ends h = absurd h
+-- One device more was opened.
+pub open-below : (plan : List Planned) (traces : List (List Packet)) (device end : ℕ) (queues : List (Vec LeafQueue Global)) (seats : List (Vec (Vec SeatLists Global) Global)) (ends : List EndLists) (q : Vec LeafQueue Global) (s : Vec (Vec SeatLists Global) Global) (e : EndLists)
+    → AreOpenFrom plan traces device end queues seats ends → IsOpenOf plan traces end q.items s.items e → AreOpenFrom plan traces device (end + 1) (queues ++ q ∷ []) (seats ++ s ∷ []) (ends ++ e ∷ [])
+open-below plan traces device end [] [] [] q s e h is = (subst (λ (n : ℕ). IsOpenOf plan traces n q.items s.items e) (sym h) is, omega (arith, h))
+open-below plan traces device end (r ∷ queues) (t ∷ seats) (f ∷ ends) q s e h is = (h.0, open-below plan traces (suc device) end queues seats ends q s e h.1 is)
+open-below plan traces device end queues seats ends q s e h is = absurd h
 
 -- A device was opened: its session is before its first pull, and its queues are those whose paths end at it.
-pub opened-device : (plan : List Planned) (traces : List (List Packet)) (device : ℕ) (queues : List LeafQueue) (ends : EndLists) (tree : Tree) (session : Progress) → ends.session ≡ session → session.tree ≡ tree → session.log ≡ [] → IsTreeOf plan device tree
-    → ((q : ℕ) → stands_in q (leaves (root tree)) ≡ leads_to device (slice_get (queues_of plan) q)) → AreOpenAs traces (queues_at device 0 (queues_of plan)) queues ends.taps ends.seats → IsOpenOf plan traces device queues ends
-opened-device plan traces device queues ends tree session its tree_is none made stand opened =
-    let its_tree : ends.session.tree ≡ tree = ap (λ (p : Progress). p.tree) its ∙ tree_is in record {
-      tree = subst (IsTreeOf plan device) (sym its_tree) made;
-      none = ap (λ (p : Progress). p.log) its ∙ none;
-      leaves_are = λ q. ap (λ (t : Tree). stands_in q (leaves (root t))) its_tree ∙ stand q ∙ sym (stands-at device q (queues_of plan));
-      opened = opened;
-    }
+pub opened-device : (plan : List Planned) (traces : List (List Packet)) (device : ℕ) (queues : List LeafQueue) (seats : List (Vec SeatLists Global)) (ends : EndLists) (tree : Tree) → ends.session.tree ≡ tree → ends.session.log ≡ [] → IsTreeOf plan device tree
+    → ((q : ℕ) → stands_in q (leaves (root tree)) ≡ leads_to device (slice_get (queues_of plan) q)) → AreOpenAs traces (queues_at device 0 (queues_of plan)) queues ends.taps seats → IsOpenOf plan traces device queues seats ends
+opened-device plan traces device queues seats ends tree its none made stand opened = record {
+  tree = subst (IsTreeOf plan device) (sym its) made;
+  none = none;
+  leaves_are = λ q. ap (λ (t : Tree). stands_in q (leaves (root t))) its ∙ stand q ∙ sym (stands-at device q (queues_of plan));
+  opened = opened;
+}

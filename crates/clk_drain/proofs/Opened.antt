@@ -1,34 +1,27 @@
 -- What is known of all devices of a plan once they were opened.
-use Rattle.std.proofs.Common.{ℕ, suc, List, [], ◌∷◌}
-use Rattle.std.specs.List.{flat_map, AllByRecursion}
+use Rattle.std.proofs.Common.{ℕ, suc, List, [], ◌∷◌, Vec}
+use Rattle.std.specs.declared.alloc.Global.{Global}
 use Rattle.clk_packet.specs.declared.packet.Packet.{Packet}
+use Rattle.clk_ruled.specs.Queue.{SeatLists}
 use Rattle.clk_tree.specs.Plan.{Planned}
 use Rattle.clk_tree.specs.PlanParts.{queues_of}
 use Rattle.clk_drain.specs.declared.running.opening.LeafQueue.{LeafQueue}
-use Rattle.clk_drain.specs.inside.Threads.{Terms, IsUnused, IsUnpulled}
-use Rattle.clk_drain.specs.inside.Handed.{EndLists, FitQueues, seats_given, feeds_from}
+use Rattle.clk_drain.specs.inside.Threads.{Terms, EndLists}
+use Rattle.clk_drain.specs.inside.Handed.{FitPlaces, AreAllUnused, IsUnpulledOver}
 use Rattle.clk_drain.specs.Run.{queues_at}
 use Rattle.clk_drain.specs.inside.Devices.{AreOpenFrom}
-use Rattle.clk_drain.proofs.Handing.{fits-open, unused-open, all-joined, unpulled-open}
+use Rattle.clk_drain.proofs.Handing.{unused-open, unpulled-open}
 use Rattle.clk_drain.proofs.QueuesAt.{rise-at}
 
--- What threads are given fits the queues.
-pub fit-opened : (plan : List Planned) (traces : List (List Packet)) (device : ℕ) (queues : List (List LeafQueue)) (ends : List EndLists) → AreOpenFrom plan traces device queues ends → FitQueues queues ends
-fit-opened plan traces device [] [] h = tt
-fit-opened plan traces device (qs ∷ queues) (e ∷ ends) h =
-    (fits-open traces (queues_at device 0 (queues_of plan)) qs e (rise-at device 0 (queues_of plan)) h.0.opened, fit-opened plan traces (suc device) queues ends h.1)
-fit-opened plan traces device queues ends h = absurd h
-
 -- No seat was used.
-pub unused-opened : (plan : List Planned) (terms : Terms) (device : ℕ) (queues : List (List LeafQueue)) (ends : List EndLists) → AreOpenFrom plan terms.traces device queues ends → AllByRecursion (IsUnused terms) (seats_given ends)
-unused-opened plan terms device [] [] h = tt
-unused-opened plan terms device (qs ∷ queues) (e ∷ ends) h =
-    all-joined (IsUnused terms) (flat_map (λ seats. seats) e.seats) (seats_given ends) (unused-open terms (queues_at device 0 (queues_of plan)) qs e.taps e.seats h.0.opened) (unused-opened plan terms (suc device) queues ends h.1)
-unused-opened plan terms device queues ends h = absurd h
+pub unused-opened : (plan : List Planned) (terms : Terms) (device end : ℕ) (queues : List (Vec LeafQueue Global)) (seats : List (Vec (Vec SeatLists Global) Global)) (ends : List EndLists) → AreOpenFrom plan terms.traces device end queues seats ends → FitPlaces (AreAllUnused terms) seats queues
+unused-opened plan terms device end [] [] [] h = tt
+unused-opened plan terms device end (q ∷ queues) (s ∷ seats) (e ∷ ends) h = (unused-open terms (queues_at device 0 (queues_of plan)) q.items e.taps s.items h.0.opened, unused-opened plan terms (suc device) end queues seats ends h.1)
+unused-opened plan terms device end queues seats ends h = absurd h
 
 -- No session was pulled.
-pub unpulled-opened : (plan : List Planned) (traces : List (List Packet)) (device : ℕ) (queues : List (List LeafQueue)) (ends : List EndLists) → AreOpenFrom plan traces device queues ends → AllByRecursion IsUnpulled (feeds_from queues ends)
-unpulled-opened plan traces device [] [] h = tt
-unpulled-opened plan traces device (qs ∷ queues) (e ∷ ends) h =
-    (unpulled-open traces (queues_at device 0 (queues_of plan)) qs e h.0.none (rise-at device 0 (queues_of plan)) h.0.leaves_are h.0.opened, unpulled-opened plan traces (suc device) queues ends h.1)
-unpulled-opened plan traces device queues ends h = absurd h
+pub unpulled-opened : (plan : List Planned) (traces : List (List Packet)) (device end : ℕ) (queues : List (Vec LeafQueue Global)) (seats : List (Vec (Vec SeatLists Global) Global)) (ends : List EndLists) → AreOpenFrom plan traces device end queues seats ends → FitPlaces IsUnpulledOver ends queues
+unpulled-opened plan traces device end [] [] [] h = tt
+unpulled-opened plan traces device end (q ∷ queues) (s ∷ seats) (e ∷ ends) h =
+    (unpulled-open traces (queues_at device 0 (queues_of plan)) q s.items e h.0.none (rise-at device 0 (queues_of plan)) h.0.leaves_are h.0.opened, unpulled-opened plan traces (suc device) end queues seats ends h.1)
+unpulled-opened plan traces device end queues seats ends h = absurd h

@@ -1,16 +1,18 @@
 -- The devices of a plan by number: what was opened for each, what each came to, and that no sender sends to two.
-use Rattle.std.proofs.Common.{◌≡◌, ℕ, zero, suc, ◌+◌, ◌==◌, true, List, [], ◌∷◌, ◌++◌, length, map, filter, refl, sym, ◌∙◌, subst, add-one}
+use Rattle.std.proofs.Common.{◌≡◌, ℕ, zero, suc, ◌+◌, ◌==◌, true, List, [], ◌∷◌, ◌++◌, length, map, filter, refl, sym, ◌∙◌, subst, add-one, Vec}
+use Rattle.std.specs.declared.alloc.Global.{Global}
 use Rattle.std.specs.List.{flat_map, range_with_len, AllByRecursion}
 use Rattle.clk_packet.specs.declared.packet.Packet.{Packet}
 use Rattle.clk_packet.specs.Lists.{are_distinct}
+use Rattle.clk_ruled.specs.Queue.{SeatLists}
 use Rattle.clk_tree.specs.Plan.{Planned}
-use Rattle.clk_tree.specs.PlanTree.{IsTreeOf}
+use Rattle.clk_tree.specs.PlanTree.{IsTreeOf, device_count}
 use Rattle.clk_tree.specs.PlanParts.{Queued, queues_of}
 use Rattle.clk_drain.specs.declared.running.opening.LeafQueue.{LeafQueue}
 use Rattle.clk_drain.specs.Outcome.{SharedQueue, Device}
 use Rattle.clk_drain.specs.Moments.{HasMoments}
-use Rattle.clk_drain.specs.inside.Threads.{Terms, Feed}
-use Rattle.clk_drain.specs.inside.Handed.{EndLists, AreClosedDevices}
+use Rattle.clk_drain.specs.inside.Threads.{Terms, EndLists, Feed}
+use Rattle.clk_drain.specs.inside.Handed.{AreClosedDevices}
 use Rattle.clk_drain.specs.Run.{queues_at, AreDevicesFrom}
 use Rattle.clk_drain.specs.inside.Devices.{AreOpenFrom}
 use Rattle.clk_drain.proofs.Joining.{AreAllOpenAs, AreJoinedFeeds, senders_over}
@@ -31,31 +33,31 @@ pub apart-by-device : (queues : List Queued) (first count : ℕ) → are_distinc
 apart-by-device queues first count apart = subst (λ ns. are_distinct ns ≡ true) (sym (senders-by-device queues first count)) (apart-by-kind (λ (q : Queued). q.senders) (λ (q : Queued). q.device) queues first count apart)
 
 -- Each device's queues were opened.
-pub opened-by-device : (plan : List Planned) (traces : List (List Packet)) (device : ℕ) (queues : List (List LeafQueue)) (ends : List EndLists) → AreOpenFrom plan traces device queues ends
-    → AreAllOpenAs traces (queues_by_device (queues_of plan) device (length ends)) queues ends
-opened-by-device plan traces device [] [] h = tt
-opened-by-device plan traces device (qs ∷ queues) (e ∷ ends) h =
-    (h.0.opened, subst (λ (n : ℕ). AreAllOpenAs traces (queues_by_device (queues_of plan) n (length ends)) queues ends) (sym (add-one device)) (opened-by-device plan traces (suc device) queues ends h.1))
-opened-by-device plan traces device queues ends h = absurd h
+pub opened-by-device : (plan : List Planned) (traces : List (List Packet)) (device end : ℕ) (queues : List (Vec LeafQueue Global)) (seats : List (Vec (Vec SeatLists Global) Global)) (ends : List EndLists) → AreOpenFrom plan traces device end queues seats ends
+    → AreAllOpenAs traces (queues_by_device (queues_of plan) device (length ends)) queues seats ends
+opened-by-device plan traces device end [] [] [] h = tt
+opened-by-device plan traces device end (q ∷ queues) (s ∷ seats) (e ∷ ends) h =
+    (h.0.opened, subst (λ (n : ℕ). AreAllOpenAs traces (queues_by_device (queues_of plan) n (length ends)) queues seats ends) (sym (add-one device)) (opened-by-device plan traces (suc device) end queues seats ends h.1))
+opened-by-device plan traces device end queues seats ends h = absurd h
 
 -- What each device came to is that of the plan's device.
-pub devices-from : (plan : List Planned) (terms : Terms) (device : ℕ) (queues : List (List LeafQueue)) (ends : List EndLists) (feeds : List Feed) (devices : List Device) → AreOpenFrom plan terms.traces device queues ends
+pub devices-from : (plan : List Planned) (terms : Terms) (device : ℕ) (queues : List (Vec LeafQueue Global)) (seats : List (Vec (Vec SeatLists Global) Global)) (ends : List EndLists) (feeds : List Feed) (devices : List Device) → AreOpenFrom plan terms.traces device (device_count plan) queues seats ends
     → AreJoinedFeeds terms (queues_by_device (queues_of plan) device (length ends)) ends feeds → AreClosedDevices terms feeds devices → AreDevicesFrom plan device devices
-devices-from plan terms device [] [] [] [] h joined closed = h
-devices-from plan terms device [] [] [] (d ∷ devices) h joined closed = absurd closed
-devices-from plan terms device [] [] (f ∷ feeds) devices h joined closed = absurd joined
-devices-from plan terms device (qs ∷ queues) (e ∷ ends) [] devices h joined closed = absurd joined
-devices-from plan terms device (qs ∷ queues) (e ∷ ends) (f ∷ feeds) [] h joined closed = absurd closed
-devices-from plan terms device (qs ∷ queues) (e ∷ ends) (f ∷ feeds) (d ∷ devices) h joined closed =
+devices-from plan terms device [] [] [] [] [] h joined closed = h
+devices-from plan terms device [] [] [] [] (d ∷ devices) h joined closed = absurd closed
+devices-from plan terms device [] [] [] (f ∷ feeds) devices h joined closed = absurd joined
+devices-from plan terms device (q ∷ queues) (s ∷ seats) (e ∷ ends) [] devices h joined closed = absurd joined
+devices-from plan terms device (q ∷ queues) (s ∷ seats) (e ∷ ends) (f ∷ feeds) [] h joined closed = absurd closed
+devices-from plan terms device (q ∷ queues) (s ∷ seats) (e ∷ ends) (f ∷ feeds) (d ∷ devices) h joined closed =
     let later : AreJoinedFeeds terms (queues_by_device (queues_of plan) (suc device) (length ends)) ends feeds =
     subst (λ (n : ℕ). AreJoinedFeeds terms (queues_by_device (queues_of plan) n (length ends)) ends feeds) (add-one device) joined.1 in (
       record {
         tree = subst (IsTreeOf plan device) (sym (closed.0.tree ∙ joined.0.tree_is)) h.0.tree;
         queues = closed.0.queues ∙ joined.0.queues_are;
       },
-      devices-from plan terms (suc device) queues ends feeds devices h.1 later closed.1,
+      devices-from plan terms (suc device) queues seats ends feeds devices h.1 later closed.1,
     )
-devices-from plan terms device queues ends feeds devices h joined closed = absurd h
+devices-from plan terms device queues seats ends feeds devices h joined closed = absurd h
 
 -- Each device was pulled when it was to be pulled.
 pub moments-closed : (terms : Terms) (feeds : List Feed) (devices : List Device) → AreClosedDevices terms feeds devices → AllByRecursion (λ (d : Device). HasMoments terms.step terms.limit d.tree d.log) devices

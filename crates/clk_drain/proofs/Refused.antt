@@ -1,10 +1,12 @@
 -- Why a run fails.
-use Rattle.std.proofs.Common.{◌≡◌, ℕ, ◌+◌, List, [], ◌∷◌, ◌++◌, length, map, suc, refl, sym, ap, ◌∙◌, inl, inr, subst, arith}
+use Rattle.std.proofs.Common.{◌≡◌, ℕ, ◌+◌, List, [], ◌∷◌, ◌++◌, length, map, suc, refl, sym, ap, ◌∙◌, inl, inr, subst, arith, Vec}
+use Rattle.std.specs.declared.alloc.Global.{Global}
 use Rattle.std.specs.List.{flat_map, range_with_len, AllByRecursion}
 use Rattle.std.proofs.lemmas.List.{map-append}
 use Rattle.clk_packet.specs.declared.packet.Packet.{Packet}
 use Rattle.clk_packet.specs.declared.fault.Fault.{Fault}
 use Rattle.clk_packet.specs.Trace.{sent_by}
+use Rattle.clk_ruled.specs.Queue.{SeatLists}
 use Rattle.clk_tree.specs.Plan.{Planned}
 use Rattle.clk_tree.specs.PlanTree.{device_count}
 use Rattle.clk_tree.specs.PlanParts.{queues_of}
@@ -13,8 +15,8 @@ use Rattle.clk_drain.specs.Line.{LineLists, seats_of, seats_in}
 use Rattle.clk_drain.specs.Outcome.{SharedQueue}
 use Rattle.clk_drain.specs.Closing.{HasSent, queue_of_line, seated}
 use Rattle.clk_drain.specs.Lost.{SeatedQueue, NamesFirstLost}
-use Rattle.clk_drain.specs.inside.Threads.{Terms, Feed}
-use Rattle.clk_drain.specs.inside.Handed.{EndLists, seated_in, IsFaultOfClosing}
+use Rattle.clk_drain.specs.inside.Threads.{Terms, EndLists, Feed}
+use Rattle.clk_drain.specs.inside.Handed.{seated_in, IsFaultOfClosing}
 use Rattle.clk_drain.specs.inside.Devices.{AreOpenFrom}
 use Rattle.clk_gate.specs.Known.{senders_in, AreKnown}
 use Rattle.clk_drain.specs.Run.{queues_at, queues_in_order, HasOffered, IsFaultOfRun}
@@ -44,15 +46,14 @@ each-of : {X : Type 0} (f : X → List SharedQueue) (xs : List X) → all_in (ma
 each-of f [] = refl
 each-of f (x ∷ xs) = ap (λ rest. f x ++ rest) (each-of f xs)
 
-ends-count : (plan : List Planned) (traces : List (List Packet)) (device : ℕ) (queues : List (List LeafQueue)) (ends : List EndLists) → AreOpenFrom plan traces device queues ends → device + length ends ≡ device_count plan
-ends-count plan traces device [] [] h = omega (arith, h)
-ends-count plan traces device (qs ∷ queues) (e ∷ ends) h = let rest = ends-count plan traces (suc device) queues ends h.1 in omega (arith, rest)
-ends-count plan traces device queues ends h = absurd h
+ends-count : (plan : List Planned) (traces : List (List Packet)) (device end : ℕ) (queues : List (Vec LeafQueue Global)) (seats : List (Vec (Vec SeatLists Global) Global)) (ends : List EndLists) → AreOpenFrom plan traces device end queues seats ends → device + length ends ≡ end
+ends-count plan traces device end [] [] [] h = omega (arith, h)
+ends-count plan traces device end (q ∷ queues) (s ∷ seats) (e ∷ ends) h = let rest = ends-count plan traces (suc device) end queues seats ends h.1 in omega (arith, rest)
+ends-count plan traces device end queues seats ends h = absurd h
 
-plan-queues : (plan : List Planned) (traces : List (List Packet)) (queues : List (List LeafQueue)) (ends : List EndLists) → AreOpenFrom plan traces 0 queues ends → all_in (queues_by_device (queues_of plan) 0 (length ends)) ≡ queues_in_order plan
-plan-queues plan traces queues ends opened =
-    let count : length ends ≡ device_count plan = (let all = ends-count plan traces 0 queues ends opened in omega (arith, all)) in
-    each-of (λ device. queues_at device 0 (queues_of plan)) (range_with_len 0 (length ends)) ∙ ap (λ n. flat_map (λ device. queues_at device 0 (queues_of plan)) (range_with_len 0 n)) count
+plan-queues : (plan : List Planned) (traces : List (List Packet)) (queues : List (Vec LeafQueue Global)) (seats : List (Vec (Vec SeatLists Global) Global)) (ends : List EndLists) → AreOpenFrom plan traces 0 (device_count plan) queues seats ends → all_in (queues_by_device (queues_of plan) 0 (length ends)) ≡ queues_in_order plan
+plan-queues plan traces queues seats ends opened =
+    each-of (λ device. queues_at device 0 (queues_of plan)) (range_with_len 0 (length ends)) ∙ ap (λ n. flat_map (λ device. queues_at device 0 (queues_of plan)) (range_with_len 0 n)) (let all = ends-count plan traces 0 (device_count plan) queues seats ends opened in omega (arith, all))
 
 -- The seats of each line offered all that is sent.
 lines-offered : (traces : List (List Packet)) (lines : List LineLists) → AllByRecursion (HasSent (sent_by traces)) (seats_in lines) → AllByRecursion (HasOffered traces) (map seated lines)
@@ -68,16 +69,16 @@ feeds-offered terms (shared ∷ all) (e ∷ ends) (f ∷ feeds) h =
 feeds-offered terms all ends feeds h = absurd h
 
 -- A device that isn't closed.
-pub unclosed : (plan : List Planned) (terms : Terms) (queues : List (List LeafQueue)) (ends : List EndLists) (feeds : List Feed) (fault : Fault) → AreKnown (senders_in plan) terms.traces → AreOpenFrom plan terms.traces 0 queues ends
+pub unclosed : (plan : List Planned) (terms : Terms) (queues : List (Vec LeafQueue Global)) (seats : List (Vec (Vec SeatLists Global) Global)) (ends : List EndLists) (feeds : List Feed) (fault : Fault) → AreKnown (senders_in plan) terms.traces → AreOpenFrom plan terms.traces 0 (device_count plan) queues seats ends
     → AreJoinedFeeds terms (queues_by_device (queues_of plan) 0 (length ends)) ends feeds → IsFaultOfClosing feeds fault → IsFaultOfRun plan terms.traces fault
-unclosed plan terms queues ends feeds fault known opened joined (inl memory) = subst (IsFaultOfRun plan terms.traces) (sym memory) tt
-unclosed plan terms queues ends feeds fault known opened joined (inr names) =
+unclosed plan terms queues seats ends feeds fault known opened joined (inl memory) = subst (IsFaultOfRun plan terms.traces) (sym memory) tt
+unclosed plan terms queues seats ends feeds fault known opened joined (inr names) =
     let shared = queues_by_device (queues_of plan) 0 (length ends) in
     subst (IsFaultOfRun plan terms.traces) (sym names.fault_is) (
       known,
       record {
         queues = seated_in feeds;
-        are = feeds-queues terms shared ends feeds joined ∙ plan-queues plan terms.traces queues ends opened;
+        are = feeds-queues terms shared ends feeds joined ∙ plan-queues plan terms.traces queues seats ends opened;
         offered = feeds-offered terms shared ends feeds joined;
         names = subst (NamesFirstLost (seated_in feeds)) names.fault_is names;
       },

@@ -11,14 +11,15 @@ use Rattle.clk_sched.specs.declared.visit.Visit.{Visit}
 use Rattle.clk_sched.specs.Limits.{most_left}
 use Rattle.clk_tree.specs.Plan.{Planned}
 use Rattle.clk_tree.specs.declared.plan.parts.SenderSpec.{SenderSpec}
+use Rattle.clk_tree.specs.PlanTree.{device_count}
 use Rattle.clk_tree.specs.PlanParts.{queues_of, senders_of, number_of}
 use Rattle.clk_packet.specs.Lists.{AreRising}
 use Rattle.clk_sched.specs.Packed.{logged}
 use Rattle.clk_drain.specs.declared.outcome.Outcome.{Outcome}
 use Rattle.clk_sched.specs.declared.session.packed.PackedLog.{PackedLog}
 use Rattle.clk_drain.specs.declared.running.opening.LeafQueue.{LeafQueue}
-use Rattle.clk_drain.specs.inside.Threads.{Terms, Feed, HaveSentAll}
-use Rattle.clk_drain.specs.inside.Handed.{EndLists, PulledLists, HavePulled, AreAllJoinable, IsReadyToClose, AreApartDevices, AreKeptLogs, AreSettledTogether, IsFaultOfClosing, seats_given, feeds_from, joined_feeds}
+use Rattle.clk_drain.specs.inside.Threads.{Terms, InPairs, EndLists, Feed}
+use Rattle.clk_drain.specs.inside.Handed.{HasDeviceSent, HavePulled, AreAllJoinable, IsReadyToClose, AreApartDevices, AreKeptLogs, AreSettledTogether, IsFaultOfClosing, joined_feeds}
 use Rattle.clk_gate.specs.Known.{senders_in, AreKnown}
 use Rattle.clk_drain.specs.Run.{IsRunWith, IsRunOutcome, IsKeptRun, IsFaultOfRun}
 use Rattle.clk_drain.specs.inside.Devices.{AreOpenFrom, KeepVisits}
@@ -29,46 +30,45 @@ use Rattle.clk_drain.proofs.Refused.{unclosed}
 use Rattle.clk_drain.proofs.PlanDevices.{queues_by_device, apart-by-device, opened-by-device, devices-from, moments-closed}
 
 -- what was opened of a plan, and what its threads gave back
-pub record HasEnded (visits : Bool) (plan : List Planned) (terms : Terms) (queues : List (List LeafQueue)) (ends : List EndLists) (closed : List ClosedLists) (pulled : List PulledLists) : Type 0 where
-  pub opened : AreOpenFrom plan terms.traces 0 queues ends
+pub record HasEnded (visits : Bool) (plan : List Planned) (terms : Terms) (queues : List (Vec LeafQueue Global)) (seats : List (Vec (Vec SeatLists Global) Global)) (ends : List EndLists) (closed : List (Vec (Vec ClosedLists Global) Global)) (pulled : List EndLists) : Type 0 where
+  pub opened : AreOpenFrom plan terms.traces 0 (device_count plan) queues seats ends
   pub kept : AllByRecursion (KeepVisits visits) ends
   pub rising : AreRising (map number_of (senders_of plan))
   pub few : packets_in terms.traces ≤ most_left
-  pub sent : HaveSentAll terms (seats_given ends) closed
-  pub pulled_over : HavePulled terms (feeds_from queues ends) pulled
+  pub sent : InPairs (HasDeviceSent terms) seats closed
+  pub pulled_over : HavePulled terms ends pulled queues
 
--- So it is where `course`, `producers` and `consumers` are what was handed out.
-pub has-ended : (visits : Bool) (plan : List Planned) (terms course : Terms) (senders : List SenderSpec) (queues : List (List LeafQueue)) (ends : List EndLists) (producers : List SeatLists) (consumers : List Feed) (closed : List ClosedLists) (pulled : List PulledLists)
-    → course ≡ terms → senders ≡ senders_of plan → AreRising (map number_of senders) → packets_in terms.traces ≤ most_left → AreOpenFrom plan terms.traces 0 queues ends → AllByRecursion (KeepVisits visits) ends → producers ≡ seats_given ends → consumers ≡ feeds_from queues ends
-    → HaveSentAll course producers closed → HavePulled course consumers pulled → HasEnded visits plan terms queues ends closed pulled
-has-ended visits plan terms course senders queues ends producers consumers closed pulled same own rising few opened kept given fed sent over = record {
+-- So it is where `course` and `lent` are the terms and the queues that the threads share.
+pub has-ended : (visits : Bool) (plan : List Planned) (terms course : Terms) (senders : List SenderSpec) (queues lent : List (Vec LeafQueue Global)) (seats : List (Vec (Vec SeatLists Global) Global)) (ends : List EndLists) (closed : List (Vec (Vec ClosedLists Global) Global)) (pulled : List EndLists)
+    → course ≡ terms → lent ≡ queues → senders ≡ senders_of plan → AreRising (map number_of senders) → packets_in terms.traces ≤ most_left → AreOpenFrom plan terms.traces 0 (device_count plan) queues seats ends → AllByRecursion (KeepVisits visits) ends
+    → InPairs (HasDeviceSent course) seats closed → HavePulled course ends pulled lent → HasEnded visits plan terms queues seats ends closed pulled
+has-ended visits plan terms course senders queues lent seats ends closed pulled same are own rising few opened kept sent over = record {
   opened = opened;
   kept = kept;
   rising = subst (λ (ss : List SenderSpec). AreRising (map number_of ss)) own rising;
   few = few;
-  sent = subst (λ (x : Terms × List SeatLists). HaveSentAll x.0 x.1 closed) (λ i. (same i, given i)) sent;
-  pulled_over = subst (λ (x : Terms × List Feed). HavePulled x.0 x.1 pulled) (λ i. (same i, fed i)) over;
+  sent = subst (λ (t : Terms). InPairs (HasDeviceSent t) seats closed) same sent;
+  pulled_over = subst (λ (x : Terms × List (Vec LeafQueue Global)). HavePulled x.0 ends pulled x.1) (λ i. (same i, are i)) over;
 }
 
 abbrev shared_of : List Planned → List EndLists → List (List SharedQueue)
 shared_of plan ends = queues_by_device (queues_of plan) 0 (length ends)
 
-pub record IsJoinedRun (plan : List Planned) (terms : Terms) (queues : List (List LeafQueue)) (ends : List EndLists) (closed : List ClosedLists) (pulled : List PulledLists) : Type 0 where
+pub record IsJoinedRun (plan : List Planned) (terms : Terms) (queues : List (Vec LeafQueue Global)) (seats : List (Vec (Vec SeatLists Global) Global)) (ends : List EndLists) (closed : List (Vec (Vec ClosedLists Global) Global)) (pulled : List EndLists) : Type 0 where
   pub joinable : AreAllJoinable queues pulled closed
   pub joined : AreJoinedFeeds terms (shared_of plan ends) ends (joined_feeds queues pulled closed)
   pub ready : AllByRecursion (IsReadyToClose terms) (joined_feeds queues pulled closed)
   pub apart : AreApartDevices (joined_feeds queues pulled closed)
 
-pub run-joined : (visits : Bool) (plan : List Planned) (terms : Terms) (queues : List (List LeafQueue)) (ends : List EndLists) (closed : List ClosedLists) (pulled : List PulledLists) → HasEnded visits plan terms queues ends closed pulled
-    → IsJoinedRun plan terms queues ends closed pulled
-run-joined visits plan terms queues ends closed pulled h =
-    let both = all-joined terms (shared_of plan ends) queues ends h.pulled_over.feeds closed (opened-by-device plan terms.traces 0 queues ends h.opened) h.sent h.pulled_over.are in
-    let apart = apart-by-device (queues_of plan) 0 (length ends) (queues-apart plan h.rising) in
-    let pair = subst (λ p. AreAllJoinable queues p closed × AreJoinedFeeds terms (shared_of plan ends) ends (joined_feeds queues p closed)) (sym h.pulled_over.taps) both in record {
-      joinable = pair.0;
-      joined = pair.1;
-      ready = all-ready terms (shared_of plan ends) ends (joined_feeds queues pulled closed) apart h.few pair.1;
-      apart = all-apart terms (shared_of plan ends) ends (joined_feeds queues pulled closed) apart pair.1;
+pub run-joined : (visits : Bool) (plan : List Planned) (terms : Terms) (queues : List (Vec LeafQueue Global)) (seats : List (Vec (Vec SeatLists Global) Global)) (ends : List EndLists) (closed : List (Vec (Vec ClosedLists Global) Global)) (pulled : List EndLists) → HasEnded visits plan terms queues seats ends closed pulled
+    → IsJoinedRun plan terms queues seats ends closed pulled
+run-joined visits plan terms queues seats ends closed pulled h =
+    let both = all-joined terms (shared_of plan ends) queues seats ends pulled closed (opened-by-device plan terms.traces 0 (device_count plan) queues seats ends h.opened) h.sent h.pulled_over in
+    let apart = apart-by-device (queues_of plan) 0 (length ends) (queues-apart plan h.rising) in record {
+      joinable = both.0;
+      joined = both.1;
+      ready = all-ready terms (shared_of plan ends) ends (joined_feeds queues pulled closed) apart h.few both.1;
+      apart = all-apart terms (shared_of plan ends) ends (joined_feeds queues pulled closed) apart both.1;
     }
 
 -- Where the visits of all devices are kept, the logs that the outcome has are those of the devices.
@@ -80,17 +80,17 @@ logs-kept (f ∷ feeds) [] devices kept h = absurd h
 logs-kept (f ∷ feeds) (log ∷ logs) [] kept h = absurd h
 logs-kept (f ∷ feeds) (log ∷ logs) (d ∷ devices) kept h = λ i. h.0 kept.0 i ∷ logs-kept feeds logs devices kept.1 h.1 i
 
-pub run-settled : (visits : Bool) (plan : List Planned) (terms : Terms) (queues : List (List LeafQueue)) (ends : List EndLists) (closed : List ClosedLists) (pulled : List PulledLists) (outcome : Outcome PackedLog) → HasEnded visits plan terms queues ends closed pulled
+pub run-settled : (visits : Bool) (plan : List Planned) (terms : Terms) (queues : List (Vec LeafQueue Global)) (seats : List (Vec (Vec SeatLists Global) Global)) (ends : List EndLists) (closed : List (Vec (Vec ClosedLists Global) Global)) (pulled : List EndLists) (outcome : Outcome PackedLog) → HasEnded visits plan terms queues seats ends closed pulled
     → AreSettledTogether terms (joined_feeds queues pulled closed) outcome → IsKeptRun visits plan terms.traces terms.step terms.limit outcome
-run-settled visits plan terms queues ends closed pulled outcome h settled =
+run-settled visits plan terms queues seats ends closed pulled outcome h settled =
     let feeds = joined_feeds queues pulled closed in
-    let joined = run-joined visits plan terms queues ends closed pulled h in
+    let joined = run-joined visits plan terms queues seats ends closed pulled h in
     let kept : AllByRecursion (λ (f : Feed). f.visits ≡ visits) feeds = joined-kept visits terms (shared_of plan ends) ends feeds h.kept joined.joined in record {
       logs = map (λ (d : Device). d.log) settled.devices;
       kept = λ keeps. logs-kept feeds (map logged outcome.logs.items) settled.devices (subst (λ (v : Bool). AllByRecursion (λ (f : Feed). f.visits ≡ v) feeds) keeps kept) settled.logs;
       is = record {
         devices = settled.devices;
-        each = devices-from plan terms 0 queues ends feeds settled.devices h.opened joined.joined settled.closed;
+        each = devices-from plan terms 0 queues seats ends feeds settled.devices h.opened joined.joined settled.closed;
         logs_are = refl;
         emitted = settled.emitted;
         settled = settled.settled;
@@ -99,17 +99,17 @@ run-settled visits plan terms queues ends closed pulled outcome h settled =
     }
 
 -- What closing the devices answers is what the run answers.
-pub answered-ok : (visits : Bool) (plan : List Planned) (terms course : Terms) (queues : List (List LeafQueue)) (ends : List EndLists) (closed : List ClosedLists) (pulled : List PulledLists) (feeds : List Feed) (result : Result (Outcome PackedLog) Fault) → course ≡ terms
-    → feeds ≡ joined_feeds queues pulled closed → HasEnded visits plan terms queues ends closed pulled → IfOk result (AreSettledTogether course feeds) → IfOk result (IsKeptRun visits plan terms.traces terms.step terms.limit)
-answered-ok visits plan terms course queues ends closed pulled feeds (Ok outcome) same are h settled =
-    run-settled visits plan terms queues ends closed pulled outcome h (subst (λ (x : Terms × List Feed). AreSettledTogether x.0 x.1 outcome) (λ i. (same i, are i)) settled)
-answered-ok visits plan terms course queues ends closed pulled feeds (Err fault) same are h settled = tt
+pub answered-ok : (visits : Bool) (plan : List Planned) (terms course : Terms) (queues : List (Vec LeafQueue Global)) (seats : List (Vec (Vec SeatLists Global) Global)) (ends : List EndLists) (closed : List (Vec (Vec ClosedLists Global) Global)) (pulled : List EndLists) (feeds : List Feed) (result : Result (Outcome PackedLog) Fault) → course ≡ terms
+    → feeds ≡ joined_feeds queues pulled closed → HasEnded visits plan terms queues seats ends closed pulled → IfOk result (AreSettledTogether course feeds) → IfOk result (IsKeptRun visits plan terms.traces terms.step terms.limit)
+answered-ok visits plan terms course queues seats ends closed pulled feeds (Ok outcome) same are h settled =
+    run-settled visits plan terms queues seats ends closed pulled outcome h (subst (λ (x : Terms × List Feed). AreSettledTogether x.0 x.1 outcome) (λ i. (same i, are i)) settled)
+answered-ok visits plan terms course queues seats ends closed pulled feeds (Err fault) same are h settled = tt
 
-pub answered-err : (visits : Bool) (plan : List Planned) (terms : Terms) (queues : List (List LeafQueue)) (ends : List EndLists) (closed : List ClosedLists) (pulled : List PulledLists) (feeds : List Feed) (result : Result (Outcome PackedLog) Fault) → feeds ≡ joined_feeds queues pulled closed
-    → HasEnded visits plan terms queues ends closed pulled → AreKnown (senders_in plan) terms.traces → IfErr result (IsFaultOfClosing feeds) → IfErr result (IsFaultOfRun plan terms.traces)
-answered-err visits plan terms queues ends closed pulled feeds (Ok outcome) are h known fault = tt
-answered-err visits plan terms queues ends closed pulled feeds (Err fault) are h known refused =
-    unclosed plan terms queues ends (joined_feeds queues pulled closed) fault known h.opened (run-joined visits plan terms queues ends closed pulled h).joined (subst (λ (fs : List Feed). IsFaultOfClosing fs fault) are refused)
+pub answered-err : (visits : Bool) (plan : List Planned) (terms : Terms) (queues : List (Vec LeafQueue Global)) (seats : List (Vec (Vec SeatLists Global) Global)) (ends : List EndLists) (closed : List (Vec (Vec ClosedLists Global) Global)) (pulled : List EndLists) (feeds : List Feed) (result : Result (Outcome PackedLog) Fault) → feeds ≡ joined_feeds queues pulled closed
+    → HasEnded visits plan terms queues seats ends closed pulled → AreKnown (senders_in plan) terms.traces → IfErr result (IsFaultOfClosing feeds) → IfErr result (IsFaultOfRun plan terms.traces)
+answered-err visits plan terms queues seats ends closed pulled feeds (Ok outcome) are h known fault = tt
+answered-err visits plan terms queues seats ends closed pulled feeds (Err fault) are h known refused =
+    unclosed plan terms queues seats ends (joined_feeds queues pulled closed) fault known h.opened (run-joined visits plan terms queues seats ends closed pulled h).joined (subst (λ (fs : List Feed). IsFaultOfClosing fs fault) are refused)
 
 -- What a run came to depends on these lists alone.
 run-same : (plan : List Planned) (traces : List (List Packet)) (step limit : ℕ) (logs other_logs : List (List Visit)) (emitted other_emitted : List (List Packet)) (tallies other_tallies : List Tally) → logs ≡ other_logs → emitted ≡ other_emitted → tallies ≡ other_tallies

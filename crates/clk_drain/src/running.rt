@@ -5,7 +5,6 @@ mod closing;
 mod consumer;
 mod course;
 mod devices;
-mod handing;
 mod joining;
 mod open_lines;
 mod opening;
@@ -22,7 +21,6 @@ use crate::outcome::Outcome;
 use crate::running::closing::close_devices;
 use crate::running::course::Course;
 use crate::running::devices::{OpenPlan, open_devices};
-use crate::running::handing::hand_out;
 use crate::running::joining::join_devices;
 use crate::running::threads::run_threads;
 use clk_gate::{Gate, check_senders};
@@ -133,11 +131,14 @@ fn run_keeping<R: Threads + Wait, W: Wait + Sync, G: Gate + Sync>(
     check_senders(plan.senders(), traces)?;
     // Counting packets brings into scope how many are sent in all.
     let _ = traces.count(0);
-    let OpenPlan { queues, ends } = open_devices(alloc, plan, traces, keeps)?;
-    let handed = hand_out(alloc, wait, &queues, ends)?;
-    let course = Course::new(wait, traces, gate, step, limit, handed.producers.len());
-    let ended = run_threads(rt, alloc, &course, handed)?;
-    let closings = join_devices(alloc, queues, ended.pulled, ended.closed)?;
+    let OpenPlan {
+        queues,
+        seats,
+        ends,
+    } = open_devices(alloc, plan, traces, keeps)?;
+    let course = Course::new(wait, traces, gate, step, limit, plan.senders().len());
+    let sent = run_threads(rt, alloc, &course, &queues, seats, ends)?;
+    let closings = join_devices(alloc, queues, sent.ends, sent.devices)?;
     close_devices(alloc, &course, closings)
 }
 

@@ -1,40 +1,27 @@
--- How the parts of opened devices are handed out to the threads of a run, and joined again.
-use Rattle.std.specs.Prelude.{◌≡◌, ◌⊎◌, ℕ, ◌*◌, ◌+◌, ◌≤◌, Bool, true, List, [], ◌∷◌, length, map, take, drop, ⊤}
+-- How the parts of opened devices go to the threads of a run and are joined again. Seats stay by device and queue.
+use Rattle.std.specs.Prelude.{◌≡◌, ◌⊎◌, ℕ, ◌*◌, ◌+◌, ◌<◌, ◌≤◌, true, List, [], ◌∷◌, length, map, get_or, ⊤, Vec}
+use Rattle.std.specs.declared.alloc.Global.{Global}
 use Rattle.std.specs.List.{flat_map, AllByRecursion}
 use Rattle.clk_packet.specs.declared.fault.Fault.{Fault}
 use Rattle.clk_packet.specs.declared.fault.Fault.TheVariants.{Memory}
 use Rattle.clk_packet.specs.Trace.{sent_by}
-use Rattle.clk_packet.specs.Lists.{are_distinct, AreRising}
+use Rattle.clk_packet.specs.Lists.{are_distinct}
 use Rattle.clk_ruled.specs.Queue.{SeatLists, TapLists, ClosedLists, IsTapOf}
-use Rattle.clk_ruled.specs.Closing.{AreSeatsOf}
 use Rattle.clk_ruled.specs.Settle.{AreOpenedTogether}
 use Rattle.clk_sched.specs.declared.visit.Visit.{Visit}
 use Rattle.clk_sched.specs.Limits.{most_left}
 use Rattle.clk_sched.specs.Log.{pulls, moment_of}
-use Rattle.clk_sched.specs.Session.{Progress, counted_moment}
+use Rattle.clk_sched.specs.Session.{counted_moment}
 use Rattle.clk_sched.specs.Packed.{logged}
 use Rattle.clk_sched.specs.declared.session.packed.PackedLog.{PackedLog}
 use Rattle.clk_drain.specs.declared.outcome.Outcome.{Outcome}
 use Rattle.clk_drain.specs.declared.running.opening.LeafQueue.{LeafQueue}
-use Rattle.clk_drain.specs.Line.{LineLists, leaves_of, seats_in, senders_at, AreLinesOf, HaveOwnSenders}
+use Rattle.clk_drain.specs.Line.{LineLists, seats_in, senders_at, AreLinesOf, HaveOwnSenders}
 use Rattle.clk_drain.specs.Outcome.{Device, IsSettledOutcome}
 use Rattle.clk_drain.specs.Closing.{accepted_over, HasSent, queue_of_line, seated}
 use Rattle.clk_drain.specs.Lost.{SeatedQueue, NamesFirstLost}
 use Rattle.clk_drain.specs.Moments.{steps, HasMoments}
-use Rattle.clk_drain.specs.inside.Threads.{Terms, Feed, ArePulled}
-
--- a device's session, whether its visits are kept, and the taps and the seats of its queues, each in order
-pub record EndLists : Type 0 where
-  pub session : Progress
-  pub visits : Bool
-  pub taps : List TapLists
-  pub seats : List (List SeatLists)
-
--- a session, whether its visits are kept, and the taps of its queues, in order
-pub record PulledLists : Type 0 where
-  pub session : Progress
-  pub visits : Bool
-  pub taps : List TapLists
+use Rattle.clk_drain.specs.inside.Threads.{Terms, InPairs, IsUnused, HaveSentAll, EndLists, Feed, IsUnpulled, IsPulled}
 
 -- the lines of these queues while their seats are handed out
 abbrev pub lines_from : List LeafQueue → List TapLists → List LineLists
@@ -48,79 +35,77 @@ AreTapsOf [] [] = ⊤
 AreTapsOf (q ∷ queues) (t ∷ taps) = IsTapOf q.queue t × AreTapsOf queues taps
 AreTapsOf queues taps = ⊥
 
--- The seats in each place belong to the queue in that place.
-abbrev pub AreSeatsOfEach : List LeafQueue → List (List SeatLists) → Type 0
-AreSeatsOfEach [] [] = ⊤
-AreSeatsOfEach (q ∷ queues) (s ∷ seats) = AreSeatsOf q.queue s × AreSeatsOfEach queues seats
-AreSeatsOfEach queues seats = ⊥
-
--- What a device's threads get fits its queues, which stand at rising leaves.
-pub record FitsQueues (queues : List LeafQueue) (e : EndLists) : Type 0 where
-  pub rise : AreRising (leaves_of (lines_from queues e.taps))
-  pub taps : AreTapsOf queues e.taps
-  pub seats : AreSeatsOfEach queues e.seats
-
--- What each device's threads get fits its queues, in order.
-abbrev pub FitQueues : List (List LeafQueue) → List EndLists → Type 0
-FitQueues [] [] = ⊤
-FitQueues (queues ∷ more) (e ∷ ends) = FitsQueues queues e × FitQueues more ends
-FitQueues queues ends = ⊥
-
--- the seats of all devices, in order
-abbrev pub seats_given : List EndLists → List SeatLists
-seats_given ends = flat_map (λ (e : EndLists). flat_map (λ seats. seats) e.seats) ends
-
 -- a device's session with its lines, while the seats are handed out
 abbrev pub feed_from : List LeafQueue → EndLists → Feed
 feed_from queues e = record { session = e.session; visits = e.visits; lines = lines_from queues e.taps }
 
--- the sessions of all devices with their lines, in order, while the seats are handed out
-abbrev pub feeds_from : List (List LeafQueue) → List EndLists → List Feed
-feeds_from [] ends = []
-feeds_from (queues ∷ more) [] = []
-feeds_from (queues ∷ more) (e ∷ ends) = feed_from queues e ∷ feeds_from more ends
-
--- a consumer's session, with the taps of its lines
-abbrev pub pulled_of : Feed → PulledLists
+-- a session, with the taps of its lines
+abbrev pub pulled_of : Feed → EndLists
 pulled_of f = record { session = f.session; visits = f.visits; taps = map (λ (l : LineLists). l.tap) f.lines }
 
--- Each session was pulled, once each step, and its taps are those of its lines after these pulls.
-pub record HavePulled (terms : Terms) (before : List Feed) (pulled : List PulledLists) : Type 0 where
-  pub feeds : List Feed
-  pub are : ArePulled terms before feeds
-  pub taps : pulled ≡ map pulled_of feeds
+-- A device's session is to be pulled over these queues for the first time.
+pub record IsUnpulledOver (queues : Vec LeafQueue Global) (e : EndLists) : Type 0 where
+  pub unpulled : IsUnpulled (feed_from queues.items e)
+  pub taps : AreTapsOf queues.items e.taps
 
--- how many seats these queues have in all
-abbrev pub seat_count : List LeafQueue → ℕ
-seat_count [] = 0
-seat_count (q ∷ queues) = q.senders + seat_count queues
+-- Each of these fits the thing in its place. There may be further things.
+abbrev pub FitPlaces : {X Y : Type 0} → (X → Y → Type 0) → List Y → List X → Type 0
+FitPlaces Fits [] xs = ⊤
+FitPlaces Fits (y ∷ ys) [] = ⊥
+FitPlaces Fits (y ∷ ys) (x ∷ xs) = Fits x y × FitPlaces Fits ys xs
 
--- the lines of these queues, each with its part of the closed seats, which stand queue by queue
-abbrev pub joined_lines : List LeafQueue → List TapLists → List ClosedLists → List LineLists
-joined_lines [] taps closed = []
-joined_lines (q ∷ queues) [] closed = []
-joined_lines (q ∷ queues) (t ∷ taps) closed =
-    record { leaf = q.leaf; tap = t; closed = take q.senders closed } ∷ joined_lines queues taps (drop q.senders closed)
+-- A device's session was pulled over its queues, once each step, and these are its session and its taps then.
+abbrev pub IsPulledOver : Terms → Vec LeafQueue Global → EndLists → EndLists → Type 0
+IsPulledOver terms queues e pulled = (f : Feed) × IsPulled terms (feed_from queues.items e) f × (pulled ≡ pulled_of f)
 
--- Each queue was opened together with its tap and its part of the closed seats: as many as it has senders.
-abbrev pub AreJoinable : List LeafQueue → List TapLists → List ClosedLists → Type 0
-AreJoinable [] [] closed = ⊤
-AreJoinable (q ∷ queues) (t ∷ taps) closed =
-    (q.senders ≤ length closed) × AreOpenedTogether q.queue t (take q.senders closed) × AreJoinable queues taps (drop q.senders closed)
+-- So for each device, in order. There may be further devices.
+abbrev pub HavePulled : Terms → List EndLists → List EndLists → List (Vec LeafQueue Global) → Type 0
+HavePulled terms [] [] queues = ⊤
+HavePulled terms (e ∷ ends) (p ∷ pulled) (q ∷ queues) = IsPulledOver terms q e p × HavePulled terms ends pulled queues
+HavePulled terms ends pulled queues = ⊥
+
+-- the seats of a queue are before their first offer
+abbrev pub AreUnused : Terms → LeafQueue → Vec SeatLists Global → Type 0
+AreUnused terms at seats = AllByRecursion (IsUnused terms at.queue) seats.items
+
+-- the seats of each queue of a device are before their first offer
+abbrev pub AreAllUnused : Terms → Vec LeafQueue Global → Vec (Vec SeatLists Global) Global → Type 0
+AreAllUnused terms queues seats = FitPlaces (AreUnused terms) seats.items queues.items
+
+-- The seats for which no producer was started yet: those of some devices, of some queues of the next device, and some of its next queue.
+-- `all` are the queues of all devices.
+pub record AreLeft (terms : Terms) (all : List (Vec LeafQueue Global)) (devices : Vec (Vec (Vec SeatLists Global) Global) Global) (queues : Vec (Vec SeatLists Global) Global) (seats : Vec SeatLists Global) : Type 0 where
+  pub of_devices : FitPlaces (AreAllUnused terms) devices.items all
+  pub device : 0 < length queues.items + length seats.items → length devices.items < length all
+  pub of_queues : (d : Vec LeafQueue Global) → FitPlaces (AreUnused terms) queues.items (get_or all (length devices.items) d).items
+  pub queue : (d : Vec LeafQueue Global) → 0 < length seats.items → length queues.items < length (get_or all (length devices.items) d).items
+  pub of_queue : (d : Vec LeafQueue Global) (at : LeafQueue) → AreUnused terms (get_or (get_or all (length devices.items) d).items (length queues.items) at) seats
+
+-- Each sender of a device offered all that it sends, and then closed its seat, queue by queue.
+abbrev pub HasDeviceSent : Terms → Vec (Vec SeatLists Global) Global → Vec (Vec ClosedLists Global) Global → Type 0
+HasDeviceSent terms seats closed = InPairs (HaveSentAll terms) seats.items closed.items
+
+-- the lines of these queues, each with its closed seats
+abbrev pub joined_lines : List LeafQueue → List TapLists → List (Vec ClosedLists Global) → List LineLists
+joined_lines (q ∷ queues) (t ∷ taps) (c ∷ closed) = record { leaf = q.leaf; tap = t; closed = c.items } ∷ joined_lines queues taps closed
+joined_lines queues taps closed = []
+
+-- Each queue was opened together with its tap and its closed seats.
+abbrev pub AreJoinable : List LeafQueue → List TapLists → List (Vec ClosedLists Global) → Type 0
+AreJoinable [] [] [] = ⊤
+AreJoinable (q ∷ queues) (t ∷ taps) (c ∷ closed) = AreOpenedTogether q.queue t c.items × AreJoinable queues taps closed
 AreJoinable queues taps closed = ⊥
 
--- the sessions of all devices with their lines, each with its part of the closed seats
-abbrev pub joined_feeds : List (List LeafQueue) → List PulledLists → List ClosedLists → List Feed
-joined_feeds [] pulled closed = []
-joined_feeds (queues ∷ more) [] closed = []
-joined_feeds (queues ∷ more) (p ∷ pulled) closed =
-    record { session = p.session; visits = p.visits; lines = joined_lines queues p.taps closed } ∷ joined_feeds more pulled (drop (seat_count queues) closed)
+-- the sessions of all devices with their lines, each with its closed seats
+abbrev pub joined_feeds : List (Vec LeafQueue Global) → List EndLists → List (Vec (Vec ClosedLists Global) Global) → List Feed
+joined_feeds (q ∷ queues) (e ∷ ends) (c ∷ closed) = record { session = e.session; visits = e.visits; lines = joined_lines q.items e.taps c.items } ∷ joined_feeds queues ends closed
+joined_feeds queues ends closed = []
 
--- For each device, each queue was opened together with its tap and its part of the closed seats.
-abbrev pub AreAllJoinable : List (List LeafQueue) → List PulledLists → List ClosedLists → Type 0
-AreAllJoinable [] [] closed = ⊤
-AreAllJoinable (queues ∷ more) (p ∷ pulled) closed = AreJoinable queues p.taps closed × AreAllJoinable more pulled (drop (seat_count queues) closed)
-AreAllJoinable queues pulled closed = ⊥
+-- For each device, each queue was opened together with its tap and its closed seats.
+abbrev pub AreAllJoinable : List (Vec LeafQueue Global) → List EndLists → List (Vec (Vec ClosedLists Global) Global) → Type 0
+AreAllJoinable [] [] [] = ⊤
+AreAllJoinable (q ∷ queues) (e ∷ ends) (c ∷ closed) = AreJoinable q.items e.taps c.items × AreAllJoinable queues ends closed
+AreAllJoinable queues ends closed = ⊥
 
 -- A session with its lines, after a run's pulls. All of its seats offered all that is sent.
 pub record IsReadyToClose (terms : Terms) (f : Feed) : Type 0 where

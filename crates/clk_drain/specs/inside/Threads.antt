@@ -1,8 +1,9 @@
 -- What the threads of a run say to one another.
-use Rattle.std.specs.Prelude.{◌≡◌, ℕ, ◌*◌, ◌≤◌, Bool, List, [], ◌∷◌, ◌++◌, length, map, max, ⊤}
+use Rattle.std.specs.Prelude.{◌≡◌, ℕ, ◌*◌, ◌≤◌, Bool, List, [], ◌∷◌, ◌++◌, length, map, max, ⊤, Vec}
+use Rattle.std.specs.declared.alloc.Global.{Global}
 use Rattle.clk_packet.specs.declared.packet.Packet.{Packet}
 use Rattle.clk_packet.specs.Trace.{sent_by}
-use Rattle.clk_ruled.specs.Queue.{SeatLists, ClosedLists}
+use Rattle.clk_ruled.specs.Queue.{Queue, SeatLists, TapLists, ClosedLists, IsSeatOf}
 use Rattle.clk_ruled.specs.Closing.{IsClosedOf}
 use Rattle.clk_sched.specs.Log.{pulls, moment_of}
 use Rattle.clk_sched.specs.Session.{Progress, counted_moment}
@@ -16,8 +17,9 @@ pub record Terms : Type 0 where
   pub step : ℕ
   pub limit : ℕ
 
--- A seat before its first offer, with room for all that its sender sends.
-pub record IsUnused (terms : Terms) (seat : SeatLists) : Type 0 where
+-- A seat of a queue before its first offer, with room for all that its sender sends.
+pub record IsUnused (terms : Terms) (queue : Queue) (seat : SeatLists) : Type 0 where
+  pub own : IsSeatOf queue seat
   pub offered : AreOffered [] seat
   pub room : seat.room ≡ length (sent_by terms.traces seat.sender)
 
@@ -26,11 +28,21 @@ pub record HasSentAll (terms : Terms) (seat : SeatLists) (result : ClosedLists) 
   pub closed : IsClosedOf seat result
   pub sent : AreOffered (sent_by terms.traces seat.sender) result.lists
 
--- Each of these senders offered all that it sends, and then closed its seat, in order.
-abbrev pub HaveSentAll : Terms → List SeatLists → List ClosedLists → Type 0
-HaveSentAll terms [] [] = ⊤
-HaveSentAll terms (s ∷ seats) (c ∷ closed) = HasSentAll terms s c × HaveSentAll terms seats closed
-HaveSentAll terms seats closed = ⊥
+-- This holds of the members of two lists in each place, and there are as many of both.
+abbrev pub InPairs : {X Y : Type 0} → (X → Y → Type 0) → List X → List Y → Type 0
+InPairs Holds [] [] = ⊤
+InPairs Holds (x ∷ xs) (y ∷ ys) = Holds x y × InPairs Holds xs ys
+InPairs Holds xs ys = ⊥
+
+-- Each sender of a queue offered all that it sends, and then closed its seat, in order.
+abbrev pub HaveSentAll : Terms → Vec SeatLists Global → Vec ClosedLists Global → Type 0
+HaveSentAll terms seats closed = InPairs (HasSentAll terms) seats.items closed.items
+
+-- a device's session, whether its visits are kept, and the taps of its queues, in order
+pub record EndLists : Type 0 where
+  pub session : Progress
+  pub visits : Bool
+  pub taps : List TapLists
 
 -- a session with the lines over which it is pulled, and whether its visits are kept
 pub record Feed : Type 0 where
@@ -66,9 +78,3 @@ pub record IsPulledFor (terms : Terms) (made : ℕ) (old new : Feed) : Type 0 wh
 -- The session was pulled, once each step, at most as often as it may be.
 abbrev pub IsPulled : Terms → Feed → Feed → Type 0
 IsPulled terms old new = (made : ℕ) × (made ≤ terms.limit) × IsPulledFor terms made old new
-
--- Each of these sessions was pulled, once each step, at most as often as it may be.
-abbrev pub ArePulled : Terms → List Feed → List Feed → Type 0
-ArePulled terms [] [] = ⊤
-ArePulled terms (f ∷ feeds) (g ∷ pulled) = IsPulled terms f g × ArePulled terms feeds pulled
-ArePulled terms feeds pulled = ⊥

@@ -1,10 +1,12 @@
 //! A consumer: what pulls a device while producers run.
 
 use crate::running::course::Course;
-use crate::running::open_lines::OpenLines;
+use crate::running::open_lines::{OpenLines, open_lines_for};
+use crate::running::opening::{Ends, LeafQueue};
 use clk_gate::Gate;
 use clk_packet::Fault;
 use clk_sched::Session;
+use std::alloc::Global;
 use std::marker::Model;
 use std::sync::Wait;
 use std::thread;
@@ -39,8 +41,52 @@ impl<'a, W: Wait> Model for Consumer<'a, W> {
 impl<'a, W: Wait> Consumer<'a, W> {
     ghost use Rattle.std.specs.Prelude.{◌≡◌, ◌<◌, ◌≤◌, ◌*◌, IfOk, OnOk, IsOkUnless};
     ghost use Rattle.clk_packet.specs.declared.fault.Fault.TheVariants.{Memory};
-    ghost use Rattle.clk_drain.specs.Line.{AreLinesOf};
+    ghost use Rattle.clk_packet.specs.Lists.{AreRising};
+    ghost use Rattle.clk_drain.specs.Line.{AreLinesOf, leaves_of};
+    ghost use Rattle.clk_drain.specs.inside.Handed.{lines_from, AreTapsOf, feed_from, pulled_of};
     ghost use Rattle.clk_drain.specs.inside.Threads.{IsUnpulled, IsPulled, IsPulledAt};
+
+    /// A consumer of a device over its queues. Fault 1 if an allocation fails.
+    pub fn new(
+        alloc: Global,
+        wait: &'a W,
+        queues: &'a [LeafQueue],
+        ends: Ends,
+    ) -> Result<Consumer<'a, W>, Fault>
+        requires rise { AreRising (leaves_of (lines_from queues.now ends.taps)) }
+        requires taps { AreTapsOf queues.now ends.taps }
+        ensures consumer { IfOk result (λ consumer. consumer ≡ feed_from queues.now ends) }
+        ensures fault { IsOkUnless result Fault.Memory }
+    {
+        let Ends {
+            device,
+            session,
+            taps,
+        } = ends;
+        let open_lines = open_lines_for(alloc, queues, taps)?;
+        Ok(Consumer {
+            device,
+            session,
+            open_lines: OpenLines::new(wait, open_lines),
+        })
+    }
+
+    /// The session with its taps. Fault 1 if an allocation fails.
+    pub fn into_ends(self, alloc: Global) -> Result<Ends, Fault>
+        ensures ends { IfOk result (λ ends. ends ≡ pulled_of self.entry) }
+        ensures fault { IsOkUnless result Fault.Memory }
+    {
+        let Consumer {
+            device,
+            session,
+            open_lines,
+        } = self;
+        Ok(Ends {
+            device,
+            session,
+            taps: open_lines.into_taps(alloc)?,
+        })
+    }
 
     /// Pulls the device once each step, until it was pulled as often as it may be or all producers are done.
     ///

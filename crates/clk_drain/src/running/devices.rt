@@ -1,6 +1,6 @@
 //! What a run opens over a plan before its threads start: for each device a session of its tree, and its queues.
 
-ghost use Rattle.std.specs.Prelude.{◌≡◌, ◌<◌, true, [], map, IfOk, OnOk, IsOkUnless};
+ghost use Rattle.std.specs.Prelude.{◌≡◌, ◌<◌, true, IfOk, IsOkUnless};
 ghost use Rattle.std.specs.List.{AllByRecursion};
 ghost use Rattle.clk_packet.specs.declared.fault.Fault.TheVariants.{Memory};
 ghost use Rattle.clk_sched.specs.Keeps.{keeps_visits, keeps_emitted};
@@ -10,7 +10,7 @@ ghost use Rattle.clk_drain.specs.Run.{queues_at};
 ghost use Rattle.clk_drain.specs.inside.Opening.{AreOpenAs};
 ghost use Rattle.clk_drain.specs.inside.Devices.{IsOpenOf, AreOpenFrom, KeepVisits};
 
-use crate::running::opening::{Ends, LeafQueue, open_queue};
+use crate::running::opening::{Ends, LeafQueue, OpenQueues, open_queue};
 use clk_packet::{Fault, Traces};
 use clk_ruled::Seat;
 use clk_sched::{Keeps, Session};
@@ -21,6 +21,7 @@ use std::alloc::Global;
 #[derive(Drop)]
 pub struct OpenPlan {
     pub queues: Vec<Vec<LeafQueue>>,
+    pub seats: Vec<Vec<Vec<Seat>>>,
     pub ends: Vec<Ends>,
 }
 
@@ -36,19 +37,25 @@ pub fn open_devices(
     keeps: Keeps,
 ) -> Result<OpenPlan, Fault>
     requires emitted { keeps_emitted keeps ≡ true }
-    ensures opened { IfOk result (λ opened. AreOpenFrom plan.now traces.now 0 (map (λ queues. queues.items) opened.queues.items) opened.ends.items) }
+    ensures opened { IfOk result (λ opened. AreOpenFrom plan.now traces.now 0 (device_count plan.now) opened.queues.items opened.seats.items opened.ends.items) }
     ensures kept { IfOk result (λ opened. AllByRecursion (KeepVisits (keeps_visits keeps)) opened.ends.items) }
     ensures fault { IsOkUnless result Fault.Memory }
 {
     let devices = plan.devices();
     let mut queues = Vec::with_capacity(alloc, usize::from(devices))?;
+    let mut seats = Vec::with_capacity(alloc, usize::from(devices))?;
     let mut ends = Vec::with_capacity(alloc, usize::from(devices))?;
     for device in 0..devices {
-        let (its_queues, its_ends) = open_device(alloc, plan, traces, device, keeps)?;
+        let (its_queues, its_seats, its_ends) = open_device(alloc, plan, traces, device, keeps)?;
         queues.push(its_queues)?;
+        seats.push(its_seats)?;
         ends.push(its_ends)?;
     }
-    Ok(OpenPlan { queues, ends })
+    Ok(OpenPlan {
+        queues,
+        seats,
+        ends,
+    })
 }
 
 // Opens a device of a plan.
@@ -58,23 +65,30 @@ fn open_device(
     traces: &Traces,
     device: u16,
     keeps: Keeps,
-) -> Result<(Vec<LeafQueue>, Ends), Fault>
+) -> Result<(Vec<LeafQueue>, Vec<Vec<Seat>>, Ends), Fault>
     requires device { device < device_count plan.now }
     requires emitted { keeps_emitted keeps ≡ true }
-    ensures opened { IfOk result (λ opened. IsOpenOf plan.now traces.now device opened.0.items opened.1) }
-    ensures kept { IfOk result (λ opened. opened.1.visits ≡ keeps_visits keeps) }
+    ensures opened { IfOk result (λ opened. IsOpenOf plan.now traces.now device opened.0.items opened.1.items opened.2) }
+    ensures kept { IfOk result (λ opened. opened.2.visits ≡ keeps_visits keeps) }
     ensures fault { IsOkUnless result Fault.Memory }
 {
     let tree = plan.tree(alloc, device)?;
-    let mut ends = Ends {
-        device,
-        session: Session::keeping(alloc, tree, keeps)?,
-        taps: Vec::new(alloc),
-        seats: Vec::new(alloc),
-    };
-    let queues = open_queues(alloc, plan, traces, device, &mut ends)?;
-    ends.session.reserve(rooms_of(&ends.seats))?;
-    Ok((queues, ends))
+    let mut session = Session::keeping(alloc, tree, keeps)?;
+    let OpenQueues {
+        queues,
+        taps,
+        seats,
+    } = open_queues(alloc, plan, traces, device)?;
+    session.reserve(rooms_of(&seats))?;
+    Ok((
+        queues,
+        seats,
+        Ends {
+            device,
+            session,
+            taps,
+        },
+    ))
 }
 
 // How many packets the senders at these seats may offer in all. The device emits no more. Only how much memory is reserved depends on it.
@@ -94,21 +108,21 @@ fn open_queues(
     plan: &Plan,
     traces: &Traces,
     device: u16,
-    ends: &mut Ends,
-) -> Result<Vec<LeafQueue>, Fault>
-    requires none { (ends.old.taps ≡ []) × (ends.old.seats ≡ []) }
-    ensures opened { IfOk result (λ queues. AreOpenAs traces.now (queues_at device 0 (queues_of plan.now)) queues.items ends.new.taps ends.new.seats) }
-    ensures session { OnOk result (ends.new.session ≡ ends.old.session) }
-    ensures kept { OnOk result (ends.new.visits ≡ ends.old.visits) }
+) -> Result<OpenQueues, Fault>
+    ensures opened { IfOk result (λ opened. AreOpenAs traces.now (queues_at device 0 (queues_of plan.now)) opened.queues.items opened.taps.items opened.seats.items) }
     ensures fault { IsOkUnless result Fault.Memory }
 {
-    let mut queues = Vec::new(alloc);
+    let mut opened = OpenQueues {
+        queues: Vec::new(alloc),
+        taps: Vec::new(alloc),
+        seats: Vec::new(alloc),
+    };
     let mut leaf = 0;
     for queue in plan.queues() {
         if queue.device == device {
-            open_queue(alloc, &mut queues, ends, leaf, queue, traces)?;
+            open_queue(alloc, &mut opened, leaf, queue, traces)?;
         }
         leaf += 1;
     }
-    Ok(queues)
+    Ok(opened)
 }

@@ -1,10 +1,13 @@
 //! The shared queues of a tree while their seats are handed out, from which a session pulls.
 
-ghost use Rattle.std.specs.Prelude.{◌≡◌, false, MatchOption};
+ghost use Rattle.std.specs.Prelude.{◌≡◌, false, IfOk, IsOkUnless, MatchOption};
+ghost use Rattle.clk_packet.specs.declared.fault.Fault.TheVariants.{Memory};
 ghost use Rattle.clk_packet.specs.Lists.{AreRising};
 ghost use Rattle.clk_drain.specs.Line.{has_line, leaves_of};
+ghost use Rattle.clk_drain.specs.inside.Handed.{lines_from, AreTapsOf};
 ghost use Rattle.clk_drain.specs.inside.Parts.{IsPlaceOf};
 
+use crate::running::opening::LeafQueue;
 use clk_packet::{Fault, Packet};
 use clk_ruled::{RuledQueue, Tap};
 use clk_sched::{Ask, Session};
@@ -168,4 +171,28 @@ fn place_of(open_lines: &[OpenLine], leaf: u16) -> Option<usize>
         Ok(place) => Some(place),
         Err(_) => None,
     }
+}
+
+/// The open lines of queues, in order. Fault 1 if an allocation fails.
+pub fn open_lines_for<'a>(
+    alloc: Global,
+    queues: &'a [LeafQueue],
+    taps: Vec<Tap>,
+) -> Result<Vec<OpenLine<'a>>, Fault>
+    requires taps { AreTapsOf queues.now taps.items }
+    ensures open_lines { IfOk result (λ open_lines. open_lines.items ≡ lines_from queues.now taps.items) }
+    ensures fault { IsOkUnless result Fault.Memory }
+{
+    let mut open_lines = Vec::with_capacity(alloc, queues.len())?;
+    let mut place = 0;
+    for tap in taps {
+        let LeafQueue { leaf, queue, .. } = &queues[place];
+        open_lines.push(OpenLine {
+            leaf: *leaf,
+            queue,
+            tap,
+        })?;
+        place += 1;
+    }
+    Ok(open_lines)
 }

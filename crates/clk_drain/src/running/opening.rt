@@ -16,39 +16,43 @@ use clk_tree::QueueSpec;
 use std::alloc::Global;
 use std::marker::Model;
 
-/// A shared queue at the leaf where it stands, with the number of its senders.
+/// A shared queue at the leaf where it stands.
 #[derive(Drop)]
 pub struct LeafQueue {
     pub leaf: u16,
     pub queue: RuledQueue,
-    pub senders: usize,
     /// The baton of its producers.
     pub baton: Baton,
 }
 
-/// What the threads of a device get: its session, and the taps and the seats of its queues, by rising leaf. Contracts see all but the
-/// device's number.
+/// The queues of a device by rising leaf, with the tap and the seats of each.
+#[derive(Drop)]
+pub struct OpenQueues {
+    pub queues: Vec<LeafQueue>,
+    pub taps: Vec<Tap>,
+    pub seats: Vec<Vec<Seat>>,
+}
+
+/// A device's session with the taps of its queues, by rising leaf. Contracts see all but the device's number.
 #[derive(Drop)]
 pub struct Ends {
     pub device: u16,
     pub session: Session,
     pub taps: Vec<Tap>,
-    pub seats: Vec<Vec<Seat>>,
 }
 
 impl Model for Ends {
-    ghost use Rattle.std.specs.Prelude.{map};
     ghost use Rattle.std.specs.Coded.{codes};
     ghost use Rattle.clk_sched.specs.Keeps.{keeps_visits, TellsEmitted};
     ghost use Rattle.clk_sched.specs.Session.{progress_of};
     ghost use Rattle.clk_sched.specs.Stored.{tree_code};
-    ghost use Rattle.clk_drain.specs.inside.Handed.{EndLists};
+    ghost use Rattle.clk_drain.specs.inside.Threads.{EndLists};
 
     ghost Value = { EndLists };
 
     ghost coded = { Prim.hlevel (codes, tree_code) };
 
-    ghost view = { λ e. record { session = progress_of e.session; visits = keeps_visits e.session.keeps; taps = e.taps.items; seats = map (λ seats. seats.items) e.seats.items } };
+    ghost view = { λ e. record { session = progress_of e.session; visits = keeps_visits e.session.keeps; taps = e.taps.items } };
 
     ghost invariant = { λ e. TellsEmitted e.session };
 }
@@ -56,15 +60,14 @@ impl Model for Ends {
 /// Opens one more queue, at this leaf, with room for all that is sent to it. Fault 1 if an allocation fails.
 pub fn open_queue(
     alloc: Global,
-    queues: &mut Vec<LeafQueue>,
-    ends: &mut Ends,
+    opened: &mut OpenQueues,
     leaf: u16,
     queue: &QueueSpec,
     traces: &Traces,
 ) -> Result<(), Fault>
     requires capacity { HasCapacity (queued queue.now) }
     requires rising { AreRising queue.now.senders.items }
-    ensures added { OnOk result (IsAdded traces.now (shared_at leaf (queued queue.now)) queues.old.items queues.new.items ends.old ends.new) }
+    ensures added { OnOk result (IsAdded traces.now (shared_at leaf (queued queue.now)) opened.old opened.new) }
     ensures fault { IsOkUnless result Fault.Memory }
 {
     let rooms = rooms_for(alloc, &queue.senders, traces)?;
@@ -75,14 +78,13 @@ pub fn open_queue(
         &rooms,
         false,
     )?;
-    queues.push(LeafQueue {
+    opened.queues.push(LeafQueue {
         leaf,
         queue,
-        senders: seats.len(),
         baton: Baton::new(),
     })?;
-    ends.taps.push(tap)?;
-    ends.seats.push(seats)?;
+    opened.taps.push(tap)?;
+    opened.seats.push(seats)?;
     Ok(())
 }
 

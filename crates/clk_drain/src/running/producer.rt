@@ -1,40 +1,20 @@
 //! A producer offers all packets of a sender to its queue.
 
-use crate::running::baton::Baton;
-use clk_gate::Gate;
-use clk_packet::Traces;
-use clk_ruled::{ClosedSeat, RuledQueue, Seat};
-use std::marker::Model;
-use std::sync::Wait;
-use std::sync::atomic::{AtomicU64, Ordering};
-
-/// How many packets a producer offers before it passes the baton on or, if it has none, looks for it again.
-const AT_A_TIME: u32 = 1_024;
-
-/// The seat of a sender, beside its queue. Contracts see the seat.
-#[derive(Drop)]
-pub struct Producer<'a> {
-    pub queue: &'a RuledQueue,
-    /// The baton of the queue's producers.
-    pub baton: &'a Baton,
-    pub seat: Seat,
-}
-
-impl<'a> Model for Producer<'a> {
-    ghost use Rattle.clk_ruled.specs.Queue.{SeatLists, IsSeatOf};
-
-    ghost Value = { SeatLists };
-
-    ghost view = { λ p. p.seat };
-
-    ghost invariant = { λ p. IsSeatOf p.queue.now p.seat };
-}
-
 ghost use Rattle.std.specs.Prelude.{◌≡◌, ◌+◌, ◌<◌, [], length, take};
 ghost use Rattle.clk_packet.specs.Trace.{sent_by};
 ghost use Rattle.clk_ruled.specs.Queue.{IsSeatOf};
 ghost use Rattle.clk_ruled.specs.Closing.{IsSameSeat, IsClosedOf};
 ghost use Rattle.clk_drain.specs.Closing.{AreOffered};
+
+use crate::running::baton::Baton;
+use clk_gate::Gate;
+use clk_packet::Traces;
+use clk_ruled::{ClosedSeat, RuledQueue, Seat};
+use std::sync::Wait;
+use std::sync::atomic::{AtomicU64, Ordering};
+
+/// How many packets a producer offers before it passes the baton on or, if it has none, looks for it again.
+const AT_A_TIME: u32 = 1_024;
 
 /// Offers all packets of a seat's sender to its queue, in order, closes the seat, and then counts one more producer as done. Doesn't
 /// allocate.

@@ -1,28 +1,26 @@
 //! The threads of a run: a producer for each sender, and a consumer for each device from the second on.
 
-ghost use Rattle.std.specs.Prelude.{◌≡◌, ◌∷◌, [], map, length, IfOk, IsOkUnless};
-ghost use Rattle.std.specs.List.{AllByRecursion};
+ghost use Rattle.std.specs.Prelude.{◌≡◌, [], length, IfOk, IsOkUnless};
 ghost use Rattle.clk_packet.specs.declared.fault.Fault.TheVariants.{Memory};
 ghost use Rattle.clk_packet.specs.Trace.{sent_by};
 ghost use Rattle.clk_ruled.specs.Queue.{IsSeatOf};
 ghost use Rattle.clk_ruled.specs.Closing.{IsClosedOf};
 ghost use Rattle.clk_drain.specs.Closing.{AreOffered};
-ghost use Rattle.clk_drain.specs.inside.Threads.{IsUnused, HaveSentAll, IsUnpulled, IsPulled, ArePulled};
-ghost use Rattle.clk_drain.specs.inside.Handed.{pulled_of, HavePulled};
+ghost use Rattle.clk_drain.specs.inside.Threads.{InPairs, IsUnused, HaveSentAll, IsUnpulled, IsPulled};
+ghost use Rattle.clk_drain.specs.inside.Handed.{FitPlaces, AreAllUnused, AreLeft, IsUnpulledOver, HasDeviceSent, HavePulled};
 
 use crate::running::consumer::Consumer;
 use crate::running::course::Course;
-use crate::running::handing::Handed;
-use crate::running::joining::Pulled;
-use crate::running::producer::{Producer, send_all};
+use crate::running::opening::{Ends, LeafQueue};
+use crate::running::producer::send_all;
 use clk_gate::Gate;
 use clk_packet::{Fault, Traces};
 use clk_ruled::{ClosedSeat, Seat};
 use std::alloc::{AllocError, Global};
 use std::snapshot::Snapshot;
 use std::sync::Wait;
-use std::thread;
 use std::thread::{Promise, PromisedHandle, Scope, Threads};
+use std::{mem, thread};
 
 /// What a producer's thread promises to return: its seat, closed after all was offered.
 #[derive(Drop)]
@@ -58,13 +56,14 @@ impl<'a, W: Wait, G: Gate> Promise<Result<Consumer<'a, W>, Fault>> for Pulling<'
 fn start_sending<'s, E, W: Wait + Sync, G: Gate + Sync>(
     scope: &Scope<'s, E>,
     course: &'s Course<'s, W, G>,
-    producer: Producer<'s>,
+    at: &'s LeafQueue,
+    seat: Seat,
 ) -> Result<PromisedHandle<ClosedSeat, Sending>, AllocError>
-    requires unused { IsUnused course.now producer }
+    requires unused { IsUnused course.now at.now.queue seat }
     ensures traces { IfOk result (λ handle. handle.promise.traces.value ≡ course.now.traces) }
-    ensures seat { IfOk result (λ handle. handle.promise.seat.value ≡ producer.entry) }
+    ensures seat { IfOk result (λ handle. handle.promise.seat.value ≡ seat) }
 {
-    let Producer { queue, baton, seat } = producer;
+    let LeafQueue { queue, baton, .. } = at;
     let (wait, traces, gate, through) = (course.wait, course.traces, course.gate, &course.through);
     let promise = Sending {
         traces: Snapshot::of(traces),
@@ -98,7 +97,7 @@ fn start_pulling<'s, E, W: Wait + Sync, G: Gate + Sync>(
     Ok(scope.spawn_with(promise, pull)?)
 }
 
-/// Runs all producers and consumers, each but the first consumer on a thread of its own, and joins them.
+/// Runs a producer for each seat and a consumer for each device, each but the first consumer on a thread of its own, and joins them.
 ///
 /// # Errors
 ///
@@ -107,148 +106,129 @@ pub fn run_threads<R: Threads + Wait, W: Wait + Sync, G: Gate + Sync>(
     rt: &R,
     alloc: Global,
     course: &Course<W, G>,
-    handed: Handed<W>,
-) -> Result<Joined, Fault>
-    requires unused { AllByRecursion (IsUnused course.now) handed.producers.items }
-    requires unpulled { AllByRecursion IsUnpulled handed.consumers.items }
-    ensures sent { IfOk result (λ joined. HaveSentAll course.now handed.entry.producers.items joined.closed.items) }
-    ensures pulled { IfOk result (λ joined. HavePulled course.now handed.entry.consumers.items joined.pulled.items) }
+    queues: &[Vec<LeafQueue>],
+    seats: Vec<Vec<Vec<Seat>>>,
+    ends: Vec<Ends>,
+) -> Result<Sent, Fault>
+    requires unused { FitPlaces (AreAllUnused course.now) seats.items queues.now }
+    requires unpulled { FitPlaces IsUnpulledOver ends.items queues.now }
+    ensures sent { IfOk result (λ sent. InPairs (HasDeviceSent course.now) seats.items sent.devices.items) }
+    ensures pulled { IfOk result (λ sent. HavePulled course.now ends.items sent.ends.items queues.now) }
     ensures fault { IsOkUnless result Fault.Memory }
 {
-    let Handed {
-        producers,
-        consumers,
-    } = handed;
-    let room = Ended {
-        closed: Vec::with_capacity(alloc, producers.len())?,
-        consumers: Vec::with_capacity(alloc, consumers.len())?,
+    let left = Left {
+        course,
+        lent: queues,
+        devices: seats,
+        queues: Vec::new(alloc),
+        seats: Vec::new(alloc),
     };
     thread::scope(
         thread::scope_env(),
         rt,
-        move |scope| -> Result<Joined, Fault>
-            requires { AllByRecursion (IsUnused course.now) producers.items × AllByRecursion IsUnpulled consumers.items × (room.closed.items ≡ []) × (room.consumers.items ≡ []) }
-            ensures { IfOk result (λ joined. HaveSentAll course.entry.now producers.entry.items joined.closed.items × HavePulled course.entry.now consumers.entry.items joined.pulled.items) × IsOkUnless result Fault.Memory }
-        {
-            let Ended { closed, consumers } = send_and_pull(
-                rt, scope, course, producers, consumers, room,
-            )?;
-            let pulled = pulled_by(alloc, consumers)?;
-            Ok(Joined { closed, pulled })
-        },
+        move |scope| -> Result<Sent, Fault>
+            requires { AreLeft left.course.now left.lent.now left.devices left.queues left.seats × FitPlaces IsUnpulledOver ends.items left.lent.now }
+            ensures { IfOk result (λ sent. InPairs (HasDeviceSent left.entry.course.now) left.entry.devices.items sent.devices.items × HavePulled left.entry.course.now ends.items sent.ends.items left.entry.lent.now) × IsOkUnless result Fault.Memory }
+        { send_and_pull(rt, scope, alloc, left, ends) },
     )
 }
 
-// What consumers pulled: their sessions and taps, in order.
-fn pulled_by<W: Wait>(alloc: Global, consumers: Vec<Consumer<W>>) -> Result<Vec<Pulled>, Fault>
-    ensures pulled { IfOk result (λ pulled. pulled.items ≡ map pulled_of consumers.entry.items) }
-    ensures fault { IsOkUnless result Fault.Memory }
-{
-    let mut pulled = Vec::with_capacity(alloc, consumers.len())?;
-    for Consumer {
-        session,
-        open_lines,
-        ..
-    } in consumers {
-        pulled.push(Pulled {
-            session,
-            taps: open_lines.into_taps(alloc)?,
-        })?;
-    }
-    Ok(pulled)
-}
-
-/// What a run has after its threads ended: the seats of all queues, closed, and for each device its session and taps, all in order.
+/// What is left to start: a producer for each of these seats, which are those of devices, those of queues of the next device, and those of
+/// its next queue. Beside them stands what the threads share. (Contracts don't know the result of a closure that captures `Course` itself.)
 #[derive(Drop)]
-pub struct Joined {
-    pub closed: Vec<ClosedSeat>,
-    pub pulled: Vec<Pulled>,
+pub struct Left<'a, W: Wait, G: Gate> {
+    pub course: &'a Course<'a, W, G>,
+    /// The queues of all devices.
+    pub lent: &'a [Vec<LeafQueue>],
+    pub devices: Vec<Vec<Vec<Seat>>>,
+    pub queues: Vec<Vec<Seat>>,
+    pub seats: Vec<Seat>,
 }
 
-/// What the threads of a run return: the seats, closed, and the consumers, each in the order in which they were started.
+/// What the threads of a run return: the seats, closed, as they stood in `Left`, and for each device its session and taps.
 #[derive(Drop)]
-pub struct Ended<'a, W: Wait> {
-    pub closed: Vec<ClosedSeat>,
-    pub consumers: Vec<Consumer<'a, W>>,
+pub struct Sent {
+    pub devices: Vec<Vec<Vec<ClosedSeat>>>,
+    pub queues: Vec<Vec<ClosedSeat>>,
+    pub seats: Vec<ClosedSeat>,
+    pub ends: Vec<Ends>,
 }
 
-/// Runs each producer and each consumer on a thread of its own, except the first consumer, which runs on this thread.
-///
-/// # Errors
-///
-/// Fault 1 if an allocation fails or a thread can't be started. The threads that were started are joined then too.
-pub fn send_and_pull<'s, E, R: Threads, W: Wait + Sync, G: Gate + Sync>(
+// Runs each producer and each consumer on a thread of its own, except the first consumer, which runs on this thread. Fault 1 if an
+// allocation fails or a thread can't be started. The threads that were started are joined then too.
+fn send_and_pull<'s, E, R: Threads, W: Wait + Sync, G: Gate + Sync>(
     rt: &R,
     scope: &Scope<'s, E>,
-    course: &'s Course<'s, W, G>,
-    producers: Vec<Producer<'s>>,
-    consumers: Vec<Consumer<'s, W>>,
-    ended: Ended<'s, W>,
-) -> Result<Ended<'s, W>, Fault>
-    requires unused { AllByRecursion (IsUnused course.now) producers.items }
-    requires unpulled { AllByRecursion IsUnpulled consumers.items }
-    requires none { (ended.closed.items ≡ []) × (ended.consumers.items ≡ []) }
-    ensures sent { IfOk result (λ ended. HaveSentAll course.now producers.entry.items ended.closed.items) }
-    ensures pulled { IfOk result (λ ended. ArePulled course.now consumers.entry.items ended.consumers.items) }
+    alloc: Global,
+    left: Left<'s, W, G>,
+    ends: Vec<Ends>,
+) -> Result<Sent, Fault>
+    requires left { AreLeft left.course.now left.lent.now left.devices left.queues left.seats }
+    requires unpulled { FitPlaces IsUnpulledOver ends.items left.lent.now }
+    ensures devices { IfOk result (λ sent. InPairs (HasDeviceSent left.entry.course.now) left.entry.devices.items sent.devices.items) }
+    ensures queues { IfOk result (λ sent. InPairs (HaveSentAll left.entry.course.now) left.entry.queues.items sent.queues.items) }
+    ensures seats { IfOk result (λ sent. HaveSentAll left.entry.course.now left.entry.seats sent.seats) }
+    ensures pulled { IfOk result (λ sent. HavePulled left.entry.course.now ends.items sent.ends.items left.entry.lent.now) }
     ensures fault { IsOkUnless result Fault.Memory }
 {
-    let mut producers = producers;
-    let Some(producer) = producers.pop() else {
-        let Ended {
-            closed,
-            consumers: pulled,
-        } = ended;
-        let consumers = pull_each(rt, scope, course, consumers, pulled)?;
-        return Ok(Ended { closed, consumers });
-    };
-    let handle = start_sending(scope, course, producer)?;
-    let ended = send_and_pull(rt, scope, course, producers, consumers, ended);
-    let seat = handle.join(rt);
-    let mut ended = ended?;
-    ended.closed.push(seat)?;
-    Ok(ended)
+    let mut left = left;
+    if let Some(seat) = left.seats.pop() {
+        let at = &left.lent[left.devices.len()][left.queues.len()];
+        let handle = start_sending(scope, left.course, at, seat)?;
+        let sent = send_and_pull(rt, scope, alloc, left, ends);
+        let seat = handle.join(rt);
+        let mut sent = sent?;
+        sent.seats.push(seat)?;
+        return Ok(sent);
+    }
+    if let Some(seats) = left.queues.pop() {
+        left.seats = seats;
+        let mut sent = send_and_pull(rt, scope, alloc, left, ends)?;
+        let seats = mem::replace(&mut sent.seats, Vec::new(alloc));
+        sent.queues.push(seats)?;
+        return Ok(sent);
+    }
+    if let Some(its_queues) = left.devices.pop() {
+        left.queues = its_queues;
+        let mut sent = send_and_pull(rt, scope, alloc, left, ends)?;
+        let its_queues = mem::replace(&mut sent.queues, Vec::new(alloc));
+        sent.devices.push(its_queues)?;
+        return Ok(sent);
+    }
+    Ok(Sent {
+        devices: Vec::new(alloc),
+        queues: Vec::new(alloc),
+        seats: Vec::new(alloc),
+        ends: pull_each(rt, scope, alloc, left.course, left.lent, ends)?,
+    })
 }
 
-// Runs each consumer on a thread of its own, except the first, which runs on this thread.
+// Runs a consumer for each device on a thread of its own, except the first, which runs on this thread.
 fn pull_each<'s, E, R: Threads, W: Wait + Sync, G: Gate + Sync>(
     rt: &R,
     scope: &Scope<'s, E>,
+    alloc: Global,
     course: &'s Course<'s, W, G>,
-    consumers: Vec<Consumer<'s, W>>,
-    pulled: Vec<Consumer<'s, W>>,
-) -> Result<Vec<Consumer<'s, W>>, Fault>
-    requires unpulled { AllByRecursion IsUnpulled consumers.items }
-    requires none { pulled.items ≡ [] }
-    ensures pulled { IfOk result (λ pulled. ArePulled course.now consumers.entry.items pulled.items) }
+    queues: &'s [Vec<LeafQueue>],
+    ends: Vec<Ends>,
+) -> Result<Vec<Ends>, Fault>
+    requires unpulled { FitPlaces IsUnpulledOver ends.items queues.now }
+    ensures pulled { IfOk result (λ pulled. HavePulled course.now ends.items pulled.items queues.now) }
     ensures fault { IsOkUnless result Fault.Memory }
 {
-    let mut consumers = consumers;
-    let Some(consumer) = consumers.pop() else {
-        return Ok(pulled);
+    let mut ends = ends;
+    let Some(its_ends) = ends.pop() else {
+        return Ok(ends);
     };
-    if consumers.is_empty() {
-        return pull_first(course, consumer, pulled);
+    let consumer = Consumer::new(alloc, course.wait, &queues[ends.len()], its_ends)?;
+    if ends.is_empty() {
+        ends.push(consumer.pull_all(course)?.into_ends(alloc)?)?;
+        return Ok(ends);
     }
     let handle = start_pulling(scope, course, consumer)?;
-    let pulled = pull_each(rt, scope, course, consumers, pulled);
+    let pulled = pull_each(rt, scope, alloc, course, queues, ends);
     let consumer = handle.join(rt);
     let mut pulled = pulled?;
-    pulled.push(consumer?)?;
-    Ok(pulled)
-}
-
-// Runs the first consumer on this thread.
-fn pull_first<'s, W: Wait, G: Gate>(
-    course: &Course<'s, W, G>,
-    consumer: Consumer<'s, W>,
-    pulled: Vec<Consumer<'s, W>>,
-) -> Result<Vec<Consumer<'s, W>>, Fault>
-    requires unpulled { IsUnpulled consumer }
-    requires none { pulled.items ≡ [] }
-    ensures pulled { IfOk result (λ pulled. ArePulled course.now (consumer.entry ∷ []) pulled.items) }
-    ensures fault { IsOkUnless result Fault.Memory }
-{
-    let mut pulled = pulled;
-    pulled.push(consumer.pull_all(course)?)?;
+    pulled.push(consumer?.into_ends(alloc)?)?;
     Ok(pulled)
 }

@@ -1,24 +1,18 @@
-use Rattle.std.proofs.Common.{ℕ, List, map, ap, sym, ◌∙◌, subst}
+use Rattle.std.proofs.Common.{ℕ, List, map, sym, subst, Vec}
+use Rattle.std.specs.declared.alloc.Global.{Global}
 use Rattle.std.specs.List.{AllByRecursion}
 use Rattle.clk_packet.specs.declared.packet.Packet.{Packet}
-use Rattle.clk_ruled.specs.Queue.{SeatLists}
 use Rattle.clk_sched.specs.Keeps.{keeps_visits}
 use Rattle.clk_tree.specs.declared.plan.parts.SenderSpec.{SenderSpec}
 use Rattle.clk_tree.specs.PlanParts.{number_of}
 use Rattle.clk_gate.specs.Known.{AreKnown}
-use Rattle.clk_drain.specs.inside.Threads.{Terms, Feed, IsUnused, IsUnpulled}
-use Rattle.clk_drain.specs.inside.Handed.{FitQueues, IsReadyToClose, AreApartDevices, feeds_from}
-use Rattle.clk_drain.proofs.Opened.{fit-opened, unused-opened, unpulled-opened}
+use Rattle.clk_drain.specs.declared.running.opening.LeafQueue.{LeafQueue}
+use Rattle.clk_drain.specs.inside.Threads.{Terms, Feed}
+use Rattle.clk_drain.specs.inside.Handed.{FitPlaces, AreAllUnused, IsUnpulledOver, IsReadyToClose, AreApartDevices}
+use Rattle.clk_drain.proofs.Opened.{unused-opened, unpulled-opened}
 use Rattle.clk_drain.proofs.WholeRun.{HasEnded, has-ended, run-joined, answered-ok, answered-err}
 use Rattle.clk_drain.proofs.running.run_keeping.Given as given
 use Rattle.clk_drain.proofs.running.run_keeping.Goals as goal
-
-pub hand_out-requires : goal.hand_out-requires
-hand_out-requires g c =
-    let open_plan = c.in_ok-queues.field-0 in record {
-      fit = subst (λ queues. FitQueues (map (λ qs. qs.items) queues) open_plan.ends.items) (sym c.deref.ensures.value)
-          (fit-opened c.args.plan.now c.args.traces.now 0 (map (λ qs. qs.items) open_plan.queues.items) open_plan.ends.items c.in_ok-queues.ensures.opened);
-    }
 
 -- what all threads share
 abbrev terms_of : (traces : List (List Packet)) (step limit : ℕ) → Terms
@@ -26,40 +20,36 @@ terms_of traces step limit = record { traces = traces; step = step; limit = limi
 
 pub run_threads-requires-clause-unused : goal.run_threads-requires-clause-unused
 run_threads-requires-clause-unused g c κs within =
-    let open_plan = c.in_ok-queues.field-0 in
-    subst (λ (x : Terms × List SeatLists). AllByRecursion (IsUnused x.0) x.1) (λ i. (sym c.new-course.ensures i, sym c.in_ok-handed.ensures.producers i))
-    (unused-opened c.args.plan.now (terms_of c.args.traces.now c.args.step c.args.limit) 0 (map (λ qs. qs.items) open_plan.queues.items) open_plan.ends.items c.in_ok-queues.ensures.opened)
+    subst (λ (x : Terms × List (Vec LeafQueue Global)). FitPlaces (AreAllUnused x.0) c.in_ok-queues.field-0.seats.items x.1) (λ i. (sym c.new-course.ensures i, sym c.deref.ensures.value i))
+    (unused-opened c.args.plan.now (terms_of c.args.traces.now c.args.step c.args.limit) 0 _ _ _ _ c.in_ok-queues.ensures.opened)
 
 pub run_threads-requires-clause-unpulled : goal.run_threads-requires-clause-unpulled
 run_threads-requires-clause-unpulled g c κs within =
-    let open_plan = c.in_ok-queues.field-0 in
-    subst (AllByRecursion IsUnpulled) (sym (c.in_ok-handed.ensures.consumers ∙ ap (λ queues. feeds_from (map (λ qs. qs.items) queues) open_plan.ends.items) c.deref.ensures.value))
-    (unpulled-opened c.args.plan.now c.args.traces.now 0 (map (λ qs. qs.items) open_plan.queues.items) open_plan.ends.items c.in_ok-queues.ensures.opened)
+    subst (FitPlaces IsUnpulledOver c.in_ok-queues.field-0.ends.items) (sym c.deref.ensures.value) (unpulled-opened c.args.plan.now c.args.traces.now 0 _ _ _ _ c.in_ok-queues.ensures.opened)
 
 -- what the threads gave back
-ended : (g : given.Over) (c : goal.In_ok-ended g)
-    → HasEnded (keeps_visits c.args.keeps) c.args.plan.now (terms_of c.args.traces.now c.args.step c.args.limit) (map (λ qs. qs.items) c.in_ok-queues.field-0.queues.items) c.in_ok-queues.field-0.ends.items c.in_ok-ended.ended.closed.items c.in_ok-ended.ended.pulled.items
+ended : (g : given.Over) (c : goal.In_ok-sent g)
+    → HasEnded (keeps_visits c.args.keeps) c.args.plan.now (terms_of c.args.traces.now c.args.step c.args.limit) c.in_ok-queues.field-0.queues.items c.in_ok-queues.field-0.seats.items c.in_ok-queues.field-0.ends.items c.in_ok-sent.sent.devices.items c.in_ok-sent.sent.ends.items
 ended g c =
-    let open_plan = c.in_ok-queues.field-0 in
-    has-ended (keeps_visits c.args.keeps) c.args.plan.now (terms_of c.args.traces.now c.args.step c.args.limit) c.new-course.result c.senders.result.now (map (λ qs. qs.items) open_plan.queues.items) open_plan.ends.items c.in_ok-handed.handed.producers.items c.in_ok-handed.handed.consumers.items c.in_ok-ended.ended.closed.items c.in_ok-ended.ended.pulled.items
-    c.new-course.ensures c.senders.ensures.senders c.senders.ensures.rising c.count.ensures.within c.in_ok-queues.ensures.opened c.in_ok-queues.ensures.kept c.in_ok-handed.ensures.producers
-    (c.in_ok-handed.ensures.consumers ∙ ap (λ queues. feeds_from (map (λ qs. qs.items) queues) open_plan.ends.items) c.deref.ensures.value) c.in_ok-ended.ensures.sent c.in_ok-ended.ensures.pulled
+    let opened = c.in_ok-queues.field-0 in
+    has-ended (keeps_visits c.args.keeps) c.args.plan.now (terms_of c.args.traces.now c.args.step c.args.limit) c.new-course.result c.senders.result.now opened.queues.items c.deref.result.now opened.seats.items opened.ends.items c.in_ok-sent.sent.devices.items c.in_ok-sent.sent.ends.items
+    c.new-course.ensures c.deref.ensures.value c.senders.ensures.senders c.senders.ensures.rising c.count.ensures.within c.in_ok-queues.ensures.opened c.in_ok-queues.ensures.kept c.in_ok-sent.ensures.sent c.in_ok-sent.ensures.pulled
 
 pub join_devices-requires : goal.join_devices-requires
-join_devices-requires g c = record { joinable = (run-joined _ _ _ _ _ _ _ (ended g c)).joinable }
+join_devices-requires g c = record { joinable = (run-joined _ _ _ _ _ _ _ _ (ended g c)).joinable }
 
 pub close_devices-requires-clause-ready : goal.close_devices-requires-clause-ready
 close_devices-requires-clause-ready g c =
-    subst (λ (x : Terms × List Feed). AllByRecursion (IsReadyToClose x.0) x.1) (λ i. (sym c.new-course.ensures i, sym c.in_ok-closings.ensures.joined i)) (run-joined _ _ _ _ _ _ _ (ended g c.before.before.before.before)).ready
+    subst (λ (x : Terms × List Feed). AllByRecursion (IsReadyToClose x.0) x.1) (λ i. (sym c.new-course.ensures i, sym c.in_ok-closings.ensures.joined i)) (run-joined _ _ _ _ _ _ _ _ (ended g c.before.before.before.before)).ready
 
 pub close_devices-requires-clause-apart : goal.close_devices-requires-clause-apart
-close_devices-requires-clause-apart g c = subst AreApartDevices (sym c.in_ok-closings.ensures.joined) (run-joined _ _ _ _ _ _ _ (ended g c.before.before.before.before)).apart
+close_devices-requires-clause-apart g c = subst AreApartDevices (sym c.in_ok-closings.ensures.joined) (run-joined _ _ _ _ _ _ _ _ (ended g c.before.before.before.before)).apart
 
 pub returns-clause-outcome : goal.returns-clause-outcome
 returns-clause-outcome g c =
-    answered-ok _ _ _ c.new-course.result _ _ _ _ c.in_ok-closings.closings.items c.close_devices.result c.new-course.ensures c.in_ok-closings.ensures.joined (ended g c.before.before.before.before.before.before) c.close_devices.ensures.settled
+    answered-ok _ _ _ c.new-course.result _ _ _ _ _ c.in_ok-closings.closings.items c.close_devices.result c.new-course.ensures c.in_ok-closings.ensures.joined (ended g c.before.before.before.before.before.before.before.before) c.close_devices.ensures.settled
 
 pub returns-clause-fault : goal.returns-clause-fault
 returns-clause-fault g c =
     let known = subst (λ (senders : List SenderSpec). AreKnown (map number_of senders) c.args.traces.now) c.senders.ensures.senders c.in_ok-check_senders.ensures.known in
-    answered-err _ _ _ _ _ _ _ c.in_ok-closings.closings.items c.close_devices.result c.in_ok-closings.ensures.joined (ended g c.before.before.before.before.before.before) known c.close_devices.ensures.fault
+    answered-err _ _ _ _ _ _ _ _ c.in_ok-closings.closings.items c.close_devices.result c.in_ok-closings.ensures.joined (ended g c.before.before.before.before.before.before.before.before) known c.close_devices.ensures.fault

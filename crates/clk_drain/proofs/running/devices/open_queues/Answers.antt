@@ -1,7 +1,6 @@
-use Rattle.std.proofs.Common.{◌≡◌, ◌+◌, List, sym, ap, subst, arith, eq-eqb, ne_eqb, vec_items}
+use Rattle.std.proofs.Common.{◌≡◌, ◌+◌, sym, subst, arith, eq-eqb, ne_eqb}
 use Rattle.clk_tree.specs.PlanParts.{queued, queues_of}
-use Rattle.clk_drain.specs.declared.running.opening.LeafQueue.{LeafQueue}
-use Rattle.clk_drain.specs.inside.Handed.{EndLists}
+use Rattle.clk_drain.specs.declared.running.opening.OpenQueues.{OpenQueues}
 use Rattle.clk_drain.proofs.DeviceSteps.{IsQueueOf, AreOpening, queue-of, opened-more, opened-same}
 use Rattle.clk_drain.proofs.running.devices.open_queues.Goals.{then-queue-device+in_ok-open_queue, else-queue-device}
 use Rattle.clk_drain.proofs.running.devices.open_queues.Goals as goal
@@ -22,18 +21,16 @@ loop-queue-preserved c =
     let leaf = c.loop-queue.leaf in
     let planned = queues_of c.args.plan.now in
     let q = queued c.queue-item.result in
-    let session = c.args.ends.now.session in
-    let visits = c.args.ends.now.visits in
     let same : leaf ≡ c.loop-queue.queue-index = c.loop-queue.invariant.1 in
     let at : IsQueueOf planned leaf q =
     subst (λ n. IsQueueOf planned n q) (sym same) (queue-of plan.result.now planned c.loop-queue.queue-index c.queue-item.result plan.ensures.queues plan.ensures.capacities plan.ensures.senders (omega arith) c.queue-item.is) in
-    let opening : AreOpening c.args.traces.now c.args.device planned session visits c.if-queue-device.queues.items c.if-queue-device.ends (leaf + 1) =
+    let opening : AreOpening c.args.traces.now c.args.device planned c.if-queue-device.opened (leaf + 1) =
     elim c.if-queue-device.branch [
       | then-queue-device+in_ok-open_queue w ↦
-          subst (λ (p : List LeafQueue × EndLists). AreOpening c.args.traces.now c.args.device planned session visits p.0 p.1 (leaf + 1)) (λ i. (sym (ap vec_items w.queues-is) i, sym w.ends-is i))
-          (opened-more c.args.traces.now c.args.device leaf planned q session visits c.loop-queue.queues.items w.open_queue.new.queues.items c.loop-queue.ends w.open_queue.new.ends at.within at.is (eq-eqb q.device c.args.device w.if-queue-device.true) w.in_ok-open_queue.ensures.added c.loop-queue.invariant.0)
+          subst (λ (o : OpenQueues). AreOpening c.args.traces.now c.args.device planned o (leaf + 1)) (sym w.opened-is)
+          (opened-more c.args.traces.now c.args.device leaf planned q c.loop-queue.opened w.open_queue.new.opened at.within at.is (eq-eqb q.device c.args.device w.if-queue-device.true) w.in_ok-open_queue.ensures.added c.loop-queue.invariant.0)
       | else-queue-device w ↦
-          subst (λ (p : List LeafQueue × EndLists). AreOpening c.args.traces.now c.args.device planned session visits p.0 p.1 (leaf + 1)) (λ i. (sym (ap vec_items w.queues-is) i, sym w.ends-is i))
-          (opened-same c.args.traces.now c.args.device leaf planned q session visits c.loop-queue.queues.items c.loop-queue.ends at.within at.is (ne_eqb q.device c.args.device w.if-queue-device.false) c.loop-queue.invariant.0)
+          subst (λ (o : OpenQueues). AreOpening c.args.traces.now c.args.device planned o (leaf + 1)) (sym w.opened-is)
+          (opened-same c.args.traces.now c.args.device leaf planned q c.loop-queue.opened at.within at.is (ne_eqb q.device c.args.device w.if-queue-device.false) c.loop-queue.invariant.0)
     ] in
     (opening, omega (arith, same))

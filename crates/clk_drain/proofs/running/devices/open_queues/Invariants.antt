@@ -4,4 +4,4 @@ use Rattle.clk_drain.proofs.DeviceSteps.{AreOpening}
 use Rattle.clk_drain.proofs.running.devices.open_queues.Given as goal
 
 abbrev pub invariant-loop-queue : goal.invariant-loop-queue
-invariant-loop-queue l = AreOpening l.traces l.device (queues_of l.plan) l.initial.ends.session l.initial.ends.visits l.queues.items l.ends l.leaf × (l.leaf ≡ l.queue-index)
+invariant-loop-queue l = AreOpening l.traces l.device (queues_of l.plan) l.opened l.leaf × (l.leaf ≡ l.queue-index)

@@ -1,10 +1,7 @@
-use Rattle.std.proofs.Common.{map}
 use Rattle.std.specs.Vec.Iter.{into_iter_items}
 use Rattle.clk_drain.specs.inside.Handed.{joined_feeds}
 use Rattle.clk_drain.proofs.JoinSteps.{AreJoiningDevices}
 use Rattle.clk_drain.proofs.running.joining.join_devices.Given as goal
 
 abbrev pub invariant-loop-its_queues : goal.invariant-loop-its_queues
-invariant-loop-its_queues l =
-    AreJoiningDevices (joined_feeds (map (λ queues. queues.items) l.fn.queues.items) l.fn.pulled.items l.fn.closed.items)
-    l.closings.items (map (λ queues. queues.items) (into_iter_items l.its_queues-iterator)) (into_iter_items l.pulled) (into_iter_items l.closed)
+invariant-loop-its_queues l = AreJoiningDevices (joined_feeds l.fn.queues.items l.fn.ends.items l.fn.closed.items) l.closings.items (into_iter_items l.its_queues-iterator) (into_iter_items l.ends) (into_iter_items l.closed)

@@ -2,7 +2,7 @@ use Rattle.std.proofs.Common.{sym, ◌∙◌}
 use Rattle.std.specs.Vec.Iter.{into_iter_items}
 use Rattle.std.proofs.lemmas.List.{nil_from_length}
 use Rattle.clk_drain.proofs.HandSteps.{made-all}
-use Rattle.clk_drain.proofs.running.handing.open_lines_for.Goals as goal
+use Rattle.clk_drain.proofs.running.open_lines.open_lines_for.Goals as goal
 
 pub returns-clause-open_lines : goal.returns-clause-open_lines
 returns-clause-open_lines c =
