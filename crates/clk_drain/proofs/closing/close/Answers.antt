@@ -1,12 +1,9 @@
 use Rattle.std.proofs.Common.{drop, sym, ap, ◌∙◌, subst, arith}
 use Rattle.std.proofs.lemmas.Result.{err_from_is_err_and}
-use Rattle.std.specs.List.{AllByRecursion}
-use Rattle.clk_sched.specs.Closing.{left_in}
 use Rattle.clk_sched.specs.Keeps.{keeps_visits}
 use Rattle.clk_sched.specs.Session.{progress_of}
 use Rattle.clk_drain.specs.Line.{AreLinesOf}
 use Rattle.clk_drain.specs.Closing.{accepted_over, left_over}
-use Rattle.clk_drain.specs.inside.Parts.{IsGathered, held_at}
 use Rattle.clk_drain.proofs.Still.{still-accepted, gathered-lines}
 use Rattle.clk_drain.proofs.Left.{fault-unsettled, drained-reached}
 use Rattle.clk_drain.proofs.Closed.{drained-over, tells-still, emitted-told}
@@ -15,9 +12,6 @@ use Rattle.clk_drain.proofs.closing.close.Goals as goal
 pub left-left-requires-clause-lines : goal.left-left-requires-clause-lines
 left-left-requires-clause-lines g c =
     subst (AreLinesOf (progress_of c.args.session)) (sym c.deref.ensures.value) (gathered-lines (progress_of c.args.session) c.args.lines.items c.gathered-lines.result.items c.gathered-lines.ensures c.requires.lines)
-
-pub left-left-requires-clause-gathered : goal.left-left-requires-clause-gathered
-left-left-requires-clause-gathered g c = subst (AllByRecursion IsGathered) (sym c.deref.ensures.value) c.gathered-lines.ensures.all
 
 pub left-left-requires-clause-few : goal.left-left-requires-clause-few
 left-left-requires-clause-few g c = let same = ap accepted_over c.deref.ensures.value ∙ still-accepted c.args.lines.items c.gathered-lines.result.items c.gathered-lines.ensures.still in omega (arith, same, c.requires.few)
@@ -29,9 +23,6 @@ pub drain-requires-clause-few : goal.drain-requires-clause-few
 drain-requires-clause-few g c =
     let same = ap accepted_over c.deref.ensures.value ∙ still-accepted c.args.lines.items c.gathered-lines.result.items c.gathered-lines.ensures.still in
     let over = c.left-left.ensures.over in omega (arith, over, same, c.requires.few)
-
-pub drain-requires-clause-left : goal.drain-requires-clause-left
-drain-requires-clause-left g c = c.left-left.ensures.held ∙ ap (λ lines. left_in c.args.session.tree c.args.session.log (held_at lines)) c.deref.ensures.value
 
 pub returns-in_err-tallies-clause-fault : goal.returns-in_err-tallies-clause-fault
 returns-in_err-tallies-clause-fault g c =

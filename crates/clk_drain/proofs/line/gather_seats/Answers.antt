@@ -1,9 +1,6 @@
 use Rattle.std.proofs.Common.{arith}
-use Rattle.clk_drain.proofs.GatherSteps.{gathering-more, of-tap-at, gathered-all}
+use Rattle.clk_drain.proofs.GatherSteps.{gathering-more, gathered-all}
 use Rattle.clk_drain.proofs.line.gather_seats.Goals as goal
-
-pub gather-requires-clause-seat : goal.gather-requires-clause-seat
-gather-requires-clause-seat c = of-tap-at c.args.queue.now c.args.tap.now c.args.closed.now c.loop-seat.tap c.loop-seat.seat-items c.loop-seat.seat-index c.loop-seat.seat-index c.seat-item.result c.calls_keep_together.ensures (omega arith) c.loop-seat.invariant
 
 pub loop-seat-preserved : goal.loop-seat-preserved
 loop-seat-preserved c =

@@ -27,9 +27,6 @@ returns-in-Some-clause-pulled g c = (asked g c).pulls
 pub returns-in-Some-clause-missing : goal.returns-in-Some-clause-missing
 returns-in-Some-clause-missing g c none = absurd (true≢false (sym (asked g c).has ∙ none))
 
-pub returns-in-Some-clause-gathered : goal.returns-in-Some-clause-gathered
-returns-in-Some-clause-gathered g c all = (taken g c all).gathered
-
 pub returns-in-Some-clause-takes : goal.returns-in-Some-clause-takes
 returns-in-Some-clause-takes g c all = (taken g c all).takes
 
