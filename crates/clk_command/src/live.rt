@@ -5,7 +5,6 @@ ghost use Rattle.clk_packet.specs.Bytes.{Takes, read_failures, write_failures};
 ghost use Rattle.clk_packet.specs.Trace.{most_trace_bytes};
 ghost use Rattle.clk_packet.specs.Written.{WroteWhat};
 ghost use Rattle.clk_packet.specs.declared.fault.Fault.TheVariants.{Memory, Write};
-ghost use Rattle.clk_report.specs.Devices.{lists_of};
 ghost use Rattle.clk_script.specs.Meaning.{MeansOverWith, ending_text};
 ghost use Rattle.clk_live_run.specs.Recorded.{failures_with};
 ghost use Rattle.clk_command.specs.Running.{EndsIn, ExplainsLive, HasRecord, LiveWrites};
@@ -16,9 +15,8 @@ use clk_gate::Free;
 use clk_live::Live;
 use clk_live_run::{LiveOutcome, report_accounts, run_live};
 use clk_packet::{Fault, FromRead, Sink, Source, ToWrite, Traces};
-use clk_sched::Visit;
 use clk_script::{
-    plans_have_at_most_one_meaning, records_of_plans_mean_their_course, run_script_logged,
+    Replay, plans_have_at_most_one_meaning, records_of_plans_mean_their_course, run_script_logged,
 };
 use clk_tree::Plan;
 use std::alloc::Global;
@@ -81,12 +79,12 @@ pub fn live_trace<H: Threads + Wait, P: Wait + Sync, S: Source, W: Sink, R: Sink
     Ok((sink, write_failed))
 }
 
-/// A run that was recorded in memory, and the logs of its record.
+/// A run that was recorded in memory, and the `Replay` that writes the visits of its record.
 #[derive(Drop)]
 pub struct Replayed {
     pub live: Live,
     pub kept: Kept,
-    pub logs: Vec<Vec<Visit>>,
+    pub replay: Replay,
 }
 
 /// Reads a trace to its end, runs it over a plan through inlets, and replays the record of the run.
@@ -103,7 +101,7 @@ pub fn replayed_trace<H: Threads + Wait, P: Wait + Sync, S: Source>(
     pace: Pace,
 ) -> Result<Replayed, Fault>
     ensures writes { IfOk result (λ run. LiveWrites plan.now pace (S.Source.remaining trace.old) true (ending_text run.live.course.setup (Some 0) run.live.course.events) run.kept.bytes.items) }
-    ensures replayed { IfOk result (λ run. EndsIn plan.now run.kept.bytes.items (ending_text run.live.course.setup (Some 0) run.live.course.events) (lists_of run.logs.items)) }
+    ensures replayed { IfOk result (λ run. EndsIn plan.now run.kept.bytes.items (ending_text run.live.course.setup (Some 0) run.live.course.events) run.replay) }
     ensures fault { IfErr result (ExplainsLive plan.now (S.Source.remaining trace.old) pace.limit true) }
     ensures not_write { IfErr result (λ fault. fault ≢ Write) }
     ensures read_failures { S.Source.failures trace.new ≡ read_failures result (S.Source.failures trace.old) }
@@ -133,26 +131,26 @@ pub fn replayed_trace<H: Threads + Wait, P: Wait + Sync, S: Source>(
     // These laws, which do nothing, say what the record means, and that it means nothing else.
     records_of_plans_mean_their_course(plan);
     plans_have_at_most_one_meaning(plan);
-    let logs = replay(alloc, plan, &sink.bytes)?;
+    let replay = replay(alloc, plan, &sink.bytes)?;
     Ok(Replayed {
         live,
         kept: sink,
-        logs,
+        replay,
     })
 }
 
-/// Replays a record, and returns its logs.
+/// Carries out a record, and returns a `Replay`, which writes its visits.
 ///
 /// # Errors
 ///
 /// Fault 1 if an allocation fails. There is no other fault: the record has none, and stands in memory.
-fn replay(alloc: Global, plan: &Plan, script: &[u8]) -> Result<Vec<Vec<Visit>>, Fault>
-    ensures logs { IfOk result (λ logs. (text : _) × MeansOverWith plan.now script.now text (lists_of logs.items)) }
+fn replay(alloc: Global, plan: &Plan, script: &[u8]) -> Result<Replay, Fault>
+    ensures logs { IfOk result (λ replay. (text : _) × MeansOverWith plan.now script.now text replay) }
     ensures fault { IsOkUnless result Memory }
 {
     let mut nowhere = ToWrite::new(io::sink());
     match run_script_logged(alloc, &mut FromRead::new(script), &mut nowhere, plan) {
-        Ok(logs) => Ok(logs),
+        Ok(replay) => Ok(replay),
         Err(_) => Err(Fault::Memory),
     }
 }

@@ -5,7 +5,6 @@ ghost use Rattle.std.specs.Io.KnownBytes.{Appends};
 ghost use Rattle.clk_packet.specs.Bytes.{AppendsFront, Takes, read_failures, write_failures};
 ghost use Rattle.clk_packet.specs.Trace.{most_trace_bytes};
 ghost use Rattle.clk_packet.specs.declared.fault.Fault.TheVariants.{Write};
-ghost use Rattle.clk_report.specs.Devices.{lists_of};
 ghost use Rattle.clk_report.specs.VisitCsv.{visits_text};
 ghost use Rattle.clk_sched.specs.Packed.{logged};
 ghost use Rattle.clk_script.specs.Meaning.{ending_text};
@@ -21,8 +20,8 @@ use crate::running::run_trace;
 use clk_live_run::report_accounts;
 use clk_packet::{Fault, Sink, Source, read_up_to, write_all};
 use clk_report::visits_csv;
-use clk_sched::{PackedLog, Visit};
-use clk_script::{run_script, run_script_logged};
+use clk_sched::PackedLog;
+use clk_script::{Replay, run_script, run_script_logged};
 use clk_syntax::MAX_TREE_BYTES;
 use clk_tree::Plan;
 use std::alloc::Global;
@@ -120,18 +119,18 @@ pub fn script_with_visits<T: Source, S: Source, W: Sink, V: Sink>(
     // The script is unchanged, unless the tree was read.
     ensures script_unread { (script.new ≡ script.old) ⊎ WasTreeRead (T.Source.remaining tree.old) (T.Source.failures tree.old) (T.Source.failures tree.new) }
 {
-    let logs = script_logged(alloc, tree, script, writer)?;
-    visits_csv(&logs, visits)
+    let replay = script_logged(alloc, tree, script, writer)?;
+    replay.write(visits)
 }
 
-/// Runs a script over a tree as `script_over` does, with its faults. Returns the log of each device.
+/// Runs a script over a tree as `script_over` does, with its faults. Returns a `Replay`, which writes its visits.
 pub fn script_logged<T: Source, S: Source, W: Sink>(
     alloc: Global,
     tree: &mut T,
     script: &mut S,
     writer: &mut W,
-) -> Result<Vec<Vec<Visit>>, Fault>
-    ensures wrote { WroteWhat (λ text. (visits : _) × IfOk result (λ logs. visits_text (lists_of logs.items) ≡ visits)
+) -> Result<Replay, Fault>
+    ensures wrote { WroteWhat (λ text. (visits : _) × IfOk result (λ replay. visits_text replay ≡ visits)
         × WritesWithVisits (T.Source.remaining tree.old) (S.Source.remaining script.old) text visits)
         result (W.Sink.taken writer.old) (W.Sink.taken writer.new) }
     ensures fault { IfErr result (ExplainsScriptOver (T.Source.remaining tree.old) (S.Source.remaining script.old)) }
@@ -332,10 +331,9 @@ pub fn live_with_visits<
     ensures trace_unread { (trace.new ≡ trace.old) ⊎ WasTreeRead (T.Source.remaining tree.old) (T.Source.failures tree.old) (T.Source.failures tree.new) }
 {
     let run = live_replayed(rt, alloc, wait, tree, trace, pace)?;
-    let Replayed { live, kept, logs } = run;
-    report_accounts(live.router(), writer)?;
-    write_all(script, &kept.bytes)?;
-    visits_csv(&logs, visits)
+    report_accounts(run.live.router(), writer)?;
+    write_all(script, &run.kept.bytes)?;
+    run.replay.write(visits)
 }
 
 /// Runs a trace through inlets over a tree, and replays the record of the run. Writes nothing.
@@ -352,7 +350,7 @@ pub fn live_replayed<H: Threads + Wait, P: Wait + Sync, T: Source, S: Source>(
     pace: Pace,
 ) -> Result<Replayed, Fault>
     ensures lives { IfOk result (λ run. LivesWithVisits (T.Source.remaining tree.old) (S.Source.remaining trace.old) pace
-        (ending_text run.live.course.setup (Some 0) run.live.course.events) run.kept.bytes.items (visits_text (lists_of run.logs.items))) }
+        (ending_text run.live.course.setup (Some 0) run.live.course.events) run.kept.bytes.items (visits_text run.replay)) }
     ensures fault { IfErr result (ExplainsLiveOver (T.Source.remaining tree.old) (S.Source.remaining trace.old) pace.limit true) }
     ensures not_write { IfErr result (λ fault. fault ≢ Write) }
     // A read of one of the two failed exactly if the fault is 19.

@@ -44,8 +44,8 @@ pub fn script_then_visits<T: Source, S: Source, W: Sink>(
     // The script is unchanged, unless the tree was read.
     ensures script_unread { (script.new ≡ script.old) ⊎ WasTreeRead (T.Source.remaining tree.old) (T.Source.failures tree.old) (T.Source.failures tree.new) }
 {
-    let logs = script_logged(alloc, tree, script, writer)?;
-    visits_csv(&logs, writer)
+    let replay = script_logged(alloc, tree, script, writer)?;
+    replay.write(writer)
 }
 
 /// Runs a trace over a tree as `run_over` does, and writes its visits after the report to the same sink, as CSV.
@@ -117,8 +117,7 @@ pub fn live_then_visits<H: Threads + Wait, P: Wait + Sync, T: Source, S: Source,
     ensures trace_unread { (trace.new ≡ trace.old) ⊎ WasTreeRead (T.Source.remaining tree.old) (T.Source.failures tree.old) (T.Source.failures tree.new) }
 {
     let run = live_replayed(rt, alloc, wait, tree, trace, pace)?;
-    let Replayed { live, kept, logs } = run;
-    report_accounts(live.router(), writer)?;
-    write_all(script, &kept.bytes)?;
-    visits_csv(&logs, writer)
+    report_accounts(run.live.router(), writer)?;
+    write_all(script, &run.kept.bytes)?;
+    run.replay.write(writer)
 }

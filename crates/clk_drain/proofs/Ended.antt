@@ -1,7 +1,7 @@
 -- Threads are started for the last of what is left, and end one after another.
 use Rattle.std.proofs.Common.{◌≡◌, ℕ, ◌+◌, ◌<◌, List, [], ◌∷◌, ◌++◌, length, get_or, sym, ap, ◌∙◌, subst, arith, Vec}
 use Rattle.std.specs.declared.alloc.Global.{Global}
-use Rattle.std.specs.List.{AllByRecursion}
+use Rattle.std.specs.List.{AllByRecursion, AllZip}
 use Rattle.std.proofs.lemmas.List.{length-append, get_or_default}
 use Rattle.clk_packet.specs.declared.packet.Packet.{Packet}
 use Rattle.clk_packet.specs.Trace.{sent_by}
@@ -9,7 +9,7 @@ use Rattle.clk_ruled.specs.Queue.{SeatLists, ClosedLists}
 use Rattle.clk_ruled.specs.Closing.{IsClosedOf}
 use Rattle.clk_drain.specs.declared.running.opening.LeafQueue.{LeafQueue}
 use Rattle.clk_drain.specs.Closing.{AreOffered}
-use Rattle.clk_drain.specs.inside.Threads.{Terms, InPairs, IsUnused, HasSentAll, EndLists, Feed, IsPulled}
+use Rattle.clk_drain.specs.inside.Threads.{Terms, IsUnused, HasSentAll, EndLists, Feed, IsPulled}
 use Rattle.clk_drain.specs.inside.Handed.{FitPlaces, AreUnused, AreAllUnused, AreLeft, feed_from, pulled_of, IsUnpulledOver, IsPulledOver, HavePulled}
 use Rattle.clk_drain.proofs.Tallies.{all-split}
 
@@ -19,14 +19,14 @@ sent-all terms traces own seat closed same is h =
     let here = subst (λ (x : List (List Packet) × SeatLists). IsClosedOf x.1 closed × AreOffered (sent_by x.0 x.1.sender) closed.lists) (λ i. (same i, is i)) h in record { closed = here.0; sent = here.1 }
 
 -- One pair more.
-pairs-more : {X Y : Type 0} (Holds : X → Y → Type 0) (xs : List X) (x : X) (ys : List Y) (y : Y) → InPairs Holds xs ys → Holds x y → InPairs Holds (xs ++ x ∷ []) (ys ++ y ∷ [])
+pairs-more : {X Y : Type 0} (Holds : X → Y → Type 0) (xs : List X) (x : X) (ys : List Y) (y : Y) → AllZip Holds xs ys → Holds x y → AllZip Holds (xs ++ x ∷ []) (ys ++ y ∷ [])
 pairs-more Holds [] x [] y are is = (is, tt)
 pairs-more Holds [] x (z ∷ ys) y are is = absurd are
 pairs-more Holds (z ∷ xs) x [] y are is = absurd are
 pairs-more Holds (z ∷ xs) x (w ∷ ys) y are is = (are.0, pairs-more Holds xs x ys y are.1 is)
 
-pub pairs-of : {X Y : Type 0} (Holds : X → Y → Type 0) (all xs : List X) (x : X) (more ys : List Y) (y : Y) → all ≡ xs ++ x ∷ [] → more ≡ ys ++ y ∷ [] → InPairs Holds xs ys → Holds x y → InPairs Holds all more
-pairs-of {X} {Y} Holds all xs x more ys y all_is more_is are is = subst (λ (p : List X × List Y). InPairs Holds p.0 p.1) (λ i. (sym all_is i, sym more_is i)) (pairs-more Holds xs x ys y are is)
+pub pairs-of : {X Y : Type 0} (Holds : X → Y → Type 0) (all xs : List X) (x : X) (more ys : List Y) (y : Y) → all ≡ xs ++ x ∷ [] → more ≡ ys ++ y ∷ [] → AllZip Holds xs ys → Holds x y → AllZip Holds all more
+pairs-of {X} {Y} Holds all xs x more ys y all_is more_is are is = subst (λ (p : List X × List Y). AllZip Holds p.0 p.1) (λ i. (sym all_is i, sym more_is i)) (pairs-more Holds xs x ys y are is)
 
 -- One consumer more has pulled.
 pub pulled-more : (terms : Terms) (ends : List EndLists) (e : EndLists) (pulled : List EndLists) (p : EndLists) (queues : List (Vec LeafQueue Global)) → HavePulled terms ends pulled queues → length ends < length queues
@@ -141,5 +141,5 @@ pub seat-at : (terms : Terms) (all : List (Vec LeafQueue Global)) (devices : Vec
 seat-at terms all devices queues more s device place its at device_is its_read place_is at_read h =
     subst (λ (x : LeafQueue). IsUnused terms x.queue s) (sym (at_read ∙ (λ i. get_or ((its_read ∙ ap (λ n. get_or all n its) device_is) i).items (place_is i) at))) (h.unused its at)
 
-pub pairs-none : {X Y : Type 0} (Holds : X → Y → Type 0) (xs : List X) (ys : List Y) → xs ≡ [] → ys ≡ [] → InPairs Holds xs ys
-pairs-none {X} {Y} Holds xs ys no_xs no_ys = subst (λ (x : List X × List Y). InPairs Holds x.0 x.1) (λ i. (sym no_xs i, sym no_ys i)) tt
+pub pairs-none : {X Y : Type 0} (Holds : X → Y → Type 0) (xs : List X) (ys : List Y) → xs ≡ [] → ys ≡ [] → AllZip Holds xs ys
+pairs-none {X} {Y} Holds xs ys no_xs no_ys = subst (λ (x : List X × List Y). AllZip Holds x.0 x.1) (λ i. (sym no_xs i, sym no_ys i)) tt

@@ -2,7 +2,7 @@
 use Rattle.std.proofs.Common.{◌≡◌, ℕ, ◌*◌, ◌≤◌, Bool, true≢false, true, List, [], ◌∷◌, ◌++◌, map, refl, sym, ap, ◌∙◌, subst, arith, Vec}
 use Rattle.std.specs.declared.alloc.Global.{Global}
 use Rattle.std.specs.Prelude.{⊤}
-use Rattle.std.specs.List.{flat_map, AllByRecursion}
+use Rattle.std.specs.List.{flat_map, AllByRecursion, AllZip}
 use Rattle.clk_packet.specs.declared.packet.Packet.{Packet}
 use Rattle.clk_packet.specs.Trace.{sent_by, packets_in}
 use Rattle.clk_packet.specs.Lists.{are_distinct}
@@ -18,7 +18,7 @@ use Rattle.clk_drain.specs.Outcome.{SharedQueue}
 use Rattle.clk_drain.specs.Closing.{queue_of_line, AreOffered, HasSent}
 use Rattle.clk_drain.specs.inside.Parts.{taken_at}
 use Rattle.clk_drain.specs.Moments.{steps}
-use Rattle.clk_drain.specs.inside.Threads.{Terms, InPairs, HasSentAll, HaveSentAll, EndLists, Feed, IsPulled}
+use Rattle.clk_drain.specs.inside.Threads.{Terms, HasSentAll, HaveSentAll, EndLists, Feed, IsPulled}
 use Rattle.clk_drain.specs.inside.Handed.{lines_from, feed_from, HasDeviceSent, HavePulled, joined_lines, AreJoinable, joined_feeds, AreAllJoinable, IsReadyToClose, AreApartDevices}
 use Rattle.clk_drain.specs.inside.Devices.{KeepVisits}
 use Rattle.clk_drain.specs.inside.Opening.{rooms_for, setup_for, IsOpenAs, AreOpenAs}
@@ -32,19 +32,19 @@ use Rattle.clk_drain.proofs.TraceSums.{accepted-over-within}
 abbrev room_of : SeatLists → ℕ × ℕ
 room_of l = (l.sender, l.room)
 
-same-rooms : (terms : Terms) (seats : List SeatLists) (closed : List ClosedLists) → InPairs (HasSentAll terms) seats closed → map room_of (lists_of closed) ≡ map room_of seats
+same-rooms : (terms : Terms) (seats : List SeatLists) (closed : List ClosedLists) → AllZip (HasSentAll terms) seats closed → map room_of (lists_of closed) ≡ map room_of seats
 same-rooms terms [] [] h = refl
 same-rooms terms [] (c ∷ closed) h = absurd h
 same-rooms terms (s ∷ seats) [] h = absurd h
 same-rooms terms (s ∷ seats) (c ∷ closed) h = λ i. (h.0.closed.0.2 i, h.0.closed.0.3 i) ∷ same-rooms terms seats closed h.1 i
 
-same-senders : (terms : Terms) (seats : List SeatLists) (closed : List ClosedLists) → InPairs (HasSentAll terms) seats closed → senders_at (lists_of closed) ≡ senders_at seats
+same-senders : (terms : Terms) (seats : List SeatLists) (closed : List ClosedLists) → AllZip (HasSentAll terms) seats closed → senders_at (lists_of closed) ≡ senders_at seats
 same-senders terms [] [] h = refl
 same-senders terms [] (c ∷ closed) h = absurd h
 same-senders terms (s ∷ seats) [] h = absurd h
 same-senders terms (s ∷ seats) (c ∷ closed) h = λ i. h.0.closed.0.2 i ∷ same-senders terms seats closed h.1 i
 
-each-sent : (terms : Terms) (seats : List SeatLists) (closed : List ClosedLists) → InPairs (HasSentAll terms) seats closed → AllByRecursion (HasSent (sent_by terms.traces)) (lists_of closed)
+each-sent : (terms : Terms) (seats : List SeatLists) (closed : List ClosedLists) → AllZip (HasSentAll terms) seats closed → AllByRecursion (HasSent (sent_by terms.traces)) (lists_of closed)
 each-sent terms [] [] h = tt
 each-sent terms [] (c ∷ closed) h = absurd h
 each-sent terms (s ∷ seats) [] h = absurd h
@@ -54,7 +54,7 @@ each-sent terms (s ∷ seats) (c ∷ closed) h = (subst (λ n. AreOffered (sent_
 abbrev IsBeside : TapLists → SeatLists → Type 0
 IsBeside tap s = (s.id ≡ tap.id) × (s.setup ≡ tap.setup)
 
-each-of-tap : (terms : Terms) (tap : TapLists) (seats : List SeatLists) (closed : List ClosedLists) → AllByRecursion (IsBeside tap) seats → InPairs (HasSentAll terms) seats closed → AreOfTap tap closed
+each-of-tap : (terms : Terms) (tap : TapLists) (seats : List SeatLists) (closed : List ClosedLists) → AllByRecursion (IsBeside tap) seats → AllZip (HasSentAll terms) seats closed → AreOfTap tap closed
 each-of-tap terms tap [] [] own h = tt
 each-of-tap terms tap [] (c ∷ closed) own h = absurd h
 each-of-tap terms tap (s ∷ seats) [] own h = absurd h
@@ -82,7 +82,7 @@ record IsJoined (terms : Terms) (q : SharedQueue) (queue : Queue) (l : LineLists
   queue_is : queue_of_line l ≡ q
   sent : AllByRecursion (HasSent (sent_by terms.traces)) (seats_of l)
 
-line-joined : (terms : Terms) (q : SharedQueue) (at : LeafQueue) (t : TapLists) (seats : List SeatLists) (more : List Packet) (closed : List ClosedLists) → IsOpenAs terms.traces q at t seats → InPairs (HasSentAll terms) seats closed
+line-joined : (terms : Terms) (q : SharedQueue) (at : LeafQueue) (t : TapLists) (seats : List SeatLists) (more : List Packet) (closed : List ClosedLists) → IsOpenAs terms.traces q at t seats → AllZip (HasSentAll terms) seats closed
     → IsJoined terms q at.queue (record { leaf = at.leaf; tap = taking_all t more; closed = closed })
 line-joined terms q at t seats more closed opened h =
     let setup : Setup = setup_for terms.traces q in
@@ -112,7 +112,7 @@ abbrev pub taps_of : List LineLists → List TapLists
 taps_of lines = map (λ (l : LineLists). l.tap) lines
 
 pub device-joined : (terms : Terms) (gave : ℕ → List Packet) (shared : List SharedQueue) (queues : List LeafQueue) (taps : List TapLists) (seats : List (Vec SeatLists Global)) (closed : List (Vec ClosedLists Global))
-    → AreOpenAs terms.traces shared queues taps seats → InPairs (HaveSentAll terms) seats closed → AreJoined terms shared queues (taps_of (pulling_all gave (lines_from queues taps))) closed (pulling_all gave (lines_from queues taps))
+    → AreOpenAs terms.traces shared queues taps seats → AllZip (HaveSentAll terms) seats closed → AreJoined terms shared queues (taps_of (pulling_all gave (lines_from queues taps))) closed (pulling_all gave (lines_from queues taps))
 device-joined terms gave [] [] [] [] [] are h = record { joinable = tt; queues_are = refl; sent = tt; taken = refl }
 device-joined terms gave [] [] [] [] (c ∷ closed) are h = absurd h
 device-joined terms gave (q ∷ shared) (at ∷ queues) (t ∷ taps) (s ∷ seats) [] are h = absurd h
@@ -139,7 +139,7 @@ pub record IsJoinedFeed (terms : Terms) (shared : List SharedQueue) (e : EndList
   pub counted : counted_moment f.session ≡ made * terms.step
 
 pub feed-joined : (terms : Terms) (shared : List SharedQueue) (queues : List LeafQueue) (seats : List (Vec SeatLists Global)) (e : EndLists) (closed : List (Vec ClosedLists Global)) (f : Feed) → AreOpenAs terms.traces shared queues e.taps seats
-    → InPairs (HaveSentAll terms) seats closed → IsPulled terms (feed_from queues e) f
+    → AllZip (HaveSentAll terms) seats closed → IsPulled terms (feed_from queues e) f
     → AreJoinable queues (taps_of f.lines) closed × IsJoinedFeed terms shared e (record { session = f.session; visits = f.visits; lines = joined_lines queues (taps_of f.lines) closed })
 feed-joined terms shared queues seats e closed f opened h pulled =
     let is = pulled.2 in
@@ -171,7 +171,7 @@ AreJoinedFeeds terms [] [] [] = ⊤
 AreJoinedFeeds terms (shared ∷ all) (e ∷ ends) (f ∷ feeds) = IsJoinedFeed terms shared e f × AreJoinedFeeds terms all ends feeds
 AreJoinedFeeds terms all ends feeds = ⊥
 
-pub all-joined : (terms : Terms) (all : List (List SharedQueue)) (queues : List (Vec LeafQueue Global)) (seats : List (Vec (Vec SeatLists Global) Global)) (ends pulled : List EndLists) (closed : List (Vec (Vec ClosedLists Global) Global)) → AreAllOpenAs terms.traces all queues seats ends → InPairs (HasDeviceSent terms) seats closed
+pub all-joined : (terms : Terms) (all : List (List SharedQueue)) (queues : List (Vec LeafQueue Global)) (seats : List (Vec (Vec SeatLists Global) Global)) (ends pulled : List EndLists) (closed : List (Vec (Vec ClosedLists Global) Global)) → AreAllOpenAs terms.traces all queues seats ends → AllZip (HasDeviceSent terms) seats closed
     → HavePulled terms ends pulled queues → AreAllJoinable queues pulled closed × AreJoinedFeeds terms all ends (joined_feeds queues pulled closed)
 all-joined terms [] [] [] [] [] [] opened h over = (tt, tt)
 all-joined terms [] [] [] [] [] (c ∷ closed) opened h over = absurd h

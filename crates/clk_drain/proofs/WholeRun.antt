@@ -1,6 +1,6 @@
 -- What a run comes to, from what each of its parts says.
 use Rattle.std.proofs.Common.{◌≡◌, ℕ, ◌≤◌, Bool, true, List, [], ◌∷◌, length, map, Result, Ok, Err, IfOk, IfErr, refl, sym, ap, ◌∙◌, subst, Vec}
-use Rattle.std.specs.List.{AllByRecursion}
+use Rattle.std.specs.List.{AllByRecursion, AllZip}
 use Rattle.std.specs.declared.alloc.Global.{Global}
 use Rattle.clk_packet.specs.declared.packet.Packet.{Packet}
 use Rattle.clk_packet.specs.Trace.{packets_in}
@@ -18,7 +18,7 @@ use Rattle.clk_sched.specs.Packed.{logged}
 use Rattle.clk_drain.specs.declared.outcome.Outcome.{Outcome}
 use Rattle.clk_sched.specs.declared.session.packed.PackedLog.{PackedLog}
 use Rattle.clk_drain.specs.declared.running.opening.LeafQueue.{LeafQueue}
-use Rattle.clk_drain.specs.inside.Threads.{Terms, InPairs, EndLists, Feed}
+use Rattle.clk_drain.specs.inside.Threads.{Terms, EndLists, Feed}
 use Rattle.clk_drain.specs.inside.Handed.{HasDeviceSent, HavePulled, AreAllJoinable, IsReadyToClose, AreApartDevices, AreKeptLogs, AreSettledTogether, IsFaultOfClosing, joined_feeds}
 use Rattle.clk_gate.specs.Known.{senders_in, AreKnown}
 use Rattle.clk_drain.specs.Run.{IsRunWith, IsRunOutcome, IsKeptRun, IsFaultOfRun}
@@ -35,19 +35,19 @@ pub record HasEnded (visits : Bool) (plan : List Planned) (terms : Terms) (queue
   pub kept : AllByRecursion (KeepVisits visits) ends
   pub rising : AreRising (map number_of (senders_of plan))
   pub few : packets_in terms.traces ≤ most_left
-  pub sent : InPairs (HasDeviceSent terms) seats closed
+  pub sent : AllZip (HasDeviceSent terms) seats closed
   pub pulled_over : HavePulled terms ends pulled queues
 
 -- So it is where `course` and `lent` are the terms and the queues that the threads share.
 pub has-ended : (visits : Bool) (plan : List Planned) (terms course : Terms) (senders : List SenderSpec) (queues lent : List (Vec LeafQueue Global)) (seats : List (Vec (Vec SeatLists Global) Global)) (ends : List EndLists) (closed : List (Vec (Vec ClosedLists Global) Global)) (pulled : List EndLists)
     → course ≡ terms → lent ≡ queues → senders ≡ senders_of plan → AreRising (map number_of senders) → packets_in terms.traces ≤ most_left → AreOpenFrom plan terms.traces 0 (device_count plan) queues seats ends → AllByRecursion (KeepVisits visits) ends
-    → InPairs (HasDeviceSent course) seats closed → HavePulled course ends pulled lent → HasEnded visits plan terms queues seats ends closed pulled
+    → AllZip (HasDeviceSent course) seats closed → HavePulled course ends pulled lent → HasEnded visits plan terms queues seats ends closed pulled
 has-ended visits plan terms course senders queues lent seats ends closed pulled same are own rising few opened kept sent over = record {
   opened = opened;
   kept = kept;
   rising = subst (λ (ss : List SenderSpec). AreRising (map number_of ss)) own rising;
   few = few;
-  sent = subst (λ (t : Terms). InPairs (HasDeviceSent t) seats closed) same sent;
+  sent = subst (λ (t : Terms). AllZip (HasDeviceSent t) seats closed) same sent;
   pulled_over = subst (λ (x : Terms × List (Vec LeafQueue Global)). HavePulled x.0 ends pulled x.1) (λ i. (same i, are i)) over;
 }
 

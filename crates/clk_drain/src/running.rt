@@ -63,12 +63,7 @@ pub fn run<R: Threads + Wait, W: Wait + Sync, G: Gate + Sync>(
     ensures known { IfOk result (λ _. AreKnown (senders_in plan.now) traces.now) }
     ensures fault { IfErr result (IsFaultOfRun plan.now traces.now) }
 {
-    let keeps = Keeps {
-        visits: true,
-        packed: false,
-        packets: true,
-    };
-    run_keeping(rt, alloc, wait, plan, traces, step, limit, gate, keeps)?.unpack(alloc)
+    run_keeping(rt, alloc, wait, plan, traces, step, limit, gate, Keeps::ALL)?.unpack(alloc)
 }
 
 /// Runs a plan over a trace as `run` does. If `visits` is true it keeps visits packed, in seven tenths of the memory. Otherwise it keeps
@@ -100,6 +95,7 @@ pub fn run_with<R: Threads + Wait, W: Wait + Sync, G: Gate + Sync>(
         visits: false,
         packed: visits,
         packets: !visits,
+        latest: false,
     };
     let outcome = run_keeping(rt, alloc, wait, plan, traces, step, limit, gate, keeps)?;
     Ok(kept(alloc, outcome, visits))

@@ -62,7 +62,7 @@ module _ (setup : Setup) (events : List Event) (parts : Parts) (stand : Stand se
       path : slice_get parts.paths.items s.queue ≡ Some device
       path = slice_get_read parts.paths.items _ s.queue device refl path-within (is ∙ ap (λ k. get_or parts.paths.items k device) same)
 
-      device-is : device_at setup place ≡ Some device
+      pub device-is : device_at setup place ≡ Some device
       device-is =
           ap (its_device setup.queues) spec.here ∙ sym (slice_get-map room_device setup.queues spec.spec.queue) ∙ ap (λ l. slice_get l spec.spec.queue) (sym stand.at.paths)
           ∙ ap (λ (t : Sender). slice_get parts.paths.items t.queue) (sym spec.is) ∙ path

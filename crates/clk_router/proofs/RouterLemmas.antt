@@ -1,11 +1,9 @@
 -- What the parts of a router can do where its course says that it can, and what their devices kept.
 use Rattle.std.proofs.Common.{◌≡◌, ℕ, ◌+◌, ◌<◌, ◌≤◌, suc, max, true, List, [], ◌∷◌, ◌++◌, length, map, get_or, Option, Some, None, Result, Ok, Err, IfOk, OnErr, slice_get, refl, sym, ap, ap₂, ◌∙◌, subst, arith}
 use Rattle.std.specs.Option.{option_map}
-use Rattle.std.specs.List.{AllByRecursion, range_with_len}
 use Rattle.std.proofs.lemmas.List.{length-map}
 use Rattle.std.proofs.lemmas.Option.{slice_get-map, get_or_from_slice_get}
 use Rattle.clk_packet.specs.declared.packet.Packet.{Packet}
-use Rattle.clk_sched.specs.declared.visit.Visit.{Visit}
 use Rattle.clk_sched.specs.Conservation.{ConservesCounts}
 use Rattle.clk_sched.specs.declared.session.departures.Departure.{Departure}
 use Rattle.clk_sched.specs.Session.{SessionLists, progress_of, pulls_made}
@@ -21,9 +19,9 @@ use Rattle.clk_router.specs.declared.devices.Device.{Device}
 use Rattle.clk_router.specs.declared.parts.Parts.{Parts}
 use Rattle.clk_router.specs.declared.past.Past.{Past}
 use Rattle.clk_router.specs.Course.{Course, after, IsClosed, pulls_at, accepted_at, evicted_at, emitted_at, room_device, its_device, CanOffer, CanClose}
-use Rattle.clk_router.specs.Events.{Room, Setup, sender_numbers, Event, events_at, log_of, logs_of}
+use Rattle.clk_router.specs.Events.{Room, Setup, sender_numbers, Event, events_at}
 use Rattle.clk_router.specs.inside.Past.{device_tree, trees_in, visits_shown, pull_shown, pulls_shown}
-use Rattle.clk_router.specs.inside.Parts.{sender_after, AreDevicesAt, KeepsAs, KeepsAsAt, IsAt, CanCount, CanSendOn, CanOfferAt, CanPullAt, CanCloseAt, CountsLeft, LeadsOnByPull, LeadsOnByPulls, ClosesBy, Stand, device_log, device_emitted}
+use Rattle.clk_router.specs.inside.Parts.{sender_after, AreDevicesAt, KeepsAs, KeepsAsAt, IsAt, CanCount, CanSendOn, CanOfferAt, CanPullAt, CanCloseAt, CountsLeft, LeadsOnByPull, LeadsOnByPulls, ClosesBy, Stand}
 use Rattle.clk_router.proofs.ClosingLemmas.{its-latest}
 use Rattle.clk_router.proofs.NeverShort.{kept-is}
 use Rattle.clk_router.proofs.PartsLemmas.{IsMember, member-at, all-there, IsHere, device-here}
@@ -122,37 +120,6 @@ module _ (setup : Setup) (events : List Event) (parts : Parts) (stand : Stand se
         path_count = ap length stand.at.paths ∙ length-map setup.queues room_device ∙ sym stand.at.count;
         counts = λ device s here path. let same : sender_after events spec.member ≡ s = cc (sender_here, here) in counted device (subst (λ (t : Sender). slice_get parts.paths.items t.queue ≡ Some device) (sym same) path);
       }
-
--- what holds of the member at each place holds of all
-all-placed : {X : Type 0} (P : X → Type 0) (xs : List X) → ((i : ℕ) (x : X) → slice_get xs i ≡ Some x → P x) → AllByRecursion P xs
-all-placed P [] h = tt
-all-placed P (x ∷ xs) h = (h 0 x refl, all-placed P xs (λ i y here. h (suc i) y here))
-
--- what devices keep, whatever happened
-pub kinds-all : (setup : Setup) (events : List Event) (parts : Parts) → IsAt setup events parts → AllByRecursion (KeepsAs parts.keeps) parts.devices.items
-kinds-all setup events parts at = all-placed (KeepsAs parts.keeps) parts.devices.items (λ d device here. subst (KeepsAsAt parts.keeps) here (at.kinds d))
-
--- the logs of the devices, by number
-logs-placed : (devices : List Device) (f : ℕ → List Visit) (n : ℕ) → ((i : ℕ) (device : Device) → slice_get devices i ≡ Some device → device_log device ≡ f (n + i))
-    → map device_log devices ≡ map f (range_with_len n (length devices))
-logs-placed [] f n h = refl
-logs-placed (device ∷ devices) f n h =
-    let first : n + 0 ≡ n = omega arith in
-    ap₂ (λ l ls. l ∷ ls) (h 0 device refl ∙ ap f first)
-    (logs-placed devices f (n + 1) (λ i other here. let next : n + suc i ≡ n + 1 + i = omega arith in h (suc i) other here ∙ ap f next))
-
-pub logs-its : (setup : Setup) (events : List Event) (parts : Parts) → IsAt setup events parts → map device_log parts.devices.items ≡ logs_of setup events
-logs-its setup events parts at =
-    logs-placed parts.devices.items (λ d. log_of (events_at setup d events)) 0
-    (λ d device here. let place : 0 + d ≡ d = omega arith in (device-here setup events parts d device at here).is.log ∙ ap (λ k. log_of (events_at setup k events)) (sym place))
-    ∙ ap (λ n. map (λ d. log_of (events_at setup d events)) (range_with_len 0 n)) at.device_count
-
-emitted-each : (devices : List Device) → map device_emitted devices ≡ map emitted (map device_log devices)
-emitted-each [] = refl
-emitted-each (device ∷ devices) = ap (λ l. device_emitted device ∷ l) (emitted-each devices)
-
-pub emitted-its : (setup : Setup) (events : List Event) (parts : Parts) → IsAt setup events parts → map device_emitted parts.devices.items ≡ map emitted (logs_of setup events)
-emitted-its setup events parts at = emitted-each parts.devices.items ∙ ap (map emitted) (logs-its setup events parts at)
 
 -- the trees of the devices
 trees-each : (devices : List Device) (trees : List Tree) → length devices ≡ length trees

@@ -1,5 +1,5 @@
 -- What has happened to a router, what it can do next, and what its calls do.
-use Rattle.std.specs.Prelude.{◌≡◌, ℕ, ◌+◌, ◌<◌, ◌≤◌, ◌^◌, List, [], ◌∷◌, ◌++◌, length, map, fold, max, Option, Some, None, slice_get}
+use Rattle.std.specs.Prelude.{◌≡◌, ℕ, ◌+◌, ◌<◌, ◌≤◌, ◌^◌, List, [], ◌∷◌, ◌++◌, length, map, reverse, fold, max, Option, Some, None, slice_get}
 use Rattle.std.specs.List.{filter_map, range_with_len}
 use Rattle.std.specs.Option.{option_map}
 use Rattle.clk_packet.specs.declared.packet.Packet.{Packet}
@@ -10,6 +10,7 @@ use Rattle.clk_sched.specs.Departures.{departures_in}
 use Rattle.clk_sched.specs.Limits.{most_left, end_of_moments, end_of_drains, end_of_pulls, end_of_drained_pulls}
 use Rattle.clk_sched.specs.Log.{visits_of, moment_of, result_of}
 use Rattle.clk_sched.specs.Results.{emitted}
+use Rattle.clk_sched.specs.Session.{latest_of}
 use Rattle.clk_sched.specs.Tree.{Tree}
 use Rattle.clk_tree.specs.declared.plan.parts.SenderSpec.{SenderSpec}
 use Rattle.clk_tree.specs.Plan.{Planned}
@@ -52,6 +53,10 @@ pulls_at c device = length (filter_map pull_in (events_of c device))
 -- the latest moment of a device: the greatest at which it was pulled, or 0
 abbrev pub moment_at : Course → ℕ → ℕ
 moment_at c device = fold max 0 (filter_map moment_in (events_of c device))
+
+-- the visits of a device's latest pull, or none before the first
+abbrev pub latest_visits : Course → ℕ → List Visit
+latest_visits c device = latest_of (reverse (filter_map pull_in (events_of c device)))
 
 -- the number of the sender at a place
 abbrev pub sender_at : Setup → ℕ → Option ℕ

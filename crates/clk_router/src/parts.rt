@@ -9,7 +9,7 @@ use crate::queues::Queues;
 use crate::senders::{Sender, numbers_of, senders_of};
 use clk_packet::{Fault, Offered, Packet};
 use clk_ring::calls_are_history;
-use clk_sched::{Departure, Keeps, Tree, Visit, runs_conserve_packets, runs_go_on};
+use clk_sched::{Departure, Keeps, Tree, runs_conserve_packets, runs_go_on};
 use clk_tree::{QueueSpec, SenderSpec};
 use std::alloc::Global;
 
@@ -31,14 +31,14 @@ pub struct Parts {
 }
 
 impl Parts {
-    ghost use Rattle.std.specs.Prelude.{◌≡◌, ℕ, ◌+◌, ◌<◌, ◌≤◌, ◌++◌, List, ◌∷◌, [], Some, map, length, slice_get, IfOk, OnErr, IsOk, IsOkUnless, true};
+    ghost use Rattle.std.specs.Prelude.{◌≡◌, ℕ, ◌+◌, ◌<◌, ◌≤◌, ◌++◌, List, ◌∷◌, [], Some, map, length, slice_get, IfOk, OnErr, IsOk, IsOkUnless, false};
     ghost use Rattle.std.specs.List.{AllByRecursion};
-    ghost use Rattle.clk_sched.specs.Keeps.{keeps_nothing};
+    ghost use Rattle.clk_sched.specs.Keeps.{grows};
     ghost use Rattle.clk_sched.specs.Limits.{end_of_moments};
     ghost use Rattle.clk_sched.specs.Results.{emitted};
     ghost use Rattle.clk_tree.specs.PlanParts.{queued, HasCapacity};
     ghost use Rattle.clk_router.specs.Events.{Setup, Event, offered, setup_of};
-    ghost use Rattle.clk_router.specs.inside.Parts.{CanStand, CanOfferAt, CanPullAt, CanCloseAt, CanCount, Counts, CountsLeft, IsAt, IsWhole, KeepsAs, LeadsOnByPull, LeadsOnByPulls, ClosesBy, Stand, device_log, device_emitted, IsSessionDue};
+    ghost use Rattle.clk_router.specs.inside.Parts.{CanStand, CanOfferAt, CanPullAt, CanCloseAt, CanCount, Counts, CountsLeft, IsAt, IsWhole, LeadsOnByPull, LeadsOnByPulls, ClosesBy, Stand, IsSessionDue};
 
     /// The parts of a router before anything has happened. `keeps` says what its devices keep of the past. Fault 1 if an allocation fails.
     pub fn new(
@@ -109,7 +109,7 @@ impl Parts {
         ensures leads { IfOk result (λ got. (setup : Setup) (events : _) → IsAt setup events self.old → LeadsOnByPull setup self.new device moment got events) }
         ensures keeps { self.new.keeps ≡ self.old.keeps }
         ensures fault { IsOkUnless result Fault.Memory }
-        ensures unkept { self.old.keeps ≡ keeps_nothing → IsOk result }
+        ensures steady { grows self.old.keeps ≡ false → IsOk result }
         ensures stays { OnErr result ((setup : Setup) (events : _) → IsAt setup events self.old → IsAt setup events self.new) }
     {
         // The histories of the queues go on by this pull, by this law, which does nothing.
@@ -159,23 +159,6 @@ impl Parts {
         let left = self.left(device);
         let session = &mut self.devices[usize::from(device)].session;
         session.close(alloc, &mut self.queues, left, moment)
-    }
-
-    /// What the devices kept: the visits of each, and the packets that each emitted. Fault 1 if an allocation for the two lists fails.
-    pub fn into_kept(self, alloc: Global) -> Result<(Vec<Vec<Visit>>, Vec<Vec<Packet>>), Fault>
-        requires { AllByRecursion (KeepsAs self.keeps) self.devices.items }
-        ensures visits { IfOk result (λ kept. self.keeps.visits ≡ true → map (λ l. l.items) kept.0.items ≡ map device_log self.devices.items) }
-        ensures packets { IfOk result (λ kept. self.keeps.packets ≡ true → map (λ l. l.items) kept.1.items ≡ map device_emitted self.devices.items) }
-        ensures fault { IsOkUnless result Fault.Memory }
-    {
-        let mut logs = Vec::new(alloc);
-        let mut emitted = Vec::new(alloc);
-        for device in self.devices {
-            let (visits, packets) = device.session.into_parts();
-            logs.push(visits)?;
-            emitted.push(packets)?;
-        }
-        Ok((logs, emitted))
     }
 }
 

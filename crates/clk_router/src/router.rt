@@ -47,12 +47,12 @@ impl Router {
     ghost use Rattle.std.specs.Prelude.{◌≡◌, ℕ, ◌+◌, ◌<◌, ◌≤◌, List, ◌∷◌, [], Some, None, true, false, map, length, IfSome, IfOk, OnErr, IsOk, IsOkUnless};
     ghost use Rattle.clk_packet.specs.Limits.{most_elements, most_capacity};
     ghost use Rattle.clk_sched.specs.declared.visit.Visit.{Visit};
-    ghost use Rattle.clk_sched.specs.Keeps.{keeps_nothing};
+    ghost use Rattle.clk_sched.specs.Keeps.{grows};
     ghost use Rattle.clk_sched.specs.Limits.{end_of_moments};
     ghost use Rattle.clk_sched.specs.Results.{emitted};
     ghost use Rattle.clk_packet.specs.Lists.{AreRising};
-    ghost use Rattle.clk_router.specs.Course.{after, events_of, sender_at, accepted_at, evicted_at, emitted_at, moment_at, CanOffer, CanPull, CanClose, IsOpened, IsPulled, IsClosed, IsQueueState};
-    ghost use Rattle.clk_router.specs.Events.{offered, sender_numbers, numbers_of, CanHappen, closing_pulls, logs_of};
+    ghost use Rattle.clk_router.specs.Course.{after, events_of, sender_at, accepted_at, evicted_at, emitted_at, moment_at, latest_visits, device_at, CanOffer, CanPull, CanClose, IsOpened, IsPulled, IsClosed, IsQueueState};
+    ghost use Rattle.clk_router.specs.Events.{offered, sender_numbers, numbers_of, log_of, CanHappen, closing_pulls};
     ghost use Rattle.clk_router.specs.InsideQueues.{QueuesGoOn, AreOutOrInside};
     ghost use Rattle.clk_router.specs.Due.{IsDeviceDue, EmitsNoneBefore};
     ghost use Rattle.clk_router.specs.Drains.{DrainsEnd};
@@ -146,6 +146,15 @@ impl Router {
         let _ = &self.parts;
     }
 
+    /// The device that emits the packets of the sender at this place.
+    pub fn device_of_sender(&self, place: usize) -> u16
+        requires { place < length self.now.setup.senders }
+        ensures { device_at self.now.setup place ≡ Some result }
+    {
+        let queue = self.parts.senders[place].queue;
+        self.parts.paths[usize::from(queue)]
+    }
+
     /// Whether the sender at this place can offer a packet: it exists, it has offered fewer than 4,294,967,295 packets, and its device
     /// takes one more.
     pub fn can_offer(&self, place: usize) -> bool
@@ -203,19 +212,28 @@ impl Router {
     ///
     /// # Errors
     ///
-    /// Fault 1 if an allocation for what the devices keep fails. Then nothing has happened. It never fails if they keep nothing.
+    /// Fault 1 if an allocation for what the devices keep fails. Then nothing has happened. It never fails if they keep nothing, or only
+    /// the visits of the latest pull.
     #[inline(always)]
     pub fn pull(&mut self, device: u16, moment: u64) -> Result<Option<Packet>, Fault>
         requires can { CanPull self.old device moment }
         ensures pulled { IfOk result (IsPulled self.old self.new device moment) }
         ensures fault { IsOkUnless result Fault.Memory }
-        ensures unkept { self.old.keeps ≡ keeps_nothing → IsOk result }
+        ensures steady { grows self.old.keeps ≡ false → IsOk result }
         ensures unchanged { OnErr result (self.new ≡ self.old) }
     {
         let got = self.parts.pull(device, moment)?;
         self.past
             .pulled(&device, &moment, &self.parts.devices[usize::from(device)]);
         Ok(got)
+    }
+
+    /// The visits of a device's latest pull, in order, if the devices keep these. There are none before its first pull.
+    pub fn latest(&self, device: u16) -> &[Visit]
+        requires { device < length self.now.setup.trees }
+        ensures { self.now.keeps.latest ≡ true → result.now ≡ latest_visits self.now device }
+    {
+        self.parts.devices[usize::from(device)].session.latest()
     }
 
     /// The earliest moment, in ticks, at which a pull of a device could emit a packet, as things stand. It is the device's latest moment,
@@ -319,18 +337,20 @@ impl Router {
         true
     }
 
-    /// What its devices kept: the visits of each, and the packets that each emitted, in order. Allocates two lists with a member for each
-    /// device.
-    ///
-    /// # Errors
-    ///
-    /// Fault 1 if an allocation fails.
-    pub fn into_kept(self, alloc: Global) -> Result<(Vec<Vec<Visit>>, Vec<Vec<Packet>>), Fault>
-        ensures visits { IfOk result (λ kept. self.keeps.visits ≡ true → map (λ l. l.items) kept.0.items ≡ logs_of self.setup self.events) }
-        ensures packets { IfOk result (λ kept. self.keeps.packets ≡ true → map (λ l. l.items) kept.1.items ≡ map emitted (logs_of self.setup self.events)) }
-        ensures fault { IsOkUnless result Fault.Memory }
+    /// The visits of a device's pulls, in order, if the devices keep all as a list.
+    pub fn log(&self, device: u16) -> &[Visit]
+        requires { device < length self.now.setup.trees }
+        ensures { self.now.keeps.visits ≡ true → result.now ≡ log_of (events_of self.now device) }
     {
-        self.parts.into_kept(alloc)
+        self.parts.devices[usize::from(device)].session.log()
+    }
+
+    /// The packets that a device emitted, in order, if the devices keep these.
+    pub fn emitted(&self, device: u16) -> &[Packet]
+        requires { device < length self.now.setup.trees }
+        ensures { self.now.keeps.packets ≡ true → result.now ≡ emitted (log_of (events_of self.now device)) }
+    {
+        self.parts.devices[usize::from(device)].session.as_emitted()
     }
 }
 

@@ -4,10 +4,17 @@ use Rattle.clk_sched.specs.declared.session.keeps.Keeps.{Keeps}
 use Rattle.clk_sched.specs.Session.{SessionLists}
 
 abbrev pub keeps_all : Keeps
-keeps_all = record { visits = true; packed = false; packets = true }
+keeps_all = record { visits = true; packed = false; packets = true; latest = false }
 
 abbrev pub keeps_nothing : Keeps
-keeps_nothing = record { visits = false; packed = false; packets = false }
+keeps_nothing = record { visits = false; packed = false; packets = false; latest = false }
+
+abbrev pub keeps_latest : Keeps
+keeps_latest = record { visits = false; packed = false; packets = false; latest = true }
+
+-- whether what is kept grows from pull to pull
+abbrev pub grows : Keeps → Bool
+grows keeps = keeps.visits || (keeps.packed || keeps.packets)
 
 -- whether visits are kept, as a list or packed
 abbrev pub keeps_visits : Keeps → Bool

@@ -19,6 +19,15 @@ abbrev pub latest_moment : List (List Visit) → ℕ
 latest_moment [] = 0
 latest_moment (pull ∷ earlier) = moment_of pull
 
+-- the visits of the latest of some pulls, which are given with the latest first
+abbrev pub latest_of : List (List Visit) → List Visit
+latest_of [] = []
+latest_of (pull ∷ earlier) = pull
+
+-- the visits of the latest pull of a log
+abbrev pub latest_pull : List Visit → List Visit
+latest_pull log = latest_of (reverse (pulls log))
+
 -- the tree of a session, and the log of its pulls, which is a run of the tree
 pub record Progress : Type 0 where
   pub tree : Tree

@@ -37,7 +37,8 @@ use std::alloc::Global;
 use std::marker::Model;
 
 /// A tree of schedulers with all that its nodes hold, and what is kept of the past. Contracts speak of every visit that its nodes made,
-/// whether visits are kept or not. A session can be pulled 2^63 times. If it keeps nothing, it allocates nothing as it goes on.
+/// whether visits are kept or not. A session can be pulled 2^63 times. If it keeps nothing, or only the latest pull's visits, it allocates
+/// nothing as it goes on.
 #[derive(Drop)]
 pub struct Session {
     tree: Tree,
@@ -47,11 +48,12 @@ pub struct Session {
 }
 
 impl Model for Session {
-    ghost use Rattle.std.specs.Prelude.{◌≡◌, ◌<◌, ◌≤◌, true, length};
+    ghost use Rattle.std.specs.Prelude.{◌≡◌, ◌<◌, ◌≤◌, true, drop, length};
     ghost use Rattle.clk_sched.specs.Limits.{end_of_moments};
     ghost use Rattle.clk_sched.specs.Tree.{leaves_distinct};
+    ghost use Rattle.clk_sched.specs.inside.Places.{edges_of};
     ghost use Rattle.clk_sched.specs.inside.Session.{IsAfterRun};
-    ghost use Rattle.clk_sched.specs.Session.{SessionLists};
+    ghost use Rattle.clk_sched.specs.Session.{SessionLists, latest_pull};
     ghost use Rattle.clk_sched.specs.Results.{emitted as emitted_in};
     ghost use Rattle.std.specs.Coded.{codes};
     ghost use Rattle.clk_sched.specs.Stored.{tree_code};
@@ -63,17 +65,19 @@ impl Model for Session {
     ghost view = { λ s. record {
       tree = s.tree;
       log = s.nodes.log.items;
-      keeps = record { visits = s.nodes.log.kind.keeps; packed = s.nodes.log.kind.packs; packets = s.emitted.keeps };
+      keeps = record { visits = s.nodes.log.kind.keeps; packed = s.nodes.log.kind.packs; packets = s.emitted.keeps; latest = s.nodes.log.kind.latest };
       gone = s.nodes.log.kind.gone;
     } };
 
     ghost invariant = { λ s. IsAfterRun s.tree s.nodes × (s.nodes.moment < end_of_moments) × (leaves_distinct s.tree ≡ true)
         × (s.emitted.keeps ≡ true → s.emitted.packets.items ≡ emitted_in s.nodes.log.items)
-        × (s.emitted.count ≡ length (emitted_in s.nodes.log.items)) × (s.emitted.count ≤ s.nodes.pull) };
+        × (s.emitted.count ≡ length (emitted_in s.nodes.log.items)) × (s.emitted.count ≤ s.nodes.pull)
+        × (drop s.nodes.log.kind.start s.nodes.log.items ≡ latest_pull s.nodes.log.items)
+        × (s.nodes.log.kind.latest ≡ true → edges_of s.nodes.inputs.items 0 ≤ s.nodes.log.kind.room) };
 }
 
 impl Session {
-    ghost use Rattle.std.specs.Prelude.{◌≡◌, ℕ, ◌+◌, ◌<◌, ◌≤◌, ◌^◌, true, [], drop, length, max, Ok, Err, IfOk, IfErr, OnOk, OnErr, IsOk, IsOkUnless};
+    ghost use Rattle.std.specs.Prelude.{◌≡◌, ℕ, ◌+◌, ◌<◌, ◌≤◌, ◌^◌, true, false, [], drop, length, max, Ok, Err, IfOk, IfErr, OnOk, OnErr, IsOk, IsOkUnless};
     ghost use Rattle.clk_packet.specs.Limits.{most_elements};
     ghost use Rattle.clk_sched.specs.Tree.{root, leaves_distinct, IsSound};
     ghost use Rattle.clk_sched.specs.Limits.{most_left, end_of_moments, end_of_drains, end_of_pulls, end_of_drained_pulls};
@@ -85,10 +89,10 @@ impl Session {
     ghost use Rattle.clk_packet.specs.declared.fault.Fault.TheVariants.{TooManyPulls};
     ghost use Rattle.clk_sched.specs.Answers.{Answers, tree_queue};
     ghost use Rattle.clk_sched.specs.Drain.{drain_start, HasDrained, after_pulls};
-    ghost use Rattle.clk_sched.specs.Session.{IsPulledOnce, counted_moment, elements, newly, progress_of, pulls_made};
+    ghost use Rattle.clk_sched.specs.Session.{IsPulledOnce, counted_moment, elements, latest_pull, newly, progress_of, pulls_made};
     ghost use Rattle.clk_sched.specs.Departures.{departures_in, pulls_since, IsAddedTo};
     ghost use Rattle.clk_sched.specs.declared.session.departures.Departures.TheVariants.{Dropped};
-    ghost use Rattle.clk_sched.specs.Keeps.{keeps_all, keeps_nothing, keeps_visits};
+    ghost use Rattle.clk_sched.specs.Keeps.{grows, keeps_all, keeps_visits};
     ghost use Rattle.clk_sched.specs.Due.{IsDue, tree_could_emit};
 
     /// A session of this tree, in which no queue stands twice, before its first pull. It keeps every visit and every packet that the device
@@ -133,7 +137,7 @@ impl Session {
     /// # Errors
     ///
     /// Fault 1 if an allocation fails, or if 2^63 pulls were made before. Then nothing has changed, and no queue was asked. A session that
-    /// keeps nothing allocates nothing.
+    /// keeps nothing, or only the visits of the latest pull, allocates nothing.
     #[inline(always)]
     pub fn pull<Q: Ask>(&mut self, q: &mut Q, moment: u64) -> Result<Option<Packet>, Fault>
         requires moment { moment < end_of_moments }
@@ -142,7 +146,7 @@ impl Session {
         ensures keeps { self.new.keeps ≡ self.old.keeps }
         ensures gone { self.new.gone ≡ self.old.gone }
         ensures fault { IsOkUnless result Fault.Memory }
-        ensures unkept { self.old.keeps ≡ keeps_nothing → pulls_made (progress_of self.old) < end_of_pulls → IsOk result }
+        ensures steady { grows self.old.keeps ≡ false → pulls_made (progress_of self.old) < end_of_pulls → IsOk result }
         ensures ended { end_of_pulls ≤ pulls_made (progress_of self.old) → result ≡ Err Fault.Memory }
         ensures unchanged { OnErr result (self.new ≡ self.old) }
         ensures unasked { OnErr result (q.new ≡ q.old) }
@@ -151,8 +155,8 @@ impl Session {
             return Err(Fault::Memory);
         }
         let edges = usize::from(self.nodes.inputs[DEVICE as usize].edges);
-        self.nodes.log.reserve(edges)?;
         self.emitted.reserve(1)?;
+        self.nodes.log.begin(edges)?;
         self.nodes.moment = self.nodes.moment.max(moment);
         let got = pull_device(&mut self.nodes, q);
         self.nodes.pull += 1;
@@ -181,14 +185,14 @@ impl Session {
     ///
     /// # Errors
     ///
-    /// Fault 1 if an allocation fails, or at the end of pulls. It never comes if nothing is kept and fewer than 2^62 pulls were made
-    /// before. Fault 17, with the number of pulls, if `bound(left)` pulls emitted fewer packets. The session then holds the pulls that were
-    /// made. Fault 17 never comes if `q` loses nothing, and the heads and the leaves of the tree together hold exactly `left` packets.
+    /// Fault 1 if an allocation fails, or at the end of pulls. It never comes if nothing that grows is kept and fewer than 2^62 pulls were
+    /// made before. Fault 17, with the number of pulls, if `bound(left)` pulls emitted fewer packets. The session then holds the pulls that
+    /// were made. Fault 17 never comes if `q` loses nothing, and the heads and the leaves of the tree together hold exactly `left` packets.
     pub fn drain<Q: Ask>(&mut self, q: &mut Q, left: u64, moment: u64) -> Result<u64, Fault>
         requires left { left ≤ most_left }
         requires moment { drain_start self.old moment < end_of_drains }
         ensures drained { HasDrained Q.gives Q.holds q.old q.new self.old self.new left moment result }
-        ensures unkept { self.old.keeps ≡ keeps_nothing → pulls_made (progress_of self.old) < end_of_drained_pulls
+        ensures steady { grows self.old.keeps ≡ false → pulls_made (progress_of self.old) < end_of_drained_pulls
             → IsOkUnless result (TooManyPulls (closing_bound self.old.tree left)) }
     {
         self.drain_to(q, &mut Departures::Dropped, left, moment)
@@ -205,7 +209,7 @@ impl Session {
         requires left { left ≤ most_left }
         requires moment { drain_start self.old moment < end_of_drains }
         ensures drained { HasDrained Q.gives Q.holds q.old q.new self.old self.new left moment result }
-        ensures unkept { self.old.keeps ≡ keeps_nothing → pulls_made (progress_of self.old) < end_of_drained_pulls → departures.old ≡ Dropped
+        ensures steady { grows self.old.keeps ≡ false → pulls_made (progress_of self.old) < end_of_drained_pulls → departures.old ≡ Dropped
             → IsOkUnless result (TooManyPulls (closing_bound self.old.tree left)) }
         ensures departures { IsAddedTo departures.old (departures_in (pulls_since (progress_of self.old) (progress_of self.new))) departures.new }
     {
@@ -271,7 +275,7 @@ impl Session {
         left * self.tree.pulls_per_packet()
     }
 
-    /// Drops the visits so far from memory. Contracts still speak of them.
+    /// Drops the visits so far from memory, except those of the latest pull if these are kept. Contracts still speak of all.
     pub fn let_go(&mut self)
         ensures { self.new ≡ record { tree = self.old.tree; log = self.old.log; keeps = self.old.keeps; gone = length self.old.log } }
     {
@@ -285,6 +289,13 @@ impl Session {
         ensures distinct { leaves_distinct self.now.tree ≡ true }
     {
         self.nodes.log.kept()
+    }
+
+    /// The visits of the latest pull, in order, if these are kept. There are none before the first pull.
+    pub fn latest(&self) -> &[Visit]
+        ensures { self.now.keeps.latest ≡ true → result.now ≡ latest_pull self.now.log }
+    {
+        self.nodes.log.latest()
     }
 
     /// The counted moment, in ticks: the latest at which the session was pulled, and 0 before the first pull.

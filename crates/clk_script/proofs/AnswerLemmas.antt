@@ -1,32 +1,30 @@
 -- How a router goes on by the commands of some rows, and what it comes to.
-use Rattle.std.proofs.Common.{◌≡◌, ℕ, ◌+◌, ◌<◌, ◌≤◌, zero, suc, nat_lt, true, List, [], ◌∷◌, ◌++◌, length, map, take, drop, set, get_or, Option, Some, None, IfSome, Vec, refl, sym, ap, ap₂, subst, ◌∙◌, append_assoc, append-nil, arith}
+use Rattle.std.proofs.Common.{◌≡◌, ℕ, ◌+◌, ◌<◌, ◌≤◌, zero, suc, nat_lt, true, if◌then◌else◌, List, [], ◌∷◌, ◌++◌, length, map, take, drop, set, get_or, Option, Some, None, IfSome, Vec, refl, sym, ap, ap₂, subst, ◌∙◌, append_assoc, append-nil, arith}
 use Rattle.std.specs.Option.{is_some}
 use Rattle.std.specs.List.{flat_map, filter_map, cons_option, AllByRecursion, AllZip}
 use Rattle.std.specs.declared.alloc.Global.{Global}
 use Rattle.std.proofs.lemmas.List.{map-append, length-map, length-take, take_all, length-set, take-append-drop, take_more, take_more_set, drop_more, drop-set-lt}
 use Rattle.std.proofs.lemmas.List.Elements.{filter_map-append}
-use Rattle.std.proofs.lemmas.List.FromFn.{length-map-range_with_len}
 use Rattle.std.proofs.lemmas.Grind.{drop_more_same}
 use Rattle.clk_packet.specs.declared.packet.Packet.{Packet}
 use Rattle.clk_packet.specs.declared.packet.Offered.{Offered}
-use Rattle.clk_report.specs.Report.{report_text}
 use Rattle.clk_report.specs.Devices.{lists_of}
 use Rattle.clk_router.specs.Accounts.{account_after}
 use Rattle.clk_script.specs.AccountLines.{account_line}
-use Rattle.clk_sched.specs.declared.visit.Visit.{Visit}
 use Rattle.clk_sched.specs.declared.session.departures.Departure.{Departure}
 use Rattle.clk_sched.specs.Results.{emitted}
 use Rattle.clk_script.specs.declared.script.Command.{Command}
 use Rattle.clk_script.specs.declared.script.Command.TheVariants.{Send, Pull}
 use Rattle.clk_script.specs.declared.rows.Row.{Row}
 use Rattle.clk_script.specs.declared.rows.Row.TheVariants as row
-use Rattle.clk_script.specs.declared.past.Past.{Past}
 use Rattle.clk_script.specs.declared.script_router.ScriptRouter.{ScriptRouter}
-use Rattle.clk_script.specs.Script.{Names, most_lines}
-use Rattle.clk_router.specs.Events.{Setup, sender_numbers, Event, offered, pulled, events_at, log_of, logs_of, tally_after, emitted_in}
-use Rattle.clk_script.specs.Meaning.{names_of, has_several, command_of, event_text, ending_text, CloseFirst, Writes}
-use Rattle.clk_script.specs.inside.ScriptRouter.{names_in, IsAt, AreLogs, IsPastOf, Starts, IsReady, given_kept, LeadsOnByPull, IsReadable}
-use Rattle.clk_script.specs.inside.Rows.{command_asked, asked_by, row_at, IsRowOf, IsToDo, CarriesOut, AnswersRows, IsClosedFrom, rows_text, closings_text, are_several, closings_of, given_first, given_of, ending_of}
+use Rattle.clk_script.specs.Script.{Names, most_lines, most_moment}
+use Rattle.clk_router.specs.Course.{sender_at}
+use Rattle.clk_router.specs.Events.{Setup, Event, offered, pulled, events_at, log_of, logs_of, emitted_in}
+use Rattle.clk_router.proofs.Callers.Events.{all-join}
+use Rattle.clk_script.specs.Meaning.{names_of, has_several, command_of, event_text, ending_text, CloseFirst}
+use Rattle.clk_script.specs.inside.ScriptRouter.{names_in, IsAt, Starts, IsReady, given_kept, LeadsOnByPull, IsReadable}
+use Rattle.clk_script.specs.inside.Rows.{command_asked, asked_by, row_at, IsRowOf, IsToDo, CarriesOut, Answers, AnswersRows, IsClosedFrom, rows_text, closings_text, closings_of, given_of}
 use Rattle.clk_script.proofs.RowLemmas.{rows-written}
 use Rattle.clk_script.proofs.ScriptRouterLemmas.{alike-its}
 
@@ -54,33 +52,38 @@ AnswersRows-none router asked done none nothing =
       more = [];
       theirs = ap asked_by none;
       rows = subst (AllZip IsRowOf []) (sym nothing) tt;
+      to_do = subst (AllByRecursion (IsToDo (names_of setup))) (sym nothing) tt;
       given = λ several. sym (append-nil router.given.items);
       keeps = refl;
       leads = subst (λ l. IsAt setup l router) (sym (append-nil events)) at;
     }
 
 pub AnswersRows-sent : (old new : ScriptRouter) (asked done : Row) (place : ℕ) (p : Packet) (outcome : Offered) → command_asked asked ≡ Send p.sender p.length → done ≡ row_at place (offered p outcome) → new.given ≡ old.given
-    → new.router.keeps ≡ old.router.keeps → ((setup : Setup) (events : List Event) → IsAt setup events old → IsAt setup (events ++ offered p outcome ∷ []) new) → AnswersRows old new (asked ∷ []) (done ∷ [])
-AnswersRows-sent old new asked done place p outcome asks is given keeps leads =
+    → new.router.keeps ≡ old.router.keeps → sender_at old.router.setup place ≡ Some p.sender
+    → ((setup : Setup) (events : List Event) → IsAt setup events old → IsAt setup (events ++ offered p outcome ∷ []) new) → AnswersRows old new (asked ∷ []) (done ∷ [])
+AnswersRows-sent old new asked done place p outcome asks is given keeps its leads =
     λ setup events at.
     record {
       more = offered p outcome ∷ [];
       theirs = ap (λ (c : Command). c ∷ []) asks;
       rows = ((place, is), tt);
+      to_do = (subst (IsToDo (names_of setup)) (sym is) (ap (λ s. sender_at s place) (sym at.setup_is) ∙ its), tt);
       given = λ several. ap (λ ps. ps.items) given ∙ sym (append-nil old.given.items);
       keeps = keeps;
       leads = leads setup events at;
     }
 
 pub AnswersRows-pulled : (old new : ScriptRouter) (asked done : Row) (device moment : ℕ) (got : Option Packet) → command_asked asked ≡ Pull device moment → done ≡ row.Pull (is_some got) device moment → new.given.items ≡ given_kept old got
-    → new.router.keeps ≡ old.router.keeps → ((setup : Setup) (events : List Event) → IsAt setup events old → LeadsOnByPull setup new device moment got events) → AnswersRows old new (asked ∷ []) (done ∷ [])
-AnswersRows-pulled old new asked done device moment got asks is given keeps leads =
+    → new.router.keeps ≡ old.router.keeps → (device < length old.router.setup.trees) × (moment ≤ most_moment)
+    → ((setup : Setup) (events : List Event) → IsAt setup events old → LeadsOnByPull setup new device moment got events) → AnswersRows old new (asked ∷ []) (done ∷ [])
+AnswersRows-pulled old new asked done device moment got asks is given keeps can leads =
     λ setup events at.
     let led = leads setup events at in
     record {
       more = pulled device moment led.visits ∷ [];
       theirs = ap (λ (c : Command). c ∷ []) asks;
       rows = ((0, is ∙ ap (λ o. row.Pull (is_some o) device moment) (sym led.result)), tt);
+      to_do = (subst (IsToDo (names_of setup)) (sym is) (subst (λ (s : Setup). device < length s.trees) at.setup_is can.0, can.1), tt);
       given =
           λ several.
           let many : nat_lt 1 (length old.router.setup.trees) ≡ true = ap (λ (s : Setup). nat_lt 1 (length s.trees)) at.setup_is ∙ several in
@@ -98,6 +101,7 @@ AnswersRows-then a b c asked done later rows first next =
       more = one.more ++ two.more;
       theirs = map-append command_asked asked later ∙ ap₂ (λ x y. x ++ y) one.theirs two.theirs ∙ sym (map-append command_of one.more two.more);
       rows = rows-appended one.more two.more done rows one.rows two.rows;
+      to_do = all-join (IsToDo (names_of setup)) done rows one.to_do two.to_do;
       given =
           λ several.
           two.given several ∙ ap (λ l. l ++ filter_map emitted_in two.more) (one.given several) ∙ append_assoc a.given.items (filter_map emitted_in one.more) (filter_map emitted_in two.more)
@@ -131,7 +135,7 @@ all-front : {X : Type 0} (P : X → Type 0) (xs ys : List X) → AllByRecursion 
 all-front P [] ys h = tt
 all-front P (x ∷ xs) ys h = (h.0, all-front P xs ys h.1)
 
-all-at : {X : Type 0} (P : X → Type 0) (xs : List X) (i : ℕ) (d : X) → i < length xs → AllByRecursion P xs → P (get_or xs i d)
+pub all-at : {X : Type 0} (P : X → Type 0) (xs : List X) (i : ℕ) (d : X) → i < length xs → AllByRecursion P xs → P (get_or xs i d)
 all-at P [] i d within h = absurd (omega arith)
 all-at P (x ∷ xs) zero d within h = h.0
 all-at P (x ∷ xs) (suc i) d within h = all-at P xs i d (omega arith) h.1
@@ -194,73 +198,71 @@ module _ (setup : Setup) (old mid : ScriptRouter) (asked done : List Row) (start
   kept several = carried.given several ∙ ap (λ l. l ++ filter_map emitted_in carried.more) starts.given
 
   -- what a router that went on with these events did
-  module _ (new : ScriptRouter) (past : Past) (later : List Event) (at : IsAt setup (carried.more ++ later) new) (given : new.given ≡ mid.given) (is : IsPastOf new past) where
-    its_logs : logs_of new.router.setup new.router.events ≡ logs_of setup (carried.more ++ later)
-    its_logs = λ i. logs_of (at.setup_is i) (at.events_are i)
-
-    came : lists_of past.emitted.items ≡ map emitted (logs_of setup (carried.more ++ later))
-    came = is.emitted ∙ ap (map emitted) its_logs
-
-    several : are_several past ≡ has_several setup
-    several =
-        ap (nat_lt 1)
-        (sym (length-map past.emitted.items (λ l. l.items)) ∙ ap length came ∙ length-map (logs_of setup (carried.more ++ later)) emitted
-        ∙ length-map-range_with_len (λ d. log_of (events_at setup d (carried.more ++ later))) 0 (length setup.trees))
-
+  module _ (new : ScriptRouter) (later : List Event) (at : IsAt setup (carried.more ++ later) new) (given : new.given ≡ mid.given) where
     -- the lines of the commands, whatever the router did later
-    lines : rows_text (are_several past) done (given_of past) past.put_out.items ≡ flat_map (event_text (has_several setup)) carried.more
+    lines : rows_text (has_several new.router.setup) done (given_of new) new.evicted.items ≡ flat_map (event_text (has_several setup)) carried.more
     lines =
-        ap (λ b. rows_text b done (given_of past) past.put_out.items) several
-        ∙ ap (λ lists. rows_text (has_several setup) done (given_first lists past.given.items) past.put_out.items) came
-        ∙ rows-written setup carried.more later done past.given.items past.put_out.items carried.rows starts.some at.can_happen (is.put_out ∙ at.evicted) (λ many. is.given ∙ ap (λ ps. ps.items) given ∙ kept many)
+        (λ i. rows_text (has_several (at.setup_is i)) done (if has_several (at.setup_is i) then new.given.items else emitted (log_of (events_at (at.setup_is i) 0 (at.events_are i)))) new.evicted.items)
+        ∙ rows-written setup carried.more later done new.given.items new.evicted.items carried.rows starts.some at.can_happen at.evicted (λ many. ap (λ ps. ps.items) given ∙ kept many)
 
-    logs : AreLogs new.router.keeps.visits past (logs_of setup (carried.more ++ later))
-    logs are_kept = is.logs are_kept ∙ its_logs
-
-    report : flat_map account_line past.accounts.items
-        ≡ report_text (flat_map emitted (logs_of setup (carried.more ++ later))) (map (tally_after (carried.more ++ later)) (sender_numbers setup))
-    report =
-        ap (flat_map account_line) (is.accounts ∙ at.accounts ∙ (λ i. map (account_after (sym at.events_are i)) (sym at.setup_is i).senders)) ∙ is.report
+    report : flat_map account_line (map (account_after new.router.events) new.router.setup.senders) ≡ ending_text new.router.setup (Some 0) new.router.events
+        → flat_map account_line new.accounts.items ≡ ending_text setup (Some 0) (carried.more ++ later)
+    report tells =
+        ap (flat_map account_line) (at.accounts ∙ (λ i. map (account_after (sym at.events_are i)) (sym at.setup_is i).senders)) ∙ tells
         ∙ (λ i. ending_text (at.setup_is i) (Some 0) (at.events_are i))
 
   -- What it comes to, without a closing and with one.
-  pub Writes-answered : (new : ScriptRouter) (past : Past) (drain : Option ℕ) (closings : Option (List (List Departure))) → IsClosedFrom mid new drain closings → IsPastOf new past
-      → (logs : List (List Visit)) × AreLogs old.router.keeps.visits past logs × Writes setup (asked_by asked) drain (rows_text (are_several past) done (given_of past) past.put_out.items ++ ending_of past closings) logs
-  Writes-answered new past None None closed is =
-      let at : IsAt setup (carried.more ++ []) new = subst (λ l. IsAt setup l new) (sym (append-nil carried.more)) (subst (λ (r : ScriptRouter). IsAt setup carried.more r) (sym closed) carried.leads) in
-      let keeps = ap (λ (r : ScriptRouter). r.router.keeps) closed ∙ carried.keeps in (
-        logs_of setup (carried.more ++ []),
-        (λ kept. logs new past [] at (ap (λ (r : ScriptRouter). r.given) closed) is (ap (λ k. k.visits) keeps ∙ kept)),
+  module _ (new : ScriptRouter) (tells : flat_map account_line (map (account_after new.router.events) new.router.setup.senders) ≡ ending_text new.router.setup (Some 0) new.router.events) (rows : Vec Row Global)
+      (are : rows.items ≡ done) where
+    all_lines : (later : List Event) → IsAt setup (carried.more ++ later) new → new.given ≡ mid.given
+        → rows_text (has_several new.router.setup) rows.items (given_of new) new.evicted.items ≡ flat_map (event_text (has_several setup)) carried.more
+    all_lines later at given = ap (λ rs. rows_text (has_several new.router.setup) rs (given_of new) new.evicted.items) are ∙ lines new later at given
+
+    its_logs : (later : List Event) → IsAt setup (carried.more ++ later) new → logs_of setup new.router.events ≡ logs_of setup (carried.more ++ later)
+    its_logs later at = ap (logs_of setup) at.events_are
+
+    pub Answers-all : (drain : Option ℕ) (closing : Option (Vec (Vec Departure Global) Global)) → IsClosedFrom mid new drain (closings_of closing)
+        → Answers setup (asked_by asked) drain (record { rows = rows; drain = drain; closing = closing; script_router = new })
+    Answers-all None None closed =
+        let at : IsAt setup (carried.more ++ []) new = subst (λ l. IsAt setup l new) (sym (append-nil carried.more)) (subst (λ (r : ScriptRouter). IsAt setup carried.more r) (sym closed) carried.leads) in
         record {
-          events = carried.more;
-          theirs = sym carried.theirs;
-          closed = [];
-          closes = refl;
-          can_happen = at.can_happen;
-          lines = ap (λ l. l ++ []) (lines new past [] at (ap (λ (r : ScriptRouter). r.given) closed) is);
-          logged = refl;
-        },
-      )
-  Writes-answered new past None (Some closings) closed is = absurd closed
-  Writes-answered new past (Some moment) None closed is = absurd closed
-  Writes-answered new past (Some moment) (Some closings) closed is =
-      let closes = closed.closes setup carried.more carried.leads in
-      let at = closes.closing.leads in
-      let keeps = closed.keeps ∙ carried.keeps in (
-        logs_of setup (carried.more ++ closes.closing.closed),
-        (λ kept. logs new past closes.closing.closed at closed.given is (ap (λ k. k.visits) keeps ∙ kept)),
+          writes = record {
+            events = carried.more;
+            theirs = sym carried.theirs;
+            closed = [];
+            closes = refl;
+            can_happen = at.can_happen;
+            lines = ap (λ l. l ++ []) (all_lines [] at (ap (λ (r : ScriptRouter). r.given) closed));
+            logged = its_logs [] at;
+          };
+          setup_is = at.setup_is;
+          events_are = at.events_are;
+          rows = subst (AllZip IsRowOf carried.more) (sym are) carried.rows;
+          to_do = subst (AllByRecursion (IsToDo (names_of setup))) (sym are) carried.to_do;
+        }
+    Answers-all None (Some closings) closed = absurd closed
+    Answers-all (Some moment) None closed = absurd closed
+    Answers-all (Some moment) (Some closings) closed =
+        let closes = closed.closes setup carried.more carried.leads in
+        let at = closes.closing.leads in
+        let later = closes.closing.closed in
         record {
-          events = carried.more;
-          theirs = sym carried.theirs;
-          closed = closes.closing.closed;
-          closes = subst (λ n. CloseFirst setup moment n carried.more closes.closing.closed) (ap (λ (s : Setup). length s.trees) carried.leads.setup_is) closes.closing.closes;
-          can_happen = at.can_happen;
-          lines =
-              ap₂ (λ a b. a ++ b) (lines new past closes.closing.closed at closed.given is)
-              (ap₂ (λ a b. a ++ b) (ap (λ b. closings_text b 0 closings) (several new past closes.closing.closed at closed.given is) ∙ sym closes.lines) (report new past closes.closing.closed at closed.given is));
-          logged = refl;
-        },
-      )
+          writes = record {
+            events = carried.more;
+            theirs = sym carried.theirs;
+            closed = later;
+            closes = subst (λ n. CloseFirst setup moment n carried.more later) (ap (λ (s : Setup). length s.trees) carried.leads.setup_is) closes.closing.closes;
+            can_happen = at.can_happen;
+            lines =
+                ap₂ (λ a b. a ++ b) (all_lines later at closed.given)
+                (ap₂ (λ a b. a ++ b) (ap (λ s. closings_text (has_several s) 0 (lists_of closings.items)) at.setup_is ∙ sym closes.lines) (report new later at closed.given tells));
+            logged = its_logs later at;
+          };
+          setup_is = at.setup_is;
+          events_are = at.events_are;
+          rows = subst (AllZip IsRowOf carried.more) (sym are) carried.rows;
+          to_do = subst (AllByRecursion (IsToDo (names_of setup))) (sym are) carried.to_do;
+        }
 
 -- Whatever was carried out and closed, a router has its devices, and keeps what it did.
 module _ (setup : Setup) (old mid : ScriptRouter) (asked done : List Row) (starts : Starts setup old) (answers : AnswersRows old mid asked done) where
@@ -269,18 +271,6 @@ module _ (setup : Setup) (old mid : ScriptRouter) (asked done : List Row) (start
 
   same_setup : mid.router.setup ≡ old.router.setup
   same_setup = carried_to.leads.setup_is ∙ sym starts.leads.setup_is
-
-  setup-closed : (new : ScriptRouter) (drain : Option ℕ) (closings : Option (List (List Departure))) → IsClosedFrom mid new drain closings → new.router.setup ≡ setup
-  setup-closed new None None closed = ap (λ (r : ScriptRouter). r.router.setup) closed ∙ carried_to.leads.setup_is
-  setup-closed new None (Some closings) closed = absurd closed
-  setup-closed new (Some moment) None closed = absurd closed
-  setup-closed new (Some moment) (Some closings) closed = (closed.closes setup carried_to.more carried_to.leads).closing.leads.setup_is
-
-  pub devices-kept : (new : ScriptRouter) (past : Past) (drain : Option ℕ) (closings : Option (List (List Departure))) → IsClosedFrom mid new drain closings → IsPastOf new past → length past.emitted.items ≡ length old.router.setup.trees
-  devices-kept new past drain closings closed is =
-      sym (length-map past.emitted.items (λ l. l.items)) ∙ ap length is.emitted ∙ length-map (logs_of new.router.setup new.router.events) emitted
-      ∙ length-map-range_with_len (λ d. log_of (events_at new.router.setup d new.router.events)) 0 (length new.router.setup.trees)
-      ∙ ap (λ (s : Setup). length s.trees) (setup-closed new drain closings closed ∙ sym starts.leads.setup_is)
 
   pub closings-kept : (new : ScriptRouter) (drain : Option ℕ) (closings : Option (Vec (Vec Departure Global) Global)) → IsClosedFrom mid new drain (closings_of closings) → IfSome closings (λ cs. length cs.items ≡ length old.router.setup.trees)
   closings-kept new drain None closed = tt

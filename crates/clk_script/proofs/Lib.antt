@@ -21,3 +21,4 @@ mod OneTree
 mod Apart
 mod ScriptLemmas
 mod RefusalLemmas
+mod ReplayLemmas

@@ -23,7 +23,11 @@ use Rattle.clk_script.specs.Script.{Names, most_lines, command_fault, line_fault
 use Rattle.clk_packet.specs.Bytes.{read_failures, write_failures, OfBytes}
 use Rattle.clk_router.specs.Course.{Course, IsOpened}
 use Rattle.clk_router.specs.Events.{Setup, plan_setup}
-use Rattle.clk_script.specs.Meaning.{names_of, names_over, Writes, MeansWith, MeansOver, MeansOverWith, Explains}
+use Rattle.clk_script.specs.Meaning.{names_of, names_over, Writes, MeansWith, MeansOverWith, Explains}
+use Rattle.clk_script.specs.declared.answer.Answer.{Answer}
+use Rattle.clk_script.specs.declared.reading.Script.{Script}
+use Rattle.clk_script.specs.inside.Rows.{asked_by, Answers}
+use Rattle.clk_script.specs.inside.Replay.{IsAnswerOver}
 use Rattle.clk_script.specs.declared.script_router.ScriptRouter.{ScriptRouter}
 use Rattle.clk_script.specs.inside.Reading.{IsTextOf, IsNotRead}
 use Rattle.clk_script.specs.inside.ScriptRouter.{named_by, names_in, Starts}
@@ -71,11 +75,6 @@ pub meaning-over : (plan : List Planned) (trees : List Tree) (setup : Setup) →
     → OfBytes known (λ script. MeansWith setup script text logs) → OfBytes known (λ script. MeansOverWith plan script text logs)
 meaning-over plan trees setup are same known text logs h =
     of-weaker known _ _ (λ script m. record { trees = trees; are = are; means = subst (λ (s : Setup). MeansWith s script text logs) same m }) h
-
--- the same without the logs
-pub without-logs : (plan : List Planned) (known : Option (List ℕ)) (text : List ℕ) (logs : List (List Visit)) → OfBytes known (λ script. MeansOverWith plan script text logs) → OfBytes known (λ script. MeansOver plan script text)
-without-logs plan known text logs h =
-    of-weaker known _ _ (λ script m. (logs, m)) h
 
 -- the faults that a script may have
 abbrev IsOfScript : Fault → Type 0
@@ -188,3 +187,27 @@ names-told plan specs numbers lent devices count senders made same as_many is = 
 -- what a script may name over a plan is what it may name over the router that was made of it
 pub names-opened : (plan : List Planned) (keeps : Keeps) (r : ScriptRouter) → IsOpened plan keeps r.router → names_over plan ≡ names_in r
 names-opened plan keeps r opened = (λ i. record { senders = map number_of (senders_of plan); devices = sym opened.are.count i }) ∙ sym (ap (λ (c : Course). names_of c.setup) opened.is)
+
+-- The answer to a script that was read, over a router that was made of a plan.
+pub answer-over : (plan : List Planned) (keeps : Keeps) (known : Option (List ℕ)) (bytes : List ℕ) (r : ScriptRouter) (script : Script) (answer : Answer) → IsOpened plan keeps r.router → Starts r.router.setup r → IsTextOf known bytes
+    → script_fault (names_in r) bytes ≡ None → asked_by script.rows.items ≡ commands_of bytes → script.closing ≡ closing_moment bytes
+    → ((setup : Setup) → Starts setup r → Answers setup (asked_by script.rows.items) script.closing answer) → answer.drain ≡ script.closing → answer.script_router.router.keeps.packets ≡ true → length answer.rows.items ≤ most_lines
+    → IfSome answer.closing (λ cs. length cs.items ≡ length r.router.setup.trees) → IsAnswerOver plan known answer
+answer-over plan keeps known bytes r script answer opened starts is_text sound rows closing answers drain packets few closings =
+    record {
+      trees = opened.trees;
+      are = opened.are;
+      commands = asked_by script.rows.items;
+      answers = subst (λ d. Answers (plan_setup opened.trees plan) (asked_by script.rows.items) d answer) (sym drain) (subst (λ s. Answers s (asked_by script.rows.items) script.closing answer) same (answers r.router.setup starts));
+      means = λ text logs w.
+          meaning-over plan opened.trees r.router.setup opened.are same known text logs
+          (meaning-known r.router.setup r starts known bytes text logs is_text sound
+          (subst (λ (s : Setup). Writes s (commands_of bytes) (closing_moment bytes) text logs) (sym same) (subst (λ cs. Writes (plan_setup opened.trees plan) cs (closing_moment bytes) text logs) rows
+          (subst (λ d. Writes (plan_setup opened.trees plan) (asked_by script.rows.items) d text logs) (drain ∙ closing) w))));
+      packets = packets;
+      few = few;
+      few_closings = few-closings r.router.setup r answer.closing starts closings;
+    }
+  where
+    same : r.router.setup ≡ plan_setup opened.trees plan
+    same = ap (λ (c : Course). c.setup) opened.is

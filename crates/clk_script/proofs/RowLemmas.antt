@@ -1,26 +1,24 @@
 -- What the rows of some events write.
-use Rattle.std.proofs.Common.{◌≡◌, ℕ, ◌+◌, ◌<◌, ◌≤◌, ◌==◌, Bool, true, false, List, [], ◌∷◌, ◌++◌, map, drop, get_or, Option, Some, None, MatchOption, slice_get, length, Vec, append-nil, refl, arith, sym, ap, ap₂, subst, ◌∙◌}
+use Rattle.std.proofs.Common.{◌≡◌, ℕ, ◌+◌, ◌<◌, ◌≤◌, ◌==◌, Bool, true, false, if◌then◌else◌, List, [], ◌∷◌, ◌++◌, drop, get_or, Option, Some, None, MatchOption, slice_get, length, Vec, append-nil, refl, arith, sym, ap, ap₂, subst, ◌∙◌}
 use Rattle.std.specs.Bool.{⊤}
-use Rattle.std.specs.List.{flat_map, filter_map, cons_option, range_with_len, AllByRecursion, AllZip}
+use Rattle.std.specs.List.{flat_map, filter_map, cons_option, AllByRecursion, AllZip}
 use Rattle.std.specs.declared.alloc.Global.{Global}
-use Rattle.std.proofs.lemmas.List.{drop_more, length-map}
-use Rattle.std.proofs.lemmas.List.FromFn.{length-map-range_with_len}
+use Rattle.std.proofs.lemmas.List.{drop_more}
 use Rattle.std.proofs.lemmas.List.Elements.{filter_map-append}
 use Rattle.std.proofs.lemmas.Bool.Decides.{nat_tests}
 use Rattle.clk_packet.specs.declared.packet.Packet.{Packet}
 use Rattle.clk_packet.specs.declared.packet.Offered.TheVariants.{Accepted, Refused, Evicted}
-use Rattle.clk_sched.specs.declared.visit.Visit.{Visit}
 use Rattle.clk_sched.specs.declared.session.departures.Departure.{Departure}
 use Rattle.clk_sched.specs.Log.{visits_of, result_of}
 use Rattle.clk_sched.specs.Results.{emitted}
 use Rattle.clk_script.specs.declared.rows.Row.{Row}
 use Rattle.clk_sched.specs.Tree.{Tree}
-use Rattle.clk_router.specs.Events.{Setup, Event, offered, pulled, happens_at, events_at, evicted_in, log_of, IsOfDevice, RunsTree, CanHappen, logs_of, emitted_in}
+use Rattle.clk_router.specs.Events.{Setup, Event, offered, pulled, happens_at, events_at, evicted_in, log_of, IsOfDevice, RunsTree, CanHappen, emitted_in}
 use Rattle.clk_router.proofs.Callers.Emitted.{its-given}
 use Rattle.clk_script.specs.Meaning.{has_several, offer_text, event_text, pull_text}
 use Rattle.clk_script.specs.inside.ScriptRouter.{departure_text}
 use Rattle.clk_report.specs.Devices.{lists_of}
-use Rattle.clk_script.specs.inside.Rows.{closings_text, row_at, IsRowOf, row_text, rows_text, given_first, given_after, fronts_after}
+use Rattle.clk_script.specs.inside.Rows.{closings_text, row_at, IsRowOf, row_text, rows_text, given_after, fronts_after}
 
 -- rows write the lines of their events, where what these gave and put out comes first
 module _ (several : Bool) (given fronts : List Packet) where
@@ -63,44 +61,24 @@ given-alone setup (pulled d moment visits ∷ events) all =
     let its : (d == 0) ≡ true = grind (arith, nat_tests) in
     rw its (ap (cons_option (result_of (visits_of 0 visits))) (given-alone setup events all.1))
 
--- what is kept beside the lists of more than one device
-first-several : (lists : List (List Packet)) (kept : List Packet) → 1 < length lists → given_first lists kept ≡ kept
-first-several [] kept many = absurd (omega (arith, many))
-first-several (only ∷ []) kept many = absurd (omega (arith, many))
-first-several (first ∷ other ∷ lists) kept many = refl
-
 -- What the rows of events write, where a router has gone on since, and what the pulls gave was kept where there are several devices.
 pub rows-written : (setup : Setup) (events later : List Event) (rows : List Row) (kept fronts : List Packet) → AllZip IsRowOf events rows → 1 ≤ length setup.trees → CanHappen setup (events ++ later)
     → fronts ≡ filter_map evicted_in (events ++ later) → (has_several setup ≡ true → kept ≡ filter_map emitted_in events)
-    → rows_text (has_several setup) rows (given_first (map emitted (logs_of setup (events ++ later))) kept) fronts ≡ flat_map (event_text (has_several setup)) events
+    → rows_text (has_several setup) rows (if has_several setup then kept else emitted (log_of (events_at setup 0 (events ++ later)))) fronts ≡ flat_map (event_text (has_several setup)) events
 rows-written setup events later rows kept fronts are some can out is = by_several (has_several setup) refl
   where
     all : List Event
     all = events ++ later
 
-    its_log : ℕ → List Visit
-    its_log d = log_of (events_at setup d all)
-
     these : fronts ≡ filter_map evicted_in events ++ filter_map evicted_in later
     these = out ∙ filter_map-append evicted_in events later
 
-    by_several : (b : Bool) → has_several setup ≡ b → rows_text (has_several setup) rows (given_first (map emitted (logs_of setup all)) kept) fronts ≡ flat_map (event_text (has_several setup)) events
-    by_several true e =
-        let many : 1 < length setup.trees = grind (arith, nat_tests) in
-        let count = length-map (logs_of setup all) emitted ∙ length-map-range_with_len its_log 0 (length setup.trees) in
-        let given : given_first (map emitted (logs_of setup all)) kept ≡ filter_map emitted_in events ++ [] =
-        first-several (map emitted (logs_of setup all)) kept (omega (arith, count, many)) ∙ is e ∙ sym (append-nil (filter_map emitted_in events))
-        in
-        ap₂ (rows_text (has_several setup) rows) given these ∙ rows-lines (has_several setup) [] (filter_map evicted_in later) events rows are
+    by_several : (b : Bool) → has_several setup ≡ b → rows_text b rows (if b then kept else emitted (log_of (events_at setup 0 all))) fronts ≡ flat_map (event_text b) events
+    by_several true e = ap₂ (rows_text true rows) (is e ∙ sym (append-nil (filter_map emitted_in events))) these ∙ rows-lines true [] (filter_map evicted_in later) events rows are
     by_several false e =
         let one : length setup.trees ≡ 1 = grind (arith, nat_tests) in
-        let theirs : filter_map emitted_in (events_at setup 0 all) ≡ filter_map emitted_in events ++ filter_map emitted_in later =
-        given-alone setup all (subst (λ n. AllByRecursion (IsOfDevice n) all) one can.devices) ∙ filter_map-append emitted_in events later
-        in
-        let given : given_first (map emitted (logs_of setup all)) kept ≡ filter_map emitted_in events ++ filter_map emitted_in later =
-        ap (λ n. given_first (map emitted (map its_log (range_with_len 0 n))) kept) one ∙ first-emitted setup.trees (events_at setup 0 all) some (can.runs 0) ∙ theirs
-        in
-        ap₂ (rows_text (has_several setup) rows) given these ∙ rows-lines (has_several setup) (filter_map emitted_in later) (filter_map evicted_in later) events rows are
+        let given = first-emitted setup.trees (events_at setup 0 all) some (can.runs 0) ∙ given-alone setup all (subst (λ n. AllByRecursion (IsOfDevice n) all) one can.devices) ∙ filter_map-append emitted_in events later in
+        ap₂ (rows_text false rows) given these ∙ rows-lines false (filter_map emitted_in later) (filter_map evicted_in later) events rows are
 
 -- the line of the row at a place, and those after it
 pub rows-left : (several : Bool) (rows : List Row) (i : ℕ) (r : Row) (given fronts : List Packet) → i < length rows → r ≡ get_or rows i r

@@ -4,3 +4,4 @@ pub mod Lines
 pub mod Reading
 pub mod ScriptRouter
 pub mod Rows
+pub mod Replay

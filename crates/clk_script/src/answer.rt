@@ -1,17 +1,16 @@
 //! The answer to a script.
 
-ghost use Rattle.std.specs.Prelude.{◌≡◌, ◌≤◌, ◌∷◌, [], IfOk, IfSome, OnOk, IsOkUnless, length};
+ghost use Rattle.std.specs.Prelude.{◌≡◌, ◌≤◌, ◌∷◌, [], true, IfOk, IfSome, OnOk, IsOkUnless, length};
 ghost use Rattle.std.specs.List.{AllByRecursion};
 ghost use Rattle.clk_packet.specs.declared.fault.Fault.TheVariants.{Memory};
 ghost use Rattle.clk_report.specs.Devices.{lists_of};
 ghost use Rattle.clk_script.specs.Script.{most_lines, most_moment};
 ghost use Rattle.clk_router.specs.Events.{Setup};
-ghost use Rattle.clk_script.specs.Meaning.{Writes};
-ghost use Rattle.clk_script.specs.inside.ScriptRouter.{names_in, IsReady, Starts, AreLogs};
-ghost use Rattle.clk_script.specs.inside.Rows.{asked_by, answer_text, IsToDo, CanBeRun, AnswersRows, IsClosedFrom, IsClosedAt, closings_of};
+ghost use Rattle.clk_script.specs.inside.ScriptRouter.{names_in, IsReady, Starts};
+ghost use Rattle.clk_script.specs.inside.Rows.{asked_by, Answers, IsToDo, CanBeRun, AnswersRows, IsClosedFrom, IsClosedAt, closings_of};
 
-use crate::past::Past;
 use crate::reading::Script;
+use crate::report::accounts_tell;
 use crate::rows::{Fate, Row};
 use crate::script_router::ScriptRouter;
 use clk_packet::Fault;
@@ -23,10 +22,12 @@ use std::alloc::Global;
 pub struct Answer {
     /// Its commands, in order, each with its result.
     pub rows: Vec<Row>,
+    /// The moment of the script's drain in ticks, if it has one.
+    pub drain: Option<u64>,
     /// If the script has a drain: the packets that each device emitted in it. Then the report follows.
     pub closing: Option<Vec<Vec<Departure>>>,
-    /// All that the router did.
-    pub past: Past,
+    /// The router over which all was carried out.
+    pub script_router: ScriptRouter,
 }
 
 /// Answers a script, over a router to which nothing has happened.
@@ -41,9 +42,10 @@ pub fn answer_script(
 ) -> Result<Answer, Fault>
     requires fresh { (setup : Setup) × Starts setup script_router }
     requires sound { CanBeRun (names_in script_router) script }
-    ensures means { IfOk result (λ answer. (setup : Setup) → Starts setup script_router
-        → (logs : _) × AreLogs script_router.router.keeps.visits answer.past logs × Writes setup (asked_by script.rows.items) script.closing (answer_text answer) logs) }
-    ensures devices { IfOk result (λ answer. length answer.past.emitted.items ≡ length script_router.router.setup.trees) }
+    ensures answers { IfOk result (λ answer. (setup : Setup) → Starts setup script_router → Answers setup (asked_by script.rows.items) script.closing answer) }
+    ensures drain { IfOk result (λ answer. answer.drain ≡ script.closing) }
+    ensures packets { IfOk result (λ answer. answer.script_router.router.keeps.packets ≡ true) }
+    ensures rows { IfOk result (λ answer. length answer.rows.items ≤ most_lines) }
     ensures closings { IfOk result (λ answer. IfSome answer.closing (λ closings. length closings.items ≡ length script_router.router.setup.trees)) }
     ensures fault { IsOkUnless result Fault.Memory }
 {
@@ -51,10 +53,13 @@ pub fn answer_script(
     let mut rows = script.rows;
     carry_out(&mut script_router, &mut rows)?;
     let closing = close(alloc, &mut script_router, script.closing)?;
+    // The lines of the accounts are the report, by this law.
+    accounts_tell(&script_router.router);
     Ok(Answer {
         rows,
+        drain: script.closing,
         closing,
-        past: script_router.into_past(alloc)?,
+        script_router,
     })
 }
 

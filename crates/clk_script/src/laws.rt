@@ -15,6 +15,7 @@ ghost use Rattle.clk_script.specs.Script.{most_lines, most_moment};
 ghost use Rattle.clk_script.specs.Meaning.{CloseFirst, IsMeaning, MeansOver, MeansOverWith, Explains, ExplainsPlan, names_of, command_of};
 ghost use Rattle.clk_router.specs.Setups.{IsWired, IsApart};
 ghost use Rattle.clk_script.specs.OneMeaning.{HasAtMostOneMeaning, HasAtMostOneLog, DevicesAreApart};
+ghost use Rattle.clk_script.specs.inside.Replay.{DevicesGoAlike};
 ghost use Rattle.clk_script.specs.Record.{command_text, drain_text, record_text, FitsLimits, FitsScript, RecordsMeanTheirCourse, PlanRecordsMeanTheirCourse, IsSmall, OnlyFittingRecordsMean};
 ghost use Rattle.clk_script.specs.OneDevice.{HasOneDevice, IsMeaningAlone};
 ghost use Rattle.clk_script.specs.Examples.{two_queues, two_devices, shaped, moment_not_counted, moment_ahead, second_first, number_left_out, refused_early, never_sent, other_refused, swapped, moment_shared, no_device, one_left, closed_at_once, closed_without_a_pull, closed_a_tick_early, closed_a_pull_late, one_at_each, closed_in_turn, closed_last_first, closed_on, pulled_at, great_sender, from_great, failed, one_pull, holding};
@@ -107,6 +108,20 @@ pub fn devices_of_plans_stand_apart(plan: &Plan)
     let _queues = plan.queues();
     plan.trees_share_queues();
     devices_stand_apart();
+}
+
+/// What happens at a device of a plan follows from the commands there: if the commands of one course at a device are a prefix of those of
+/// another, so are the events.
+pub fn devices_of_plans_go_alike(plan: &Plan)
+    ensures { (trees : List Tree) → AreTreesOf plan.now trees → DevicesGoAlike (plan_setup trees plan.now) }
+{
+    // Its senders rise and send to its queues, which its trees share out. The rest follows from these laws, which do nothing.
+    let _senders = plan.senders();
+    let _queues = plan.queues();
+    plan.trees_share_queues();
+    runs_go_on();
+    histories_leave_no_choice();
+    runs_leave_no_choice();
 }
 
 /// Which events cannot happen: over two queues below a PrioSched, over one queue below a Shaper, and over two devices with a queue each.

@@ -8,8 +8,8 @@ mod laws;
 mod limits;
 mod lines;
 mod moment;
-mod past;
 mod reading;
+mod replay;
 mod report;
 mod rows;
 mod run;
@@ -26,6 +26,7 @@ pub use laws::{
     scripts_have_at_most_one_meaning, word_examples, writer_examples,
 };
 pub use limits::{MAX_DEVICE, MAX_LINES, MAX_MOMENT, MAX_SCRIPT_BYTES};
+pub use replay::Replay;
 pub use report::{accounts_tell, write_accounts};
 pub use run::{run_script, run_script_logged};
 pub use script::{Command, Line};

@@ -1,7 +1,5 @@
 //! A router, with all that the answer to a script needs of its past.
 
-use crate::past::Past;
-use crate::report::accounts_tell;
 use clk_packet::{Fault, Offered, Packet};
 use clk_router::{Account, Router, accounts_of, count_drained, count_offered, count_pulled};
 use clk_sched::{Departure, Keeps};
@@ -13,31 +11,32 @@ use std::alloc::Global;
 pub struct ScriptRouter {
     pub router: Router,
     /// The account of each sender, at its place.
-    accounts: Vec<Account>,
+    pub accounts: Vec<Account>,
     /// If there are several devices: the packets that pulls gave before the drain, in order. A single device has them itself.
-    given: Vec<Packet>,
+    pub given: Vec<Packet>,
     /// The packets that queues evicted for later ones, in order.
-    evicted: Vec<Packet>,
+    pub evicted: Vec<Packet>,
 }
 
 impl ScriptRouter {
     ghost use Rattle.std.specs.Prelude.{◌≡◌, ◌++◌, ◌∷◌, ◌≤◌, [], Some, true, false, IfOk, OnOk, IsOkUnless};
     ghost use Rattle.clk_packet.specs.declared.fault.Fault.TheVariants.{Memory};
+    ghost use Rattle.clk_sched.specs.Keeps.{keeps_nothing};
     ghost use Rattle.clk_router.specs.Course.{sender_at, CanPull, CanClose, IsOpened};
     ghost use Rattle.clk_router.specs.Events.{Setup, offered};
-    ghost use Rattle.clk_script.specs.inside.ScriptRouter.{evicted_kept, given_kept, AreAlike, IsAt, IsPlace, IsReady, IsPastOf, LeadsOnByPull, LeadsOnByDrain, Starts, StaysElsewhere, ChangesGiven};
+    ghost use Rattle.clk_script.specs.inside.ScriptRouter.{evicted_kept, given_kept, AreAlike, IsAt, IsPlace, IsReady, LeadsOnByPull, LeadsOnByDrain, Starts, StaysElsewhere, ChangesGiven};
 
-    /// The router of a plan, before anything has happened. `visits` says whether its devices keep their visits. Fault 1 if an
-    /// allocation fails.
-    pub fn new(alloc: Global, plan: &Plan, visits: bool) -> Result<ScriptRouter, Fault>
-        ensures opened { IfOk result (λ r. IsOpened plan.now (record { visits = visits; packed = false; packets = true }) r.router) }
+    /// The router of a plan, before anything has happened. Its devices keep the packets that they emit. Fault 1 if an allocation fails.
+    pub fn new(alloc: Global, plan: &Plan) -> Result<ScriptRouter, Fault>
+        ensures opened { IfOk result (λ r. IsOpened plan.now (record keeps_nothing { packets = true }) r.router) }
         ensures starts { IfOk result (λ r. Starts r.router.setup r) }
         ensures fault { IsOkUnless result Fault.Memory }
     {
         let keeps = Keeps {
-            visits,
+            visits: false,
             packed: false,
             packets: true,
+            latest: false,
         };
         let router = Router::open(alloc, plan, keeps)?;
         // A law, which does nothing.
@@ -144,23 +143,5 @@ impl ScriptRouter {
         self.router.has_happened();
         count_drained(&mut self.accounts, self.router.senders(), &departures);
         Ok(departures)
-    }
-
-    /// All that the router did. Fault 1 if an allocation for the lists of the devices fails.
-    pub fn into_past(self, alloc: Global) -> Result<Past, Fault>
-        requires { self.router.keeps.packets ≡ true }
-        ensures past { IfOk result (IsPastOf self) }
-        ensures fault { IsOkUnless result Fault.Memory }
-    {
-        // The lines of the accounts are the report, by this law.
-        accounts_tell(&self.router);
-        let (logs, emitted) = self.router.into_kept(alloc)?;
-        Ok(Past {
-            logs,
-            emitted,
-            given: self.given,
-            put_out: self.evicted,
-            accounts: self.accounts,
-        })
     }
 }

@@ -1,19 +1,19 @@
 //! Writing an answer, without allocating.
 
-ghost use Rattle.std.specs.Prelude.{◌≡◌, ◌≤◌, ◌+◌, ◌++◌, drop, length, slice_get, IfSome};
+ghost use Rattle.std.specs.Prelude.{◌≡◌, ◌≤◌, ◌+◌, ◌++◌, true, drop, length, slice_get, IfSome};
 ghost use Rattle.std.specs.List.{flat_map};
 ghost use Rattle.clk_packet.specs.Bytes.{Wrote};
 ghost use Rattle.clk_report.specs.Devices.{lists_of};
 ghost use Rattle.clk_script.specs.Meaning.{offer_text};
 ghost use Rattle.clk_script.specs.inside.Lines.{Passes};
-ghost use Rattle.clk_script.specs.inside.Rows.{offered_as, fronts_left, row_text, rows_text, are_several, given_of, given_after, fronts_after, closings_text, answer_text};
+ghost use Rattle.clk_script.specs.inside.Rows.{offered_as, fronts_left, row_text, rows_text, given_of, given_after, fronts_after, closings_text, answer_text};
 ghost use Rattle.clk_script.specs.inside.ScriptRouter.{departure_text};
 
 use crate::answer::Answer;
 use crate::lines::Lines;
-use crate::past::Past;
 use crate::report::write_accounts;
 use crate::rows::{Fate, Row};
+use crate::script_router::ScriptRouter;
 use crate::text::{LINE, put_offer, put_pull};
 use clk_packet::{Fault, Offered, Packet, Sink};
 use clk_report::MAX_DEVICES;
@@ -25,19 +25,20 @@ use clk_sched::Departure;
 ///
 /// Fault 20 if the sink fails. It has then taken a front of these lines.
 pub fn write_answer<W: Sink>(answer: &Answer, writer: &mut W) -> Result<(), Fault>
+    requires packets { answer.now.script_router.router.keeps.packets ≡ true }
     requires closings { IfSome answer.now.closing (λ closings. length closings.items ≤ MAX_DEVICES) }
     ensures { Wrote (W.Sink.taken writer.old) (W.Sink.taken writer.new)
         (W.Sink.failures writer.old) (W.Sink.failures writer.new) result (answer_text answer.now) }
 {
-    let past = &answer.past;
-    let several = are_several(past);
+    let done = &answer.script_router;
+    let several = done.router.devices() > 1;
     let mut lines = Lines::new();
     write_rows(
         &mut lines,
         several,
         &answer.rows,
-        given_of(past),
-        &past.put_out,
+        given_of(done),
+        &done.evicted,
         writer,
     )?;
     let Some(closings) = &answer.closing else {
@@ -45,23 +46,18 @@ pub fn write_answer<W: Sink>(answer: &Answer, writer: &mut W) -> Result<(), Faul
     };
     write_closings(&mut lines, several, 0, closings, writer)?;
     lines.write(writer)?;
-    write_accounts(&past.accounts, writer)
-}
-
-/// Whether there are several devices.
-fn are_several(past: &Past) -> bool
-    ensures { result ≡ are_several past.now }
-{
-    past.emitted.len() > 1
+    write_accounts(&done.accounts, writer)
 }
 
 /// The packets that pulls gave before the drain, in order. With a single device those of the drain follow them.
-fn given_of(past: &Past) -> &[Packet]
-    ensures { result.now ≡ given_of past.now }
+fn given_of(done: &ScriptRouter) -> &[Packet]
+    requires { done.now.router.keeps.packets ≡ true }
+    ensures { result.now ≡ given_of done.now }
 {
-    match past.emitted.as_slice() {
-        [only] => only,
-        _ => &past.given,
+    if done.router.devices() > 1 {
+        &done.given
+    } else {
+        done.router.emitted(0)
     }
 }
 

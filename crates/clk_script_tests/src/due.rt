@@ -243,6 +243,7 @@ fn routers_that_keep_visits_are_due(rt: HostRuntime) -> Result<(), Fault> {
         visits: true,
         packed: false,
         packets: false,
+        latest: false,
     };
     let mut router = Router::open(rt.alloc(), &plan, keeps)?;
     assert_eq!(rt; due_of(&rt, &router), None);

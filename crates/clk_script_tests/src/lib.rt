@@ -28,6 +28,8 @@ mod random;
 #[cfg(test)]
 mod records;
 #[cfg(test)]
+mod replay;
+#[cfg(test)]
 mod row;
 #[cfg(test)]
 mod scripts;

@@ -3,9 +3,7 @@
 use crate::logged::assert_logged;
 use crate::{closing, deficit, devices, in_order, queues, scripts, shaper, stride};
 use clk_packet::{FailingSink, Fault, FromRead, Source};
-use clk_report::visits_csv;
 use clk_rows::{Row, SCRIPTS};
-use clk_sched::Visit;
 use clk_script::{run_script, run_script_logged};
 use clk_tree::Plan;
 use std::alloc::Global;
@@ -85,17 +83,12 @@ pub fn assert_visits(rt: &impl Abort, alloc: Global, row: &Row, script: &mut imp
 }
 
 fn csv_of(alloc: Global, tree: &str, script: &mut impl Source) -> Result<Vec<u8>, Fault> {
-    let logs = logs_of(alloc, tree, script)?;
-    let mut sink = FailingSink::new(vec![in alloc; 0; AMPLE]?);
-    visits_csv(&logs, &mut sink)?;
-    Ok(sink.taken().to_vec(alloc)?)
-}
-
-/// The visits that a script makes over a tree, of each device.
-fn logs_of(alloc: Global, tree: &str, script: &mut impl Source) -> Result<Vec<Vec<Visit>>, Fault> {
     let plan = Plan::read(alloc, tree.as_bytes())?;
     let mut writer = FailingSink::new(vec![in alloc; 0; AMPLE]?);
-    run_script_logged(alloc, script, &mut writer, &plan)
+    let replay = run_script_logged(alloc, script, &mut writer, &plan)?;
+    let mut sink = FailingSink::new(vec![in alloc; 0; AMPLE]?);
+    replay.write(&mut sink)?;
+    Ok(sink.taken().to_vec(alloc)?)
 }
 
 #[test]

@@ -1,7 +1,7 @@
 -- How the parts of opened devices go to the threads of a run and are joined again. Seats stay by device and queue.
 use Rattle.std.specs.Prelude.{◌≡◌, ◌⊎◌, ℕ, ◌*◌, ◌+◌, ◌<◌, ◌≤◌, true, List, [], ◌∷◌, length, map, get_or, ⊤, Vec}
 use Rattle.std.specs.declared.alloc.Global.{Global}
-use Rattle.std.specs.List.{flat_map, AllByRecursion}
+use Rattle.std.specs.List.{flat_map, AllByRecursion, AllZip}
 use Rattle.clk_packet.specs.declared.fault.Fault.{Fault}
 use Rattle.clk_packet.specs.declared.fault.Fault.TheVariants.{Memory}
 use Rattle.clk_packet.specs.Trace.{sent_by}
@@ -21,7 +21,7 @@ use Rattle.clk_drain.specs.Outcome.{Device, IsSettledOutcome}
 use Rattle.clk_drain.specs.Closing.{accepted_over, HasSent, queue_of_line, seated}
 use Rattle.clk_drain.specs.Lost.{SeatedQueue, NamesFirstLost}
 use Rattle.clk_drain.specs.Moments.{steps, HasMoments}
-use Rattle.clk_drain.specs.inside.Threads.{Terms, InPairs, IsUnused, HaveSentAll, EndLists, Feed, IsUnpulled, IsPulled}
+use Rattle.clk_drain.specs.inside.Threads.{Terms, IsUnused, HaveSentAll, EndLists, Feed, IsUnpulled, IsPulled}
 
 -- the lines of these queues while their seats are handed out
 abbrev pub lines_from : List LeafQueue → List TapLists → List LineLists
@@ -83,7 +83,7 @@ pub record AreLeft (terms : Terms) (all : List (Vec LeafQueue Global)) (devices 
 
 -- Each sender of a device offered all that it sends, and then closed its seat, queue by queue.
 abbrev pub HasDeviceSent : Terms → Vec (Vec SeatLists Global) Global → Vec (Vec ClosedLists Global) Global → Type 0
-HasDeviceSent terms seats closed = InPairs (HaveSentAll terms) seats.items closed.items
+HasDeviceSent terms seats closed = AllZip (HaveSentAll terms) seats.items closed.items
 
 -- the lines of these queues, each with its closed seats
 abbrev pub joined_lines : List LeafQueue → List TapLists → List (Vec ClosedLists Global) → List LineLists

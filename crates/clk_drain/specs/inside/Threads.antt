@@ -1,5 +1,6 @@
 -- What the threads of a run say to one another.
 use Rattle.std.specs.Prelude.{◌≡◌, ℕ, ◌*◌, ◌≤◌, Bool, List, [], ◌∷◌, ◌++◌, length, map, max, ⊤, Vec}
+use Rattle.std.specs.List.{AllZip}
 use Rattle.std.specs.declared.alloc.Global.{Global}
 use Rattle.clk_packet.specs.declared.packet.Packet.{Packet}
 use Rattle.clk_packet.specs.Trace.{sent_by}
@@ -28,15 +29,9 @@ pub record HasSentAll (terms : Terms) (seat : SeatLists) (result : ClosedLists) 
   pub closed : IsClosedOf seat result
   pub sent : AreOffered (sent_by terms.traces seat.sender) result.lists
 
--- This holds of the members of two lists in each place, and there are as many of both.
-abbrev pub InPairs : {X Y : Type 0} → (X → Y → Type 0) → List X → List Y → Type 0
-InPairs Holds [] [] = ⊤
-InPairs Holds (x ∷ xs) (y ∷ ys) = Holds x y × InPairs Holds xs ys
-InPairs Holds xs ys = ⊥
-
 -- Each sender of a queue offered all that it sends, and then closed its seat, in order.
 abbrev pub HaveSentAll : Terms → Vec SeatLists Global → Vec ClosedLists Global → Type 0
-HaveSentAll terms seats closed = InPairs (HasSentAll terms) seats.items closed.items
+HaveSentAll terms seats closed = AllZip (HasSentAll terms) seats.items closed.items
 
 -- a device's session, whether its visits are kept, and the taps of its queues, in order
 pub record EndLists : Type 0 where

@@ -1,12 +1,13 @@
 //! The threads of a run: a producer for each sender, and a consumer for each device from the second on.
 
 ghost use Rattle.std.specs.Prelude.{◌≡◌, [], length, IfOk, IsOkUnless};
+ghost use Rattle.std.specs.List.{AllZip};
 ghost use Rattle.clk_packet.specs.declared.fault.Fault.TheVariants.{Memory};
 ghost use Rattle.clk_packet.specs.Trace.{sent_by};
 ghost use Rattle.clk_ruled.specs.Queue.{IsSeatOf};
 ghost use Rattle.clk_ruled.specs.Closing.{IsClosedOf};
 ghost use Rattle.clk_drain.specs.Closing.{AreOffered};
-ghost use Rattle.clk_drain.specs.inside.Threads.{InPairs, IsUnused, HaveSentAll, IsUnpulled, IsPulled};
+ghost use Rattle.clk_drain.specs.inside.Threads.{IsUnused, HaveSentAll, IsUnpulled, IsPulled};
 ghost use Rattle.clk_drain.specs.inside.Handed.{FitPlaces, AreAllUnused, AreLeft, IsUnpulledOver, HasDeviceSent, HavePulled};
 
 use crate::running::consumer::Consumer;
@@ -112,7 +113,7 @@ pub fn run_threads<R: Threads + Wait, W: Wait + Sync, G: Gate + Sync>(
 ) -> Result<Sent, Fault>
     requires unused { FitPlaces (AreAllUnused course.now) seats.items queues.now }
     requires unpulled { FitPlaces IsUnpulledOver ends.items queues.now }
-    ensures sent { IfOk result (λ sent. InPairs (HasDeviceSent course.now) seats.items sent.devices.items) }
+    ensures sent { IfOk result (λ sent. AllZip (HasDeviceSent course.now) seats.items sent.devices.items) }
     ensures pulled { IfOk result (λ sent. HavePulled course.now ends.items sent.ends.items queues.now) }
     ensures fault { IsOkUnless result Fault.Memory }
 {
@@ -128,7 +129,7 @@ pub fn run_threads<R: Threads + Wait, W: Wait + Sync, G: Gate + Sync>(
         rt,
         move |scope| -> Result<Sent, Fault>
             requires { AreLeft left.course.now left.lent.now left.devices left.queues left.seats × FitPlaces IsUnpulledOver ends.items left.lent.now }
-            ensures { IfOk result (λ sent. InPairs (HasDeviceSent left.entry.course.now) left.entry.devices.items sent.devices.items × HavePulled left.entry.course.now ends.items sent.ends.items left.entry.lent.now) × IsOkUnless result Fault.Memory }
+            ensures { IfOk result (λ sent. AllZip (HasDeviceSent left.entry.course.now) left.entry.devices.items sent.devices.items × HavePulled left.entry.course.now ends.items sent.ends.items left.entry.lent.now) × IsOkUnless result Fault.Memory }
         { send_and_pull(rt, scope, alloc, left, ends) },
     )
 }
@@ -165,8 +166,8 @@ fn send_and_pull<'s, E, R: Threads, W: Wait + Sync, G: Gate + Sync>(
 ) -> Result<Sent, Fault>
     requires left { AreLeft left.course.now left.lent.now left.devices left.queues left.seats }
     requires unpulled { FitPlaces IsUnpulledOver ends.items left.lent.now }
-    ensures devices { IfOk result (λ sent. InPairs (HasDeviceSent left.entry.course.now) left.entry.devices.items sent.devices.items) }
-    ensures queues { IfOk result (λ sent. InPairs (HaveSentAll left.entry.course.now) left.entry.queues.items sent.queues.items) }
+    ensures devices { IfOk result (λ sent. AllZip (HasDeviceSent left.entry.course.now) left.entry.devices.items sent.devices.items) }
+    ensures queues { IfOk result (λ sent. AllZip (HaveSentAll left.entry.course.now) left.entry.queues.items sent.queues.items) }
     ensures seats { IfOk result (λ sent. HaveSentAll left.entry.course.now left.entry.seats sent.seats) }
     ensures pulled { IfOk result (λ sent. HavePulled left.entry.course.now ends.items sent.ends.items left.entry.lent.now) }
     ensures fault { IsOkUnless result Fault.Memory }

@@ -186,7 +186,7 @@ unnumbered setup d s (offered p outcome) other = by_sender (p.sender == s) refl
     by_sender true f = let same : p.sender ≡ s = grind (arith, nat_tests) in absurd (other (ap (sends_at setup d) same))
 
 -- a sender's packets are all offered at a device, or none is
-numbers-at : (setup : Setup) (d s : ℕ) (events : List Event) → (b : Bool) → sends_at setup d s ≡ b → numbers_of s (events_at setup d events) ≡ (if b then numbers_of s events else [])
+pub numbers-at : (setup : Setup) (d s : ℕ) (events : List Event) → (b : Bool) → sends_at setup d s ≡ b → numbers_of s (events_at setup d events) ≡ (if b then numbers_of s events else [])
 numbers-at setup d s events true e = kept-all (happens_at setup d) (number_from s) events (λ x isnt. unnumbered setup d s x (λ same. false≢true (sym isnt ∙ same ∙ e)))
 numbers-at setup d s events false e = kept-none (happens_at setup d) (number_from s) events (λ x does. unnumbered setup d s x (λ same. false≢true (sym e ∙ sym same ∙ does)))
 

@@ -8,7 +8,6 @@ use Rattle.clk_packet.specs.Limits.{most_elements, most_capacity}
 use Rattle.clk_ring.specs.Queue.{Queue}
 use Rattle.clk_ring.specs.QueueHistory.{QueueEvent}
 use Rattle.clk_ring.specs.Laws.{LeadsTo}
-use Rattle.clk_sched.specs.declared.visit.Visit.{Visit}
 use Rattle.clk_sched.specs.declared.session.departures.Departure.{Departure}
 use Rattle.clk_sched.specs.declared.session.keeps.Keeps.{Keeps}
 use Rattle.clk_sched.specs.Departures.{departures_in}
@@ -111,14 +110,6 @@ pub record IsAt (setup : Setup) (events : List Event) (parts : Parts) : Type 0 w
   pub device_count : length parts.devices.items ≡ length setup.trees
   pub paths : parts.paths.items ≡ map room_device setup.queues
   pub kinds : (d : ℕ) → KeepsAsAt parts.keeps (slice_get parts.devices.items d)
-
--- the log of a device
-abbrev pub device_log : Device → List Visit
-device_log device = device.session.log
-
--- the packets that a device emitted
-abbrev pub device_emitted : Device → List Packet
-device_emitted device = emitted device.session.log
 
 -- A setup over which a router can run. It has a device, and no more than `most_elements` devices and queues. Its senders stand by rising
 -- numbers, and send to queues that exist. Its queues send to devices that exist, and no capacity is above `most_capacity`.

@@ -15,7 +15,7 @@ use Rattle.clk_sched.specs.Step.{IsOnePullMore}
 use Rattle.clk_sched.specs.inside.Holds.Shaper.{AreBefore}
 use Rattle.clk_sched.specs.inside.Places.{StandsIn, AreWired, AllFit}
 use Rattle.clk_sched.specs.inside.Pulling.{NodeHolds, Keeps, Pulls, HasPulled, added, now_of, after, with_turn}
-use Rattle.clk_sched.specs.Session.{Progress, IsPulledOnce, latest_moment, newly}
+use Rattle.clk_sched.specs.Session.{Progress, IsPulledOnce, latest_moment, latest_of, latest_pull, newly}
 use Rattle.clk_sched.specs.inside.Session.{IsLaidOut, IsAfterRun, history_of}
 use Rattle.clk_sched.proofs.Callers.Emitted.{emitted-append}
 use Rattle.clk_sched.proofs.Lists.Members.{all-weaker, all-split}
@@ -76,6 +76,10 @@ runs-before tree log moment run past y = history-before moment (reverse (pulls l
 
 pub run-before : (tree : Tree) (n : Nodes) → IsAfterRun tree n → (y : ℕ) → AreBefore n.moment (history_of (reverse (pulls n.log.items)) y)
 run-before tree n run = runs-before tree n.log.items n.moment run.run (let e = run.moment in omega (arith, e))
+
+-- a pull's visits are those of the latest pull
+pub is-latest : (a b : Progress) (moment : ℕ) (got : Option Packet) → IsPulledOnce a b moment got → newly a b ≡ latest_pull b.log
+is-latest a b moment got h = sym (ap latest_of (ap reverse h.last ∙ reverse-append (pulls a.log) (newly a b ∷ [])))
 
 -- the session's view of its nodes
 abbrev pub progress : Tree → Nodes → Progress

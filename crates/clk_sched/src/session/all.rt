@@ -16,6 +16,8 @@ pub struct AllVisits {
     pub ghost spare: { ℕ },
     /// How many of them were dropped.
     pub ghost gone: { ℕ },
+    /// How many there were before the latest pull.
+    pub ghost start: { ℕ },
 }
 
 impl Model for AllVisits {
@@ -28,14 +30,14 @@ impl AllVisits {
 
     /// No visits so far, and room for none.
     pub fn none() -> AllVisits
-        ensures { result ≡ record { items = []; spare = 0; gone = 0 } }
+        ensures { result ≡ record { items = []; spare = 0; gone = 0; start = 0 } }
     {
         AllVisits {}
     }
 
     /// Adds a visit.
     pub fn push(&mut self, visit: &Visit)
-        ensures { self.new ≡ record { items = self.old.items ++ visit.now ∷ []; spare = self.old.spare - 1; gone = self.old.gone } }
+        ensures { self.new ≡ record { items = self.old.items ++ visit.now ∷ []; spare = self.old.spare - 1; gone = self.old.gone; start = self.old.start } }
     {}
 
     /// Adds the visits of inputs that gave nothing.
@@ -43,20 +45,20 @@ impl AllVisits {
     #[inline]
     pub fn push_idle(&mut self, idle: &IdleInputs)
         requires { idle.now.first + idle.now.count < 2 ^ 16 }
-        ensures { self.new ≡ record { items = self.old.items ++ idle_visits idle.now; spare = self.old.spare - idle.now.count; gone = self.old.gone } }
+        ensures { self.new ≡ record { items = self.old.items ++ idle_visits idle.now; spare = self.old.spare - idle.now.count; gone = self.old.gone; start = self.old.start } }
     {
         for place in 0..idle.count {
             self.push(&idle.visit(place));
         }
     }
 
-    /// Makes room for so many more visits.
-    pub fn make_room(&mut self, visits: &usize)
-        ensures { self.new ≡ record { items = self.old.items; spare = visits.now; gone = self.old.gone } }
+    /// Begins a pull, with room for so many visits.
+    pub fn begin(&mut self, visits: &usize)
+        ensures { self.new ≡ record { items = self.old.items; spare = visits.now; gone = self.old.gone; start = length self.old.items } }
     {}
 
     /// Marks all visits so far as dropped. Contracts still speak of them.
     pub fn let_go(&mut self)
-        ensures { self.new ≡ record { items = self.old.items; spare = self.old.spare; gone = length self.old.items } }
+        ensures { self.new ≡ record { items = self.old.items; spare = self.old.spare; gone = length self.old.items; start = self.old.start } }
     {}
 }

@@ -1,6 +1,6 @@
 //! What a session keeps of the past.
 
-/// What a session keeps of the past. This allocates as the session goes on.
+/// What a session keeps of the past. All but the latest pull's visits grows, and allocates, as the session goes on.
 #[derive(Clone, Copy, Debug, PartialEq, Eq)]
 pub struct Keeps {
     /// Every visit, in a list that can be read at any time.
@@ -9,6 +9,8 @@ pub struct Keeps {
     pub packed: bool,
     /// Every packet emitted at the device.
     pub packets: bool,
+    /// The visits of the latest pull, in a list of their own (`Session::latest`). Its memory is allocated when the session is made.
+    pub latest: bool,
 }
 
 impl Keeps {
@@ -17,6 +19,7 @@ impl Keeps {
         visits: true,
         packed: false,
         packets: true,
+        latest: false,
     };
 
     /// Nothing.
@@ -24,5 +27,14 @@ impl Keeps {
         visits: false,
         packed: false,
         packets: false,
+        latest: false,
+    };
+
+    /// The visits of the latest pull.
+    pub const LATEST: Keeps = Keeps {
+        visits: false,
+        packed: false,
+        packets: false,
+        latest: true,
     };
 }

@@ -1,13 +1,14 @@
 //! How a tree is laid out in tables, by node number, before its first pull.
 
-ghost use Rattle.std.specs.Prelude.{◌≡◌, ℕ, ◌+◌, ◌≤◌, ◌<◌, [], ◌++◌, length, MatchOption, IfOk, IfErr};
+ghost use Rattle.std.specs.Prelude.{◌≡◌, ℕ, ◌+◌, ◌≤◌, ◌<◌, true, [], ◌++◌, length, MatchOption, IfOk, IfErr};
 ghost use Rattle.clk_packet.specs.Limits.{most_elements};
 ghost use Rattle.clk_sched.specs.Tree.{root, HasArguments};
 ghost use Rattle.clk_sched.specs.Built.{row};
 ghost use Rattle.clk_sched.specs.LaidOut.{IsRefused};
 ghost use Rattle.clk_sched.specs.Session.{elements};
 ghost use Rattle.clk_sched.specs.inside.Kept.{class_of};
-ghost use Rattle.clk_sched.specs.inside.Places.{inputs_of};
+ghost use Rattle.clk_sched.specs.inside.Logged.{kind_made};
+ghost use Rattle.clk_sched.specs.inside.Places.{edges_of, inputs_of};
 ghost use Rattle.clk_sched.specs.inside.Holds.OfClass.{Holds};
 ghost use Rattle.clk_sched.specs.inside.LaidOut.{elements_of, input_of, entries, entries_of, kinds, kinds_of, Adds, AddsNode, FitsInputs};
 ghost use Rattle.clk_sched.specs.inside.Session.{IsLaidOut};
@@ -17,6 +18,7 @@ use crate::session::inputs::{Input, Inputs};
 use crate::session::keeps::Keeps;
 use crate::session::log::Log;
 use crate::session::nodes::Nodes;
+use crate::session::prio::DEVICE;
 use crate::session::round_robin::Beginning;
 use crate::session::shaper::Bucket;
 use crate::session::state::State;
@@ -40,7 +42,8 @@ struct Tables {
 /// Fault 18 if the tree has more than 256 queues and schedulers, the device counted. Otherwise fault 1 if an allocation fails.
 pub fn lay_out(alloc: Global, tree: &Tree, keeps: Keeps) -> Result<Nodes, Fault>
     ensures laid_out { IfOk result (λ n. IsLaidOut tree.now n) }
-    ensures kind { IfOk result (λ n. n.log.kind ≡ record { keeps = keeps.visits; packs = keeps.packed; gone = 0 }) }
+    ensures kind { IfOk result (λ n. n.log.kind ≡ kind_made keeps n.log.kind.room) }
+    ensures room { IfOk result (λ n. keeps.latest ≡ true → edges_of n.inputs.items 0 ≤ n.log.kind.room) }
     ensures fits { IfOk result (λ n. 1 + elements (root tree.now) ≤ most_elements) }
     ensures refused { IfErr result (λ fault. IsRefused tree.now fault) }
 {
@@ -55,10 +58,11 @@ pub fn lay_out(alloc: Global, tree: &Tree, keeps: Keeps) -> Result<Nodes, Fault>
     };
     // The device is node 0: it stands over this tree as a PrioSched over one input.
     lay_node(alloc, &mut tables, State::Prio, slice::from_ref(tree))?;
+    let edges = usize::from(tables.inputs[DEVICE as usize].edges);
     Ok(Nodes {
         inputs: tables.inputs,
         states: tables.states,
-        log: Log::new(alloc, keeps),
+        log: Log::new(alloc, keeps, edges)?,
         pull: 0,
         moment: 0,
     })

@@ -20,6 +20,9 @@ pub struct Log {
     keeps: bool,
     packed: PackedLog,
     packs: bool,
+    // The visits of the latest pull, if they are kept.
+    latest: Vec<Visit>,
+    keeps_latest: bool,
     all: AllVisits,
 }
 
@@ -31,50 +34,72 @@ impl Model for Log {
 
     ghost Value = { Logged };
 
-    ghost view = { λ l. record { items = l.all.items; spare = l.all.spare; kind = record { keeps = l.keeps; packs = l.packs; gone = l.all.gone } } };
+    ghost view = { λ l. record {
+      items = l.all.items;
+      spare = l.all.spare;
+      kind = record { keeps = l.keeps; packs = l.packs; gone = l.all.gone; latest = l.keeps_latest; start = l.all.start; room = vec_capacity l.latest };
+    } };
 
     ghost invariant = { λ l. (l.all.gone ≤ length l.all.items)
         × (l.keeps ≡ true → (l.kept.items ≡ drop l.all.gone l.all.items) × (vec_len l.kept + l.all.spare ≤ vec_capacity l.kept))
-        × (l.packs ≡ true → (logged l.packed ≡ drop l.all.gone l.all.items) × HasRoomFor l.all.spare l.packed) };
+        × (l.packs ≡ true → (logged l.packed ≡ drop l.all.gone l.all.items) × HasRoomFor l.all.spare l.packed)
+        × (l.all.start ≤ length l.all.items)
+        × (l.keeps_latest ≡ true → (l.latest.items ≡ drop l.all.start l.all.items) × (vec_len l.latest + l.all.spare ≤ vec_capacity l.latest)) };
 }
 
 impl Log {
-    ghost use Rattle.std.specs.Prelude.{◌≡◌, ◌+◌, ◌^◌, ◌<◌, ◌≤◌, ◌||◌, true, false, [], drop, length, OnOk, OnErr, IsOk};
+    ghost use Rattle.std.specs.Prelude.{◌≡◌, ◌+◌, ◌^◌, ◌<◌, ◌≤◌, ◌||◌, true, false, [], drop, length, IfOk, OnOk, OnErr, IsOk};
     ghost use Rattle.clk_sched.specs.Packed.{logged};
-    ghost use Rattle.clk_sched.specs.inside.Logged.{with_visit, with_idle, with_room, with_none};
+    ghost use Rattle.clk_sched.specs.inside.Logged.{kind_made, with_visit, with_idle, with_pull, with_none};
 
-    /// No visits so far. Visits will be kept as a list, packed, or not at all.
-    pub fn new(alloc: Global, keeps: Keeps) -> Log
-        ensures { result ≡ record { items = []; spare = 0; kind = record { keeps = keeps.visits; packs = keeps.packed; gone = 0 } } }
+    /// No visits so far. Visits will be kept as a list, packed, or not at all. If those of the latest pull are kept, there is memory for so
+    /// many.
+    ///
+    /// # Errors
+    ///
+    /// If an allocation fails.
+    pub fn new(alloc: Global, keeps: Keeps, visits: usize) -> Result<Log, AllocError>
+        ensures made { IfOk result (λ l. l ≡ record { items = []; spare = 0; kind = kind_made keeps l.kind.room }) }
+        ensures room { IfOk result (λ l. keeps.latest ≡ true → visits ≤ l.kind.room) }
     {
-        Log {
+        let mut latest = Vec::new(alloc);
+        if keeps.latest {
+            latest.reserve(visits)?;
+        }
+        Ok(Log {
             kept: Vec::new(alloc),
             keeps: keeps.visits,
             packed: PackedLog::new(alloc),
             packs: keeps.packed,
+            latest,
+            keeps_latest: keeps.latest,
             all: AllVisits::none(),
-        }
+        })
     }
 
-    /// Makes room for so many more visits.
+    /// Begins a pull, with room for so many visits.
     ///
     /// # Errors
     ///
-    /// If an allocation fails. A log that keeps no visits allocates nothing.
+    /// If an allocation fails. A log that doesn't keep all visits allocates nothing.
     #[inline]
-    pub fn reserve(&mut self, visits: usize) -> Result<(), AllocError>
-        ensures ready { OnOk result (self.new ≡ with_room self.old visits) }
+    pub fn begin(&mut self, visits: usize) -> Result<(), AllocError>
+        requires room { self.old.kind.latest ≡ true → visits ≤ self.old.kind.room }
+        ensures ready { OnOk result (self.new ≡ with_pull self.old visits) }
         ensures few { OnOk result (self.old.kind.keeps || self.old.kind.packs ≡ true → self.old.kind.gone ≡ 0 → length self.old.items + visits < 2 ^ 63) }
         ensures unkept { self.old.kind.keeps || self.old.kind.packs ≡ false → IsOk result }
         ensures refused { OnErr result (self.new ≡ self.old) }
     {
         reserve_kept(&mut self.kept, self.keeps, visits)?;
         reserve_packed(&mut self.packed, self.packs, visits)?;
-        self.all.make_room(&visits);
+        if self.keeps_latest {
+            self.latest.clear();
+        }
+        self.all.begin(&visits);
         Ok(())
     }
 
-    /// Allocates memory for so many more visits, if they are kept packed. Contracts see no change: `reserve` makes room for a pull.
+    /// Allocates memory for so many more visits, if they are kept packed. Contracts see no change: `begin` makes room for a pull.
     ///
     /// # Errors
     ///
@@ -88,18 +113,18 @@ impl Log {
         self.packed.reserve_packed(visits)
     }
 
-    /// Whether visits are kept, as a list or packed.
+    /// Whether visits are kept, all or those of the latest pull.
     #[inline]
     pub fn keeps_any(&self) -> bool
-        ensures { result ≡ (self.now.kind.keeps || self.now.kind.packs) }
+        ensures { result ≡ (self.now.kind.keeps || (self.now.kind.packs || self.now.kind.latest)) }
     {
-        self.keeps || self.packs
+        self.keeps || self.packs || self.keeps_latest
     }
 
     /// Adds a visit that isn't kept: only contracts see it.
     #[inline]
     pub fn pass(&mut self, visit: &Visit)
-        requires unkept { self.old.kind.keeps || self.old.kind.packs ≡ false }
+        requires unkept { self.old.kind.keeps || (self.old.kind.packs || self.old.kind.latest) ≡ false }
         requires room { 1 ≤ self.old.spare }
         ensures { self.new ≡ with_visit self.old visit.now }
     {
@@ -114,6 +139,7 @@ impl Log {
     {
         keep(&mut self.kept, self.keeps, visit);
         pack(&mut self.packed, self.packs, visit);
+        keep(&mut self.latest, self.keeps_latest, visit);
         self.all.push(&visit);
     }
 
@@ -130,10 +156,13 @@ impl Log {
         if self.packs {
             self.packed.push_idle(idle);
         }
+        if self.keeps_latest {
+            keep_idle(&mut self.latest, idle);
+        }
         self.all.push_idle(idle);
     }
 
-    /// Drops the visits so far, and keeps their memory for those to come.
+    /// Drops the visits that were kept so far, but not those of the latest pull. Keeps their memory for visits to come.
     pub fn let_go(&mut self)
         ensures { self.new ≡ with_none self.old }
     {
@@ -147,6 +176,13 @@ impl Log {
         ensures { self.now.kind.keeps ≡ true → result.now ≡ drop self.now.kind.gone self.now.items }
     {
         self.kept.as_slice()
+    }
+
+    /// The visits of the latest pull, if these are kept.
+    pub fn latest(&self) -> &[Visit]
+        ensures { self.now.kind.latest ≡ true → result.now ≡ drop self.now.kind.start self.now.items }
+    {
+        self.latest.as_slice()
     }
 
     /// The visits that are kept as a list, in order. Does not allocate.

@@ -43,8 +43,8 @@ impl Rank {
     }
 }
 
-/// The inputs of a StrideSched in rising order of (pass, index), with the stride of each. Between pulls the least pass is 0, and none is
-/// above 65,536. In a pull none is either: the winner's pass is subtracted before its stride is added.
+/// The inputs of a StrideSched in rising order of (pass, index), with the stride of each. Between pulls the least pass is 0. None
+/// is ever above 65,536: a pull subtracts the winner's pass before it adds its stride.
 #[derive(Drop)]
 pub struct Passes {
     row: SmallVec<Rank, 2>,
@@ -98,7 +98,7 @@ impl Passes {
         let row = self.row.as_mut_slice();
         let winner = row[place];
         let stride = self.strides[usize::from(winner.input)];
-        // The winner's pass is to be the least. Those before it get it, so that nothing is to be subtracted from theirs.
+        // The winner and those after it lose its pass. Those before it, which had none, get pass 0: that of the winner, subtracted.
         subtract(&mut row[place..], winner.pass);
         place_visited(row, place, stride);
         subtract_least(row);

@@ -1,5 +1,5 @@
 -- What an answer keeps of each command of a script, and what it writes of it.
-use Rattle.std.specs.Prelude.{◌≡◌, ℕ, ◌<◌, ◌≤◌, List, [], ◌∷◌, ◌++◌, length, map, drop, ◌+◌, nat_lt, Bool, true, if◌then◌else◌, Option, Some, None, IfSome, Vec, slice_get}
+use Rattle.std.specs.Prelude.{◌≡◌, ℕ, ◌<◌, ◌≤◌, List, [], ◌∷◌, ◌++◌, length, map, drop, ◌+◌, Bool, true, if◌then◌else◌, Option, Some, None, IfSome, Vec, slice_get}
 use Rattle.std.specs.Option.{is_some}
 use Rattle.std.specs.List.{flat_map, filter_map, cons_option, AllByRecursion, AllZip}
 use Rattle.std.specs.declared.alloc.Global.{Global}
@@ -18,11 +18,12 @@ use Rattle.clk_script.specs.declared.rows.Row.{Row}
 use Rattle.clk_script.specs.declared.rows.Row.TheVariants as row
 use Rattle.clk_script.specs.declared.reading.Script.{Script}
 use Rattle.clk_script.specs.declared.answer.Answer.{Answer}
-use Rattle.clk_script.specs.declared.past.Past.{Past}
 use Rattle.clk_script.specs.declared.script_router.ScriptRouter.{ScriptRouter}
 use Rattle.clk_script.specs.Script.{Names, command_in, drain_in, most_lines, most_moment}
-use Rattle.clk_router.specs.Events.{Setup, Event, offered, pulled, emitted_in}
-use Rattle.clk_script.specs.Meaning.{has_several, command_of, offer_text, pull_text, closing_text}
+use Rattle.clk_sched.specs.Results.{emitted}
+use Rattle.clk_router.specs.Course.{events_of}
+use Rattle.clk_router.specs.Events.{Setup, Event, offered, pulled, emitted_in, log_of, logs_of}
+use Rattle.clk_script.specs.Meaning.{names_of, has_several, command_of, offer_text, pull_text, closing_text, Writes}
 use Rattle.clk_script.specs.AccountLines.{account_line}
 use Rattle.clk_script.specs.inside.ScriptRouter.{IsAt, departure_text, LeadsOnByClosing}
 
@@ -74,12 +75,13 @@ pub record CanBeRun (names : Names) (script : Script) : Type 0 where
   pub few : length script.rows.items ≤ most_lines
   pub closing : IfSome script.closing (λ moment. moment ≤ most_moment)
 
--- More events led on from these. They are those of the commands that were asked for, and each has its row. If there are several devices,
--- the packets that pulls gave were added to those that were kept.
+-- More events led on from these. They are those of the commands that were asked for, and each has its row, which can be carried out again.
+-- If there are several devices, the packets that pulls gave were added to those that were kept.
 pub record CarriesOut (setup : Setup) (old new : ScriptRouter) (asked done : List Row) (events : List Event) : Type 0 where
   pub more : List Event
   pub theirs : asked_by asked ≡ map command_of more
   pub rows : AllZip IsRowOf more done
+  pub to_do : AllByRecursion (IsToDo (names_of setup)) done
   pub given : has_several setup ≡ true → new.given.items ≡ old.given.items ++ filter_map emitted_in more
   pub keeps : new.router.keeps ≡ old.router.keeps
   pub leads : IsAt setup (events ++ more) new
@@ -154,25 +156,26 @@ abbrev pub closings_of : Option (Vec (Vec Departure Global) Global) → Option (
 closings_of None = None
 closings_of (Some closings) = Some (lists_of closings.items)
 
--- whether there are several devices
-abbrev pub are_several : Past → Bool
-are_several past = nat_lt 1 (length past.emitted.items)
-
--- the packets that pulls gave; with a single device they are the first that it emitted
-abbrev pub given_first : List (List Packet) → List Packet → List Packet
-given_first (only ∷ []) given = only
-given_first devices given = given
-
--- the packets that pulls gave, of this past
-abbrev pub given_of : Past → List Packet
-given_of past = given_first (lists_of past.emitted.items) past.given.items
+-- the packets that pulls gave; those of a single device are the first that it emitted
+abbrev pub given_of : ScriptRouter → List Packet
+given_of r = if has_several r.router.setup then r.given.items else emitted (log_of (events_of r.router 0))
 
 -- the lines of the drain that emitted these packets, if there was one, and then the report
-abbrev pub ending_of : Past → Option (List (List Departure)) → List ℕ
-ending_of past None = []
-ending_of past (Some closings) = closings_text (are_several past) 0 closings ++ flat_map account_line past.accounts.items
+abbrev pub ending_of : ScriptRouter → Option (List (List Departure)) → List ℕ
+ending_of r None = []
+ending_of r (Some closings) = closings_text (has_several r.router.setup) 0 closings ++ flat_map account_line r.accounts.items
 
 -- all that an answer writes
 abbrev pub answer_text : Answer → List ℕ
 answer_text answer =
-    rows_text (are_several answer.past) answer.rows.items (given_of answer.past) answer.past.put_out.items ++ ending_of answer.past (closings_of answer.closing)
+    rows_text (has_several answer.script_router.router.setup) answer.rows.items (given_of answer.script_router) answer.script_router.evicted.items
+    ++ ending_of answer.script_router (closings_of answer.closing)
+
+-- The answer to these commands, with a drain if there is one: what it writes, and what happened to the router over which they were carried
+-- out. Each command has its row, which can be carried out again.
+pub record Answers (setup : Setup) (commands : List Command) (drain : Option ℕ) (answer : Answer) : Type 0 where
+  pub writes : Writes setup commands drain (answer_text answer) (logs_of setup answer.script_router.router.events)
+  pub setup_is : answer.script_router.router.setup ≡ setup
+  pub events_are : answer.script_router.router.events ≡ writes.events ++ writes.closed
+  pub rows : AllZip IsRowOf writes.events answer.rows.items
+  pub to_do : AllByRecursion (IsToDo (names_of setup)) answer.rows.items

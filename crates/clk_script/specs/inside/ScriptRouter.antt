@@ -6,24 +6,20 @@ use Rattle.clk_packet.specs.declared.packet.Offered.{Offered}
 use Rattle.clk_packet.specs.declared.packet.Offered.TheVariants.{Evicted}
 use Rattle.clk_packet.specs.Limits.{most_elements}
 use Rattle.clk_packet.specs.Lists.{AreRising}
-use Rattle.clk_report.specs.Devices.{lists_of}
 use Rattle.clk_sched.specs.declared.session.departures.Departure.{Departure}
 use Rattle.clk_sched.specs.declared.visit.Visit.{Visit}
 use Rattle.clk_sched.specs.Log.{visits_of, result_of}
-use Rattle.clk_sched.specs.Results.{emitted}
 use Rattle.clk_router.specs.declared.accounts.Account.{Account}
 use Rattle.clk_router.specs.Accounts.{account_after, account_sender}
 use Rattle.clk_router.specs.Course.{Course, events_of}
-use Rattle.clk_router.specs.Events.{Setup, sender_numbers, Event, pulled, events_at, evicted_in, logs_of, CanHappen, Closes}
-use Rattle.clk_script.specs.declared.past.Past.{Past}
+use Rattle.clk_router.specs.Events.{Setup, sender_numbers, Event, pulled, events_at, evicted_in, CanHappen, Closes}
 use Rattle.clk_script.specs.declared.script_router.ScriptRouter.{ScriptRouter}
 use Rattle.clk_script.specs.declared.script.Command.{Command}
 use Rattle.clk_script.specs.declared.script.Command.TheVariants.{Send, Pull}
 use Rattle.clk_script.specs.declared.script.Line.{Line}
 use Rattle.clk_script.specs.declared.script.Line.TheVariants as line
 use Rattle.clk_script.specs.Script.{Names, most_lines, most_moment}
-use Rattle.clk_script.specs.Meaning.{names_of, command_of, has_several, given_text, closing_text, ending_text, CloseFirst}
-use Rattle.clk_script.specs.AccountLines.{account_line}
+use Rattle.clk_script.specs.Meaning.{names_of, command_of, has_several, given_text, closing_text, CloseFirst}
 
 -- some sender's account stands at this place
 abbrev pub IsPlace : List Account → ℕ → Type 0
@@ -81,19 +77,6 @@ pub record IsReady (r : ScriptRouter) : Type 0 where
   pub few : length r.router.events ≤ most_lines
   pub readable : AllByRecursion IsReadable (map command_of r.router.events)
   pub alike : AreAlike r
-
--- These are the logs of the devices, if visits are kept.
-abbrev pub AreLogs : Bool → Past → List (List Visit) → Type 0
-AreLogs visits past logs = visits ≡ true → lists_of past.logs.items ≡ logs
-
--- All that a router did, as it was recorded. The lines of its senders' accounts are its report.
-pub record IsPastOf (r : ScriptRouter) (past : Past) : Type 0 where
-  pub logs : AreLogs r.router.keeps.visits past (logs_of r.router.setup r.router.events)
-  pub emitted : lists_of past.emitted.items ≡ map emitted (logs_of r.router.setup r.router.events)
-  pub given : past.given.items ≡ r.given.items
-  pub put_out : past.put_out.items ≡ r.evicted.items
-  pub accounts : past.accounts.items ≡ r.accounts.items
-  pub report : flat_map account_line (map (account_after r.router.events) r.router.setup.senders) ≡ ending_text r.router.setup (Some 0) r.router.events
 
 -- One more pull of a device, at a moment that was handed in, led on from these events to this result.
 pub record LeadsOnByPull (setup : Setup) (new : ScriptRouter) (device moment : ℕ) (got : Option Packet) (events : List Event) : Type 0 where

@@ -194,6 +194,7 @@ fn a_refused_call_is_made_again(rt: HostRuntime) {
             visits,
             packed,
             packets,
+            latest: visits,
         };
         let met = met_refusal(&rt, rt.alloc(), keeps);
         assert!(rt; refused.is_none() || met.is_none());
@@ -202,14 +203,14 @@ fn a_refused_call_is_made_again(rt: HostRuntime) {
     assert_eq!(rt; refused, None);
 }
 
-// Makes each call of a session that keeps nothing, up to the one that fails. Its pulls and drains don't allocate.
-fn bare(rt: &impl Abort, alloc: Global) -> Result<(), Call> {
+// Makes each call of a session that keeps nothing that grows, up to the one that fails. Its pulls and drains don't allocate.
+fn bare(rt: &impl Abort, alloc: Global, keeps: Keeps) -> Result<(), Call> {
     let (tree, mut queues) = answer(rt, Call::Setup, setup(rt, alloc))?;
     assert!(rt; tree.leaves_distinct());
-    let mut session = answer(rt, Call::New, Session::keeping(alloc, tree, Keeps::NOTHING))?;
+    let mut session = answer(rt, Call::New, Session::keeping(alloc, tree, keeps))?;
     for (moment, _, _, _) in PULLS {
         let got = session.pull(&mut queues, u64::from(moment));
-        assert!(rt; got.expect(rt, "nothing is kept").is_some());
+        assert!(rt; got.expect(rt, "nothing grows").is_some());
     }
     let heads = answer(rt, Call::HeldHeads, session.held_heads(alloc))?;
     assert_eq!(rt; heads.as_slice(), [HELD].as_slice());
@@ -220,9 +221,14 @@ fn bare(rt: &impl Abort, alloc: Global) -> Result<(), Call> {
 
 #[test]
 fn a_session_without_a_log_is_made_again(rt: HostRuntime) {
-    let refused = bare(&rt, rt.alloc()).err();
-    if refused.is_some() {
-        assert_eq!(rt; bare(&rt, rt.alloc()), Ok(()));
+    let mut refused = None;
+    for keeps in [Keeps::NOTHING, Keeps::LATEST] {
+        let met = bare(&rt, rt.alloc(), keeps).err();
+        if met.is_some() {
+            assert_eq!(rt; bare(&rt, rt.alloc(), keeps), Ok(()));
+        }
+        assert!(rt; refused.is_none() || met.is_none());
+        refused = refused.or(met);
     }
     assert_eq!(rt; refused, None);
 }

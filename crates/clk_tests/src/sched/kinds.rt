@@ -80,6 +80,7 @@ fn assert_kept(rt: &impl Abort, alloc: Global, keeps: Keeps) {
         if keeps.packets { 3 } else { 0 }
     );
     assert_eq!(rt; session.count_emitted(), 3);
+    assert_eq!(rt; session.latest().len(), if keeps.latest { 3 } else { 0 });
     assert_handed_out(rt, alloc, session, keeps);
 }
 
@@ -98,12 +99,15 @@ fn sessions_keep_what_they_are_told_to(rt: HostRuntime) {
     for visits in [false, true] {
         for packed in [false, true] {
             for packets in [false, true] {
-                let keeps = Keeps {
-                    visits,
-                    packed,
-                    packets,
-                };
-                assert_kept(&rt, rt.alloc(), keeps);
+                for latest in [false, true] {
+                    let keeps = Keeps {
+                        visits,
+                        packed,
+                        packets,
+                        latest,
+                    };
+                    assert_kept(&rt, rt.alloc(), keeps);
+                }
             }
         }
     }
@@ -122,6 +126,7 @@ fn visits_that_were_let_go_of_leave_the_log(rt: HostRuntime) {
         visits: true,
         packed: false,
         packets: false,
+        latest: false,
     };
     let mut session = closed(&rt, rt.alloc(), keeps);
     assert_kept_of_pulls(&rt, &session, 7, 3);

@@ -51,6 +51,7 @@ pub fn visits_kept(listed: bool, packed: bool) -> Keeps {
         visits: listed,
         packed,
         packets: false,
+        latest: false,
     }
 }
 
@@ -97,6 +98,7 @@ fn what_came_out_is_told_from_visits(rt: HostRuntime) -> Result<(), Fault> {
             visits: false,
             packed: false,
             packets: true,
+            latest: false,
         };
         let (_, came_out) = pulled(&rt, alloc, shape, keeps, &MOMENTS)?.into_packed(alloc)?;
         assert!(rt; came_out.len() >= 2);

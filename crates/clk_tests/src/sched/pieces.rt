@@ -72,6 +72,7 @@ impl LettingGo {
             visits: true,
             packed: false,
             packets: false,
+            latest: false,
         };
         let mut queues = Queues::new(alloc, 3)?;
         for sender in 0..3 {

@@ -1,4 +1,4 @@
-//! Sessions that keep nothing emit what a session emits that keeps all.
+//! Sessions that keep nothing, or only their latest pull, emit what a session emits that keeps all.
 
 ghost use Rattle.std.specs.Prelude.{◌≤◌};
 
@@ -13,13 +13,18 @@ use std::process::Abort;
 /// How many queues there are, each with a sender of its number.
 const QUEUES: u16 = 13;
 
-/// Two sessions over the same tree, each with queues of its own: one that keeps all, and one that keeps nothing.
+/// What a session keeps that allocates nothing as it goes on.
+const STEADY: [Keeps; 2] = [Keeps::NOTHING, Keeps::LATEST];
+
+/// Two sessions over the same tree, each with queues of its own: one that keeps all, and one that keeps little.
 #[derive(Drop)]
 struct Both {
     keeping: Session,
     queues: Queues,
     bare: Session,
     others: Queues,
+    /// Whether the one that keeps little keeps its latest pull.
+    latest: bool,
 }
 
 impl Both {
@@ -28,12 +33,16 @@ impl Both {
         alloc: Global,
         tree: Result<Tree, Fault>,
         again: Result<Tree, Fault>,
+        keeps: Keeps,
     ) -> Both {
+        let bare = bare(rt, alloc, again, keeps);
+        assert!(rt; bare.latest().is_empty());
         Both {
             keeping: keeping(rt, alloc, tree),
             queues: queues(rt, alloc),
-            bare: bare(rt, alloc, again),
+            bare,
             others: queues(rt, alloc),
+            latest: keeps.latest,
         }
     }
 
@@ -56,8 +65,14 @@ impl Both {
 
     fn pull(&mut self, rt: &impl Abort, moment: u64) -> Result<(), Fault> {
         assert!(rt; moment < 1 << 44);
+        let before = self.keeping.log().len();
         let got = self.bare.pull(&mut self.others, moment)?;
         assert_eq!(rt; got, self.keeping.pull(&mut self.queues, moment)?);
+        if self.latest {
+            assert_eq!(rt; Some(self.bare.latest()), self.keeping.log().get(before..));
+        } else {
+            assert!(rt; self.bare.latest().is_empty());
+        }
         Ok(())
     }
 
@@ -96,10 +111,10 @@ fn keeping(rt: &impl Abort, alloc: Global, tree: Result<Tree, Fault>) -> Session
     session(rt, alloc, tree.expect(rt, "a tree")).expect(rt, "ample memory")
 }
 
-fn bare(rt: &impl Abort, alloc: Global, tree: Result<Tree, Fault>) -> Session {
+fn bare(rt: &impl Abort, alloc: Global, tree: Result<Tree, Fault>, keeps: Keeps) -> Session {
     let tree = tree.expect(rt, "a tree");
     assert!(rt; tree.leaves_distinct());
-    Session::keeping(alloc, tree, Keeps::NOTHING).expect(rt, "ample memory")
+    Session::keeping(alloc, tree, keeps).expect(rt, "ample memory")
 }
 
 fn drain(
@@ -137,31 +152,48 @@ fn assert_alike(
 #[test]
 fn priorities_need_no_log(rt: HostRuntime) -> Result<(), Fault> {
     let alloc = rt.alloc();
-    let mut both = Both::new(&rt, alloc, prio_over_two(alloc), prio_over_two(alloc));
-    assert_alike(&rt, alloc, &mut both, 6, 2)
+    for keeps in STEADY {
+        let (tree, again) = (prio_over_two(alloc), prio_over_two(alloc));
+        let mut both = Both::new(&rt, alloc, tree, again, keeps);
+        assert_alike(&rt, alloc, &mut both, 6, 2)?;
+    }
+    Ok(())
 }
 
 #[test]
 fn turns_need_no_log(rt: HostRuntime) -> Result<(), Fault> {
     let alloc = rt.alloc();
-    let tree = round_robin_over_three(alloc);
-    let mut both = Both::new(&rt, alloc, tree, round_robin_over_three(alloc));
-    assert_alike(&rt, alloc, &mut both, 6, 6)
+    for keeps in STEADY {
+        let (tree, again) = (round_robin_over_three(alloc), round_robin_over_three(alloc));
+        let mut both = Both::new(&rt, alloc, tree, again, keeps);
+        assert_alike(&rt, alloc, &mut both, 6, 6)?;
+    }
+    Ok(())
 }
 
 // Of 52 packets, five are emitted in the first six pulls: none in the first, in which all five inputs come to hold a head.
 #[test]
 fn shares_need_no_log(rt: HostRuntime) -> Result<(), Fault> {
     let alloc = rt.alloc();
-    let mut both = Both::new(&rt, alloc, drr_over_stride(alloc), drr_over_stride(alloc));
-    assert_alike(&rt, alloc, &mut both, 5, 47)
+    for keeps in STEADY {
+        let (tree, again) = (drr_over_stride(alloc), drr_over_stride(alloc));
+        let mut both = Both::new(&rt, alloc, tree, again, keeps);
+        assert_alike(&rt, alloc, &mut both, 5, 47)?;
+    }
+    Ok(())
 }
 
 // Two packets pass the Shaper, at moments 0 and 2. The third is held in a DRRSched.
 #[test]
 fn pace_needs_no_log(rt: HostRuntime) -> Result<(), Fault> {
     let alloc = rt.alloc();
-    let tree = shaped_drr_path(alloc, 2, 500);
-    let mut both = Both::new(&rt, alloc, tree, shaped_drr_path(alloc, 2, 500));
-    assert_alike(&rt, alloc, &mut both, 2, 2)
+    for keeps in STEADY {
+        let (tree, again) = (
+            shaped_drr_path(alloc, 2, 500),
+            shaped_drr_path(alloc, 2, 500),
+        );
+        let mut both = Both::new(&rt, alloc, tree, again, keeps);
+        assert_alike(&rt, alloc, &mut both, 2, 2)?;
+    }
+    Ok(())
 }

@@ -1,4 +1,4 @@
-use Rattle.std.proofs.Common.{refl}
+use Rattle.std.proofs.Common.{refl, inl, inr, arith}
 use Rattle.std.proofs.lemmas.Result.{err_from_is_err_and}
 use Rattle.clk_packet.proofs.Callers.Written.{wrote-front}
 use Rattle.clk_command.proofs.LiveLemmas.{follow-last, front-none, front-whole}
@@ -18,8 +18,51 @@ returns-in_err-write_all-clause-wrote g c =
     let cut = rw c.deref.ensures.value at c.in_err-write_all.ensures in
     rw (p.1, p.2) (wrote-front _ _ _ _ _ cut.fault (_, record { answer = _; visits = _; means = c.in_ok-run.ensures.lives; together = refl }, tt, cut.front) (front-longer _ _ _ _ (front-whole _ _ _ all.whole)))
 
+pub returns-in_err-report_accounts-clause-fault : goal.returns-in_err-report_accounts-clause-fault
+returns-in_err-report_accounts-clause-fault g c =
+    let p = err_from_is_err_and c.from_residual-in_err-report_accounts.result c.from_residual-in_err-report_accounts.ensures.1 in
+    rw (p.1, p.2) (inl (inl c.in_err-report_accounts.ensures.wrote.fault))
+
+pub returns-in_err-report_accounts-clause-read_failures : goal.returns-in_err-report_accounts-clause-read_failures
+returns-in_err-report_accounts-clause-read_failures g c =
+    let p = err_from_is_err_and c.from_residual-in_err-report_accounts.result c.from_residual-in_err-report_accounts.ensures.1 in
+    rw (p.1, p.2, c.in_err-report_accounts.ensures.wrote.fault) c.in_ok-run.ensures.read_failures
+
+pub returns-in_err-report_accounts-clause-write_failures : goal.returns-in_err-report_accounts-clause-write_failures
+returns-in_err-report_accounts-clause-write_failures g c =
+    let p = err_from_is_err_and c.from_residual-in_err-report_accounts.result c.from_residual-in_err-report_accounts.ensures.1 in
+    let more = c.in_err-report_accounts.ensures.wrote.fails in
+    rw (p.1, p.2, c.in_err-report_accounts.ensures.wrote.fault) (omega (arith, more))
+
+pub returns-in_err-report_accounts-clause-write_failed : goal.returns-in_err-report_accounts-clause-write_failed
+returns-in_err-report_accounts-clause-write_failed g c =
+    let p = err_from_is_err_and c.from_residual-in_err-report_accounts.result c.from_residual-in_err-report_accounts.ensures.1 in
+    rw (p.1, p.2, c.in_err-report_accounts.ensures.wrote.fault) (inr c.in_err-report_accounts.ensures.wrote.fails)
+
+pub returns-in_err-write_all-clause-unrecorded : goal.returns-in_err-write_all-clause-unrecorded
+returns-in_err-write_all-clause-unrecorded g c =
+    let p = err_from_is_err_and c.from_residual-in_err-write_all.result c.from_residual-in_err-write_all.ensures.1 in
+    rw (p.1, p.2) (λ other. absurd (other c.in_err-write_all.ensures.fault))
+
+pub returns-in_err-write_all-clause-fault : goal.returns-in_err-write_all-clause-fault
+returns-in_err-write_all-clause-fault g c =
+    let p = err_from_is_err_and c.from_residual-in_err-write_all.result c.from_residual-in_err-write_all.ensures.1 in
+    rw (p.1, p.2) (inl (inl c.in_err-write_all.ensures.fault))
+
+pub returns-in_err-write_all-clause-read_failures : goal.returns-in_err-write_all-clause-read_failures
+returns-in_err-write_all-clause-read_failures g c =
+    let p = err_from_is_err_and c.from_residual-in_err-write_all.result c.from_residual-in_err-write_all.ensures.1 in
+    rw (p.1, p.2, c.in_err-write_all.ensures.fault) c.in_ok-run.ensures.read_failures
+
+pub returns-in_err-write_all-clause-write_failures : goal.returns-in_err-write_all-clause-write_failures
+returns-in_err-write_all-clause-write_failures g c =
+    let p = err_from_is_err_and c.from_residual-in_err-write_all.result c.from_residual-in_err-write_all.ensures.1 in
+    let same = c.in_ok-report_accounts.ensures.wrote.succeeds in
+    let more = c.in_err-write_all.ensures.fails in
+    rw (p.1, p.2, c.in_err-write_all.ensures.fault) (omega (arith, same, more))
+
 pub returns-clause-wrote : goal.returns-clause-wrote
 returns-clause-wrote g c =
     let all = rw c.router.ensures.course at c.in_ok-report_accounts.ensures.wrote in
     let script = rw c.deref.ensures.value at c.in_ok-write_all.ensures.whole in
-    follow-last _ _ _ _ _ _ _ _ _ _ _ _ c.in_ok-run.ensures.lives script all.whole (rw c.deref-2.ensures.value at c.visits_csv.ensures)
+    follow-last _ _ _ _ _ _ _ _ _ _ _ _ c.in_ok-run.ensures.lives script all.whole c.write.ensures

@@ -2,10 +2,10 @@ use Rattle.std.proofs.lemmas.Result.{err_from_is_err_and}
 use Rattle.clk_command.proofs.TaskLemmas.{follow-first, follow-second}
 use Rattle.clk_command.proofs.together.script_then_visits.Goals as goal
 
-pub returns-in_err-logs-clause-wrote : goal.returns-in_err-logs-clause-wrote
-returns-in_err-logs-clause-wrote g c =
+pub returns-in_err-replay-clause-wrote : goal.returns-in_err-replay-clause-wrote
+returns-in_err-replay-clause-wrote g c =
     let p = err_from_is_err_and c.from_residual.result c.from_residual.ensures.1 in
-    rw (p.1, p.2) (follow-first _ _ _ _ _ c.in_err-logs.ensures.wrote)
+    rw (p.1, p.2) (follow-first _ _ _ _ _ c.in_err-replay.ensures.wrote)
 
 pub returns-clause-wrote : goal.returns-clause-wrote
-returns-clause-wrote g c = follow-second _ _ _ _ _ _ _ _ _ c.in_ok-logs.ensures.wrote (rw c.deref.ensures.value at c.visits_csv.ensures)
+returns-clause-wrote g c = follow-second _ _ _ _ _ _ _ _ _ c.in_ok-replay.ensures.wrote c.write.ensures

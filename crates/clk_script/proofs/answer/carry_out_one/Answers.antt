@@ -30,4 +30,4 @@ returns-in_ok-packet-in-Send-clause-done c =
     let both : Some asked.sender ≡ Some packet.sender = sym to_do ∙ from in
     let same : asked.sender ≡ packet.sender = cc both in
     AnswersRows-sent old c.send.new.self c.args.row (row.Send c.of.result c.in-Send.place packet) c.in-Send.place packet c.in_ok-packet-in-Send.offered (ap command_asked c.in-Send.is ∙ ap₂ Send same (sym c.in_ok-packet-in-Send.ensures.length))
-    (ap (λ o. row.Send o c.in-Send.place packet) c.of.ensures) c.in_ok-packet-in-Send.ensures.given c.in_ok-packet-in-Send.ensures.keeps c.in_ok-packet-in-Send.ensures.leads
+    (ap (λ o. row.Send o c.in-Send.place packet) c.of.ensures) c.in_ok-packet-in-Send.ensures.given c.in_ok-packet-in-Send.ensures.keeps from c.in_ok-packet-in-Send.ensures.leads

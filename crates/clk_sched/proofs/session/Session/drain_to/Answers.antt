@@ -4,6 +4,7 @@ use Rattle.std.proofs.lemmas.List.{length-append}
 use Rattle.clk_sched.specs.Run.{IsRun}
 use Rattle.clk_sched.specs.Tree.{leaves_distinct}
 use Rattle.clk_sched.specs.Drain.{drain_start, GivesAll}
+use Rattle.clk_sched.specs.Keeps.{grows}
 use Rattle.clk_sched.specs.Log.{pulls}
 use Rattle.clk_sched.specs.Session.{progress_of, pulls_made}
 use Rattle.clk_sched.proofs.Sessions.SessionDrain.{draining-first, drain-step, draining-all, given-one, given-none}
@@ -82,11 +83,11 @@ returns-clause-departures g c = c.loop-given.invariant.5
 pub returns-in_err-reserve-clause-departures : goal.returns-in_err-reserve-clause-departures
 returns-in_err-reserve-clause-departures g c = added-same c.args.departures.now c.loop-given.departures c.reserve.new.self _ c.loop-given.invariant.5 c.reserve.ensures.same
 
-pub returns-in_err-reserve-clause-unkept : goal.returns-in_err-reserve-clause-unkept
-returns-in_err-reserve-clause-unkept g c = λ keeps few dropped. absurd (false≢true (rw c.in_err-reserve.was at c.reserve.ensures.dropped (still-dropped c.args.departures.now c.loop-given.departures _ c.loop-given.invariant.5 dropped)))
+pub returns-in_err-reserve-clause-steady : goal.returns-in_err-reserve-clause-steady
+returns-in_err-reserve-clause-steady g c = λ keeps few dropped. absurd (false≢true (rw c.in_err-reserve.was at c.reserve.ensures.dropped (still-dropped c.args.departures.now c.loop-given.departures _ c.loop-given.invariant.5 dropped)))
 
-pub returns-in_err-got-clause-unkept : goal.returns-in_err-got-clause-unkept
-returns-in_err-got-clause-unkept g c =
+pub returns-in_err-got-clause-steady : goal.returns-in_err-got-clause-steady
+returns-in_err-got-clause-steady g c =
     let now = c.loop-given.self in
     let drained = c.loop-given.invariant.1.drained in
     let made : pulls_made (progress_of now) ≡ pulls_made (progress_of c.args.self.now) + c.loop-given.made =
@@ -94,7 +95,7 @@ returns-in_err-got-clause-unkept g c =
     in
     let within = c.loop-given.invariant.0 in
     let least = c.bound-bound.ensures.limit in
-    λ keeps few dropped. absurd (false≢true (rw c.in_err-got.was at c.pull.ensures.unkept (c.loop-given.invariant.3 ∙ keeps) (omega (arith, made, within, least, few))))
+    λ keeps few dropped. absurd (false≢true (rw c.in_err-got.was at c.pull.ensures.steady (ap grows c.loop-given.invariant.3 ∙ keeps) (omega (arith, made, within, least, few))))
 
 pub returns-in_err-got-clause-departures : goal.returns-in_err-got-clause-departures
 returns-in_err-got-clause-departures g c =

@@ -1,10 +1,11 @@
-use Rattle.std.proofs.Common.{[], ◌++◌, length, refl, sym, ap, ◌∙◌, subst, arith}
+use Rattle.std.proofs.Common.{◌≡◌, [], ◌++◌, drop, length, refl, sym, ap, ◌∙◌, subst, arith}
 use Rattle.std.specs.List.{cons_option}
 use Rattle.std.proofs.lemmas.List.{length-append}
 use Rattle.clk_sched.specs.Results.{emitted}
 use Rattle.clk_sched.specs.Answers.{Answers, tree_queue}
-use Rattle.clk_sched.specs.Session.{IsPulledOnce, newly, progress_of}
-use Rattle.clk_sched.proofs.Sessions.SessionPull.{session-pulled, emitted-once, one-at-most, one_further, progress, HasGoneOn}
+use Rattle.clk_sched.specs.inside.Places.{edges_of}
+use Rattle.clk_sched.specs.Session.{IsPulledOnce, latest_pull, newly, progress_of}
+use Rattle.clk_sched.proofs.Sessions.SessionPull.{session-pulled, emitted-once, is-latest, one-at-most, one_further, progress, HasGoneOn}
 use Rattle.clk_sched.proofs.Trees.QueuesAsked.{answers-tree}
 use Rattle.clk_sched.proofs.session.Session.pull.Goals as goal
 
@@ -22,8 +23,8 @@ add-requires g c =
     let fit = c.if-self-ge-END_OF_PULLS.false in
     let counted = c.self.invariant.0.pull in
     let few = c.self.invariant.5 in
-    let same = c.reserve-2.ensures.count in
-    record { room = λ keeps. let room = c.in_ok-reserve-2.ensures.room keeps in omega (arith, room); few = omega (arith, fit, counted, few, same) }
+    let same = c.reserve.ensures.count in
+    record { room = λ keeps. let room = c.in_ok-reserve.ensures.room keeps in omega (arith, room); few = omega (arith, fit, counted, few, same) }
 
 pub invariant_of-self-2 : goal.invariant_of-self-2
 invariant_of-self-2 g c =
@@ -32,7 +33,7 @@ invariant_of-self-2 g c =
     let tree = c.self.inside.tree in
     let got = c.pull_device-got.result in
     let b = one_further n in
-    let ready = c.in_ok-reserve.ensures.ready in
+    let ready = c.in_ok-begin.ensures.ready in
     let gone : HasGoneOn tree a b c.args.moment _ got =
     session-pulled tree a _ n c.args.moment _ got c.self.invariant.0
     (record { inputs = refl; states = refl; log = ap (λ l. l.items) ready; pull = refl; at_moment = c.max-self-inside.ensures }) c.pull_device-got.ensures.keeps c.pull_device-got.ensures.pulls
@@ -44,18 +45,22 @@ invariant_of-self-2 g c =
     let more = emitted-once (progress tree a) (progress tree b) c.args.moment got gone.once in
     let added = ap length more ∙ length-append (emitted a.log.items) (cons_option got []) in
     let count = c.add.ensures.count in
-    let before = c.reserve-2.ensures.count in
+    let before = c.reserve.ensures.count in
     let counted = c.self.invariant.4 in
     let few = c.self.invariant.5 in
     let one = one-at-most got in
-    let same = c.pull_device-got.ensures.keeps.pull in (
+    let same = c.pull_device-got.ensures.keeps.pull in
+    let kind = c.pull_device-got.ensures.keeps.kind ∙ ap (λ l. l.kind) ready in (
       gone.still,
       omega (arith, most, kept, below, asked),
       c.self.invariant.2,
       (λ keeps. let stays = sym c.add.ensures.keeps ∙ keeps in
-          c.add.ensures.packets stays ∙ ap (λ l. l ++ cons_option got []) (c.reserve-2.ensures.packets ∙ c.self.invariant.3 (sym c.reserve-2.ensures.keeps ∙ stays)) ∙ sym more),
+          c.add.ensures.packets stays ∙ ap (λ l. l ++ cons_option got []) (c.reserve.ensures.packets ∙ c.self.invariant.3 (sym c.reserve.ensures.keeps ∙ stays)) ∙ sym more),
       omega (arith, added, count, before, counted),
       omega (arith, count, before, few, one, same),
+      subst (λ k. drop k.start n.log.items ≡ latest_pull n.log.items) (sym kind) (is-latest (progress tree a) (progress tree b) c.args.moment got gone.once),
+      (λ latest. let room = c.self.invariant.7 (sym (ap (λ k. k.latest) kind) ∙ latest) in let more = ap (λ k. k.room) kind in let edges = ap (λ t. edges_of t 0) c.pull_device-got.ensures.keeps.inputs in
+          omega (arith, room, more, edges)),
     )
 
 pub returns-clause-pulled : goal.returns-clause-pulled
@@ -66,7 +71,7 @@ returns-clause-pulled g c =
     let b = one_further n in
     let gone : HasGoneOn tree a b c.args.moment _ c.pull_device-got.result =
     session-pulled tree a _ n c.args.moment _ c.pull_device-got.result c.self.invariant.0
-    (record { inputs = refl; states = refl; log = ap (λ l. l.items) c.in_ok-reserve.ensures.ready; pull = refl; at_moment = c.max-self-inside.ensures }) c.pull_device-got.ensures.keeps c.pull_device-got.ensures.pulls
+    (record { inputs = refl; states = refl; log = ap (λ l. l.items) c.in_ok-begin.ensures.ready; pull = refl; at_moment = c.max-self-inside.ensures }) c.pull_device-got.ensures.keeps c.pull_device-got.ensures.pulls
     in
     subst (λ s. IsPulledOnce (progress_of s) (progress tree b) c.args.moment c.pull_device-got.result) c.self.view_is gone.once
 
@@ -78,7 +83,7 @@ returns-clause-answers g c =
     let b = one_further n in
     let gone =
     session-pulled tree a _ n c.args.moment _ c.pull_device-got.result c.self.invariant.0
-    (record { inputs = refl; states = refl; log = ap (λ l. l.items) c.in_ok-reserve.ensures.ready; pull = refl; at_moment = c.max-self-inside.ensures }) c.pull_device-got.ensures.keeps c.pull_device-got.ensures.pulls
+    (record { inputs = refl; states = refl; log = ap (λ l. l.items) c.in_ok-begin.ensures.ready; pull = refl; at_moment = c.max-self-inside.ensures }) c.pull_device-got.ensures.keeps c.pull_device-got.ensures.pulls
     in
     subst (λ s. Answers g.Q.Ask.gives (tree_queue s.tree) c.args.q.now (newly (progress_of s) (progress tree b)) c.pull_device-got.new.q) c.self.view_is
     (subst (λ l. Answers g.Q.Ask.gives (tree_queue tree) c.args.q.now l c.pull_device-got.new.q) (sym gone.new)

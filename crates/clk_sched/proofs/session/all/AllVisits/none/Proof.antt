@@ -20,7 +20,7 @@ abbrev no_bytes : Val
 no_bytes = vstruct vnil
 
 abbrev no_visits : AllVisits
-no_visits = record { items = []; spare = 0; gone = 0 }
+no_visits = record { items = []; spare = 0; gone = 0; start = 0 }
 
 pub none_spec : {M : Type 1} → statement M
 none_spec 𝓤 𝓛 𝓜 𝓡 wired =

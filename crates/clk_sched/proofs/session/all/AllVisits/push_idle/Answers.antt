@@ -7,7 +7,7 @@ use Rattle.clk_sched.proofs.session.all.AllVisits.push_idle.Goals as goal
 
 -- these visits, with room for so many more
 abbrev with : AllVisits → List Visit → ℕ → AllVisits
-with all items spare = record { items = items; spare = spare; gone = all.gone }
+with all items spare = record { items = items; spare = spare; gone = all.gone; start = all.start }
 
 pub loop-place-init : goal.loop-place-init
 loop-place-init c =

@@ -12,4 +12,6 @@ invariant_of-self c =
       (λ keeps. let before = c.self.invariant.1 keeps in let room = before.1 in let len = c.clear.ensures.len in let capacity = c.clear.ensures.capacity in
           (c.clear.ensures.items ∙ none, omega (arith, room, len, capacity))),
       (λ packs. let before = c.self.invariant.2 packs in (c.clear-2.ensures.visits ∙ none, c.clear-2.ensures.room _ before.1)),
+      c.self.invariant.3,
+      c.self.invariant.4,
     )

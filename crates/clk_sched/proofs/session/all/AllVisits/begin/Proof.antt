@@ -1,5 +1,5 @@
--- The body is empty: the borrow is opened, and closed with the room that is told.
-use Rattle.std.proofs.Common.{[], ◌∷◌, refl}
+-- The body is empty: the borrow is opened, and closed with a pull begun.
+use Rattle.std.proofs.Common.{[], ◌∷◌, length, refl}
 use Rattle.std.proofs.raw_atomic.Walks.{proved}
 use base.Fml.{ftrue, flft}
 use mir.Syntax.{named}
@@ -16,22 +16,22 @@ use denote.Steps.{nothing, opens, closes}
 use denote.Triple.Walked.{Stays, walk_of, says, stay_ref, stay_dropped, Goes-ref, Goes-dropped, ends_at}
 use Rattle.clk_sched.specs.declared.session.all.AllVisits.{AllVisits}
 use Rattle.clk_sched.specs.contracts.session.all.AllVisits.{the_row as R}
-use Rattle.clk_sched.specs.contracts.session.all.AllVisits.make_room as f
-use Rattle.clk_sched.proofs.session.all.AllVisits.make_room.Statement.{statement}
-use Rattle.clk_sched.proofs.session.all.AllVisits.make_room.Code as code
+use Rattle.clk_sched.specs.contracts.session.all.AllVisits.begin as f
+use Rattle.clk_sched.proofs.session.all.AllVisits.begin.Statement.{statement}
+use Rattle.clk_sched.proofs.session.all.AllVisits.begin.Code as code
 
 abbrev stayed : Stays f.ended.signature.params f.ended.kept
 stayed = (stay_ref (0 ∷ []) tt (plain (λ _. R)), (stay_dropped (RefOf (1 ∷ []) tt (plain (λ _. usize)) (λ _. tt)) yes, tt))
 
-pub make_room_spec : {M : Type 1} → statement M
-make_room_spec 𝓤 𝓛 𝓜 𝓡 wired =
+pub begin_spec : {M : Type 1} → statement M
+begin_spec 𝓤 𝓛 𝓜 𝓡 wired =
     let c = f.clauses 𝓛 𝓜.mem 𝓡.returns in let W = walk_of 𝓛 f.ended stayed c in
     proved 𝓛 f.ended stayed c 𝓜 𝓡 (Goes-ref 𝓛 2 0 tt (plain (λ _. R)), (Goes-dropped 𝓛 2 (RefOf (1 ∷ []) tt (plain (λ _. usize)) (λ _. tt)) yes (λ κs x f. refl), tt))
     f.Key.name code.function (code.unfolded 𝓤 𝓛.H 𝓜 𝓡 wired)
     (λ κs. (mut_vals, (shr_vals, tt))) (λ κs. (mut_Tells (named 0) κs.0 R, (shr_Tells (named 1) κs.1.0 usize, tt))) (λ κs qs bounds a _ are.
     let b = a.0.ref_ptr.0 in let o = a.0.ref_ptr.1 in let before = a.0.now in let vs = mut_vals a.0 in
     let y : W.Ghost = ((κs, qs, bounds, a, (vs, (shr_vals a.1.0, tt))), tt) in
-    let after : AllVisits = record { items = before.items; spare = a.1.0.now; gone = before.gone } in
+    let after : AllVisits = record { items = before.items; spare = a.1.0.now; gone = before.gone; start = length before.items } in
     qed 𝓛 (((‵ (flft κs.0 qs.0) ⊛ ‵ (flft κs.1.0 qs.1.0) ⊛ ‵ ftrue) ⊛ ‵ ((MutRef (named 0) κs.0 R).own_val a.0 vs) ⊛ ‵ ((ShrRef (named 1) κs.1.0 usize).own_val a.1.0 (shr_vals a.1.0)) ⊛ ‵ ftrue) ∷ ‵ ftrue ∷ []) ∵
     split ! $ split ! $ move ! (1 ∷ []) $ split ! $ move ! (3 ∷ []) $ split ! $ keep ! (0 ∷ 4 ∷ 2 ∷ []) $
     enter ! _ _ _ _ _ $ alloc_all ! (λ l. pass_all ! refl ((tt, tt), ((tt, tt), tt)) $

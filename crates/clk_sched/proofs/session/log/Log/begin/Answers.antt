@@ -1,5 +1,5 @@
 use Rattle.std.proofs.Common.{◌∙◌, arith}
-use Rattle.clk_sched.proofs.session.log.Log.reserve.Goals as goal
+use Rattle.clk_sched.proofs.session.log.Log.begin.Goals as goal
 
 pub invariant_of-self-in_err-reserve_packed : goal.invariant_of-self-in_err-reserve_packed
 invariant_of-self-in_err-reserve_packed c = (
@@ -7,4 +7,6 @@ invariant_of-self-in_err-reserve_packed c = (
   (λ keeps. let before = c.self.invariant.1 keeps in let room = before.1 in let len = c.reserve_kept.ensures.len in let capacity = c.reserve_kept.ensures.capacity in
       (c.reserve_kept.ensures.items ∙ before.0, omega (arith, room, len, capacity))),
   (λ packs. let before = c.self.invariant.2 packs in (c.reserve_packed.ensures.visits ∙ before.0, c.reserve_packed.ensures.no_less _ before.1)),
+  c.self.invariant.3,
+  c.self.invariant.4,
 )
