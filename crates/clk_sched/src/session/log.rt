@@ -23,11 +23,13 @@ pub struct Log {
     // The visits of the latest pull, if they are kept.
     latest: Vec<Visit>,
     keeps_latest: bool,
+    // Whether visits are kept in any of the three ways: one test for each visit.
+    keeps_any: bool,
     all: AllVisits,
 }
 
 impl Model for Log {
-    ghost use Rattle.std.specs.Prelude.{◌≡◌, ◌+◌, ◌≤◌, true, drop, length};
+    ghost use Rattle.std.specs.Prelude.{◌≡◌, ◌+◌, ◌≤◌, ◌||◌, true, drop, length};
     ghost use Rattle.std.specs.Vec.{vec_len, vec_capacity};
     ghost use Rattle.clk_sched.specs.Packed.{logged, HasRoomFor};
     ghost use Rattle.clk_sched.specs.inside.Logged.{Logged};
@@ -44,7 +46,8 @@ impl Model for Log {
         × (l.keeps ≡ true → (l.kept.items ≡ drop l.all.gone l.all.items) × (vec_len l.kept + l.all.spare ≤ vec_capacity l.kept))
         × (l.packs ≡ true → (logged l.packed ≡ drop l.all.gone l.all.items) × HasRoomFor l.all.spare l.packed)
         × (l.all.start ≤ length l.all.items)
-        × (l.keeps_latest ≡ true → (l.latest.items ≡ drop l.all.start l.all.items) × (vec_len l.latest + l.all.spare ≤ vec_capacity l.latest)) };
+        × (l.keeps_latest ≡ true → (l.latest.items ≡ drop l.all.start l.all.items) × (vec_len l.latest + l.all.spare ≤ vec_capacity l.latest))
+        × (l.keeps_any ≡ (l.keeps || (l.packs || l.keeps_latest))) };
 }
 
 impl Log {
@@ -73,6 +76,7 @@ impl Log {
             packs: keeps.packed,
             latest,
             keeps_latest: keeps.latest,
+            keeps_any: keeps.visits || keeps.packed || keeps.latest,
             all: AllVisits::none(),
         })
     }
@@ -118,7 +122,7 @@ impl Log {
     pub fn keeps_any(&self) -> bool
         ensures { result ≡ (self.now.kind.keeps || (self.now.kind.packs || self.now.kind.latest)) }
     {
-        self.keeps || self.packs || self.keeps_latest
+        self.keeps_any
     }
 
     /// Adds a visit that isn't kept: only contracts see it.
@@ -134,6 +138,19 @@ impl Log {
     /// Adds a visit, for which there is room.
     #[inline]
     pub fn push(&mut self, visit: Visit)
+        requires { 1 ≤ self.old.spare }
+        ensures { self.new ≡ with_visit self.old visit }
+    {
+        if self.keeps_any {
+            self.push_kept(visit);
+        } else {
+            self.pass(&visit);
+        }
+    }
+
+    // Adds a visit to what is kept. It is a call of its own, so that a pull whose visits aren't kept puts none together.
+    #[inline(never)]
+    fn push_kept(&mut self, visit: Visit)
         requires { 1 ≤ self.old.spare }
         ensures { self.new ≡ with_visit self.old visit }
     {

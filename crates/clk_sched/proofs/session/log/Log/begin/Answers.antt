@@ -9,4 +9,5 @@ invariant_of-self-in_err-reserve_packed c = (
   (λ packs. let before = c.self.invariant.2 packs in (c.reserve_packed.ensures.visits ∙ before.0, c.reserve_packed.ensures.no_less _ before.1)),
   c.self.invariant.3,
   c.self.invariant.4,
+  c.self.invariant.5,
 )

@@ -14,4 +14,5 @@ invariant_of-self c =
       (λ packs. let before = c.self.invariant.2 packs in (c.clear-2.ensures.visits ∙ none, c.clear-2.ensures.room _ before.1)),
       c.self.invariant.3,
       c.self.invariant.4,
+      c.self.invariant.5,
     )
