@@ -8,7 +8,8 @@ use Rattle.clk_packet.specs.declared.packet.Offered.TheVariants.{Accepted}
 use Rattle.clk_sched.specs.Examples.{look}
 use Rattle.clk_sched.specs.Keeps.{keeps_nothing}
 use Rattle.clk_sched.specs.Log.{asking}
-use Rattle.clk_sched.specs.Tree.{queue, scheduler, drr, leaf, end}
+use Rattle.clk_packet.specs.Scheduler.{drr}
+use Rattle.clk_sched.specs.Tree.{queue, scheduler, leaf, end}
 use Rattle.clk_router.specs.Events.{Setup, offered, pulled}
 use Rattle.clk_router.specs.Course.{Course, after}
 use Rattle.clickpull_c.specs.declared.values.CPacket.{CPacket}

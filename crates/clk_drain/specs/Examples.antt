@@ -7,7 +7,8 @@ use Rattle.clk_packet.specs.declared.packet.Kind.{Kind}
 use Rattle.clk_packet.specs.declared.packet.Kind.TheVariants.{TailDrop, FrontDrop}
 use Rattle.clk_packet.specs.declared.tally.Tally.{Tally}
 use Rattle.clk_sched.specs.declared.visit.Visit.{Visit}
-use Rattle.clk_sched.specs.Tree.{Tree, queue, scheduler, prio, drr, leaf, end}
+use Rattle.clk_packet.specs.Scheduler.{prio, drr}
+use Rattle.clk_sched.specs.Tree.{Tree, queue, scheduler, leaf, end}
 use Rattle.clk_sched.specs.Log.{asking}
 use Rattle.clk_sched.specs.Examples.{look}
 use Rattle.clk_sched.specs.Examples.Priority.{p0_0, p1_0, p2_0}

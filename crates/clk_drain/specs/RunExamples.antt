@@ -9,7 +9,8 @@ use Rattle.clk_packet.specs.declared.tally.Tally.{Tally}
 use Rattle.clk_sched.specs.declared.visit.Visit.{Visit}
 use Rattle.clk_sched.specs.Log.{asking}
 use Rattle.clk_sched.specs.Examples.Priority.{p0_0, p1_0}
-use Rattle.clk_syntax.specs.Classes.{Class, sender, queue, prio, device}
+use Rattle.clk_packet.specs.Scheduler.{prio}
+use Rattle.clk_syntax.specs.Classes.{Class, sender, queue, scheduler, device}
 use Rattle.clk_tree.specs.Plan.{Planned}
 use Rattle.clk_drain.specs.declared.outcome.Outcome.{Outcome}
 use Rattle.clk_drain.specs.Examples.{p0_1, tally}
@@ -37,7 +38,7 @@ wider_plan = plan_with 3 2 []
 
 -- the plan with a PrioSched between the first Queue and its device
 abbrev pub scheduled_plan : List Planned
-scheduled_plan = plan_with 1 6 (planned (codes "o") prio (2 ∷ []) ∷ [])
+scheduled_plan = plan_with 1 6 (planned (codes "o") (scheduler prio) (2 ∷ []) ∷ [])
 
 -- the first sender sends two packets, and the second one
 abbrev pub traces : List (List Packet)

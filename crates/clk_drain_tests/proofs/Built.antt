@@ -4,7 +4,8 @@ use Rattle.std.proofs.lemmas.List.{append-nil}
 use Rattle.clk_packet.specs.declared.fault.Fault.{Fault}
 use Rattle.clk_packet.specs.declared.fault.Fault.TheVariants.{TooLarge}
 use Rattle.clk_packet.specs.Limits.{most_inputs, most_levels}
-use Rattle.clk_sched.specs.Tree.{Class, Tree, queue, scheduler, root, leaves, height}
+use Rattle.clk_packet.specs.Scheduler.{Scheduler}
+use Rattle.clk_sched.specs.Tree.{Tree, queue, scheduler, root, leaves, height}
 use Rattle.clk_sched.specs.Built.{built, row}
 
 leaves-of-queues : (numbers : List ℕ) → leaves (row (map queue numbers)) ≡ numbers
@@ -17,7 +18,7 @@ one-built false true tree made e = cc
 one-built false false tree made e = cc
 
 -- The leaves of a tree that was built over queues are these, in order.
-pub leaves-built : (class : Class) (trees : List Tree) (numbers : List ℕ) (tree : Tree) → Ok tree ≡ built class trees → trees ≡ map queue numbers → leaves (root tree) ≡ numbers
+pub leaves-built : (class : Scheduler) (trees : List Tree) (numbers : List ℕ) (tree : Tree) → Ok tree ≡ built class trees → trees ≡ map queue numbers → leaves (root tree) ≡ numbers
 unfolding built
 leaves-built class trees numbers tree made are =
     ap (λ t. leaves (root t)) (one-built (nat_lt most_inputs (length trees)) (nat_lt most_levels (suc (height (row trees)))) tree (scheduler class (row trees)) made)

@@ -4,7 +4,8 @@ use Rattle.std.proofs.Common.{lit≤}
 use Rattle.clk_packet.specs.declared.packet.Packet.{Packet}
 use Rattle.clk_packet.specs.declared.packet.Kind.TheVariants.{TailDrop}
 use Rattle.clk_packet.specs.Packets.{packet}
-use Rattle.clk_syntax.specs.Classes.{Class, sender, queue, prio, drr, device}
+use Rattle.clk_packet.specs.Scheduler.{prio, drr}
+use Rattle.clk_syntax.specs.Classes.{Class, sender, queue, scheduler, device}
 use Rattle.clk_tree.specs.Plan.{Planned}
 use Rattle.clk_lint.specs.Warnings.{Spot}
 
@@ -23,8 +24,8 @@ element class sources = record { name = codes "x"; class = class; sources = sour
 -- a queue of two packets below a DRRSched, and a queue that nobody sends to, at these inputs of a PrioSched
 abbrev pub plan_over : List ℕ → List Planned
 plan_over inputs =
-    element (sender 0) [] ∷ element (queue TailDrop 2) (0 ∷ []) ∷ element (drr (9 ∷ [])) (1 ∷ []) ∷ element (queue TailDrop 5) []
-    ∷ element prio inputs ∷ element (device (codes "y")) (4 ∷ []) ∷ []
+    element (sender 0) [] ∷ element (queue TailDrop 2) (0 ∷ []) ∷ element (scheduler (drr (9 ∷ []))) (1 ∷ []) ∷ element (queue TailDrop 5) []
+    ∷ element (scheduler prio) inputs ∷ element (device (codes "y")) (4 ∷ []) ∷ []
 
 -- a packet of sender 0, of 9 bytes
 abbrev pub short : ℕ → Packet

@@ -3,7 +3,8 @@ use Rattle.std.specs.Prelude.{ℕ, ◌+◌, ◌==◌, ◌&&◌, ◌||◌, zero, 
 use Rattle.std.specs.List.{flat_map}
 use Rattle.clk_sched.specs.Laws.Deficit.{quantum_at}
 use Rattle.clk_sched.specs.Laws.Stride.{stride_of}
-use Rattle.clk_syntax.specs.Classes.{Class, sender, queue, prio, round_robin, drr, stride, shaper}
+use Rattle.clk_packet.specs.Scheduler.{Scheduler, prio, drr, stride, shaper}
+use Rattle.clk_syntax.specs.Classes.{Class, sender, queue, scheduler}
 use Rattle.clk_tree.specs.Plan.{Planned}
 use Rattle.clk_tree.specs.PlanTree.{is_device}
 use Rattle.clk_lint.specs.declared.warning.Warning.{Warning}
@@ -71,21 +72,23 @@ abbrev pub sender_warnings_at : Trace → (place capacity : ℕ) → Option Plan
 sender_warnings_at trace place capacity None = []
 sender_warnings_at trace place capacity (Some e) = sender_warnings trace place capacity e.class
 
+-- the warnings of a scheduler with these inputs; `most` is the length of the longest packet
+abbrev pub scheduler_warnings : Spot → (most : ℕ) → (sources : List ℕ) → Scheduler → List Warning
+scheduler_warnings at most sources (drr quanta) = quantum_warnings at most quanta 0 sources ++ lone_warnings at.place sources
+scheduler_warnings at most sources (stride tickets) = stride_warnings at.place tickets 0 tickets ++ lone_warnings at.place sources
+scheduler_warnings at most sources (shaper rate burst) = if_so (nat_lt burst rate) (SmallBurst at.place rate burst)
+scheduler_warnings at most sources s = lone_warnings at.place sources
+
 -- the warnings of an element of a class, to which these elements are connected
 abbrev pub class_warnings : List Planned → Trace → Spot → (sources : List ℕ) → Class → List Warning
 class_warnings plan trace at sources (queue kind capacity) =
     unused_warnings at.place sources ++ flat_map (λ s. sender_warnings_at trace at.place capacity (slice_get plan s)) sources
-class_warnings plan trace at sources (drr quanta) =
-    quantum_warnings at (longest plan trace) quanta 0 sources ++ lone_warnings at.place sources
-class_warnings plan trace at sources (stride tickets) = stride_warnings at.place tickets 0 tickets ++ lone_warnings at.place sources
-class_warnings plan trace at sources (shaper rate burst) = if_so (nat_lt burst rate) (SmallBurst at.place rate burst)
-class_warnings plan trace at sources prio = lone_warnings at.place sources
-class_warnings plan trace at sources round_robin = lone_warnings at.place sources
+class_warnings plan trace at sources (scheduler s) = scheduler_warnings at (longest plan trace) sources s
 class_warnings plan trace at sources class = []
 
 -- whether a scheduler prefers an input to one of these, which come after it
 abbrev pub prefers : Class → (after : List ℕ) → Bool
-prefers prio (s ∷ more) = true
+prefers (scheduler prio) (s ∷ more) = true
 prefers class after = false
 
 -- the warnings of all that is connected to the inputs of an element, by those of each

@@ -2,24 +2,25 @@
 
 ghost use Rattle.std.specs.Prelude.{◌≡◌, ◌∷◌, [], None, Some, true, false};
 ghost use Rattle.clk_packet.specs.declared.packet.Kind.TheVariants.{TailDrop};
-ghost use Rattle.clk_syntax.specs.Classes.{drr, prio, queue, shaper, stride};
+ghost use Rattle.clk_packet.specs.Scheduler.{drr, prio, shaper, stride};
+ghost use Rattle.clk_syntax.specs.Classes.{queue, scheduler};
 ghost use Rattle.clk_lint.specs.Examples.{plain, plan_over, preferred, three};
 ghost use Rattle.clk_lint.specs.Warnings.{class_warnings, warnings};
 ghost use Rattle.clk_lint.specs.declared.warning.Warning.TheVariants.{SmallQuantum, SmallBurst, UnusedQueue, SameStride, OneInput, SmallQueue};
 
 /// Element 3 with each warning that needs no trace, and with a near miss.
 pub fn element_examples()
-    ensures quantum { class_warnings [] None preferred (1 ∷ 2 ∷ []) (drr (1499 ∷ 1500 ∷ [])) ≡ SmallQuantum 3 0 1499 1500 true ∷ [] }
-    ensures each_quantum { class_warnings [] None plain (1 ∷ 2 ∷ []) (drr (9 ∷ [])) ≡ SmallQuantum 3 0 9 1500 false ∷ SmallQuantum 3 1 9 1500 false ∷ [] }
-    ensures not_quantum { class_warnings [] None preferred (1 ∷ 2 ∷ []) (drr (1500 ∷ [])) ≡ [] }
-    ensures burst { class_warnings [] None plain (1 ∷ []) (shaper 3 2) ≡ SmallBurst 3 3 2 ∷ [] }
-    ensures not_burst { class_warnings [] None plain (1 ∷ []) (shaper 3 3) ≡ [] }
+    ensures quantum { class_warnings [] None preferred (1 ∷ 2 ∷ []) (scheduler (drr (1499 ∷ 1500 ∷ []))) ≡ SmallQuantum 3 0 1499 1500 true ∷ [] }
+    ensures each_quantum { class_warnings [] None plain (1 ∷ 2 ∷ []) (scheduler (drr (9 ∷ []))) ≡ SmallQuantum 3 0 9 1500 false ∷ SmallQuantum 3 1 9 1500 false ∷ [] }
+    ensures not_quantum { class_warnings [] None preferred (1 ∷ 2 ∷ []) (scheduler (drr (1500 ∷ []))) ≡ [] }
+    ensures burst { class_warnings [] None plain (1 ∷ []) (scheduler (shaper 3 2)) ≡ SmallBurst 3 3 2 ∷ [] }
+    ensures not_burst { class_warnings [] None plain (1 ∷ []) (scheduler (shaper 3 3)) ≡ [] }
     ensures queue { class_warnings [] None plain [] (queue TailDrop 1) ≡ UnusedQueue 3 ∷ [] }
     ensures not_queue { class_warnings [] None plain (1 ∷ []) (queue TailDrop 1) ≡ [] }
-    ensures stride { class_warnings [] None plain (1 ∷ 2 ∷ 4 ∷ []) (stride (300 ∷ 301 ∷ 302 ∷ [])) ≡ SameStride 3 2 1 217 ∷ [] }
-    ensures not_stride { class_warnings [] None plain (1 ∷ 2 ∷ []) (stride (301 ∷ 301 ∷ [])) ≡ [] }
-    ensures input { class_warnings [] None plain (1 ∷ []) prio ≡ OneInput 3 ∷ [] }
-    ensures not_input { class_warnings [] None plain (1 ∷ 2 ∷ []) prio ≡ [] }
+    ensures stride { class_warnings [] None plain (1 ∷ 2 ∷ 4 ∷ []) (scheduler (stride (300 ∷ 301 ∷ 302 ∷ []))) ≡ SameStride 3 2 1 217 ∷ [] }
+    ensures not_stride { class_warnings [] None plain (1 ∷ 2 ∷ []) (scheduler (stride (301 ∷ 301 ∷ []))) ≡ [] }
+    ensures input { class_warnings [] None plain (1 ∷ []) (scheduler prio) ≡ OneInput 3 ∷ [] }
+    ensures not_input { class_warnings [] None plain (1 ∷ 2 ∷ []) (scheduler prio) ≡ [] }
 {}
 
 /// A plan with its DRRSched at the first or at the last input of a PrioSched, without and with a trace.

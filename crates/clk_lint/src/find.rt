@@ -10,7 +10,7 @@ ghost use Rattle.clk_lint.specs.Warnings.{device_warnings, input_warnings, prefe
 use crate::judged::{Judged, Spot};
 use crate::own::push_own;
 use crate::warning::Warning;
-use clk_packet::{Fault, Traces};
+use clk_packet::{Fault, Scheduler, Traces};
 use clk_syntax::Class;
 use clk_tree::{Element, Plan};
 use std::alloc::Global;
@@ -114,7 +114,7 @@ fn prefers(class: &Class, after: &[u16]) -> bool
     ensures { result ≡ prefers (class_view class.now) after.now }
 {
     match class {
-        Class::PrioSched => !after.is_empty(),
+        Class::Scheduler(Scheduler::Prio) => !after.is_empty(),
         _ => false,
     }
 }

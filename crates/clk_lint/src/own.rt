@@ -3,17 +3,18 @@
 ghost use Rattle.std.specs.Prelude.{◌≡◌, ◌++◌, nat_lt, slice_get, OnOk, IsOkUnless};
 ghost use Rattle.std.specs.List.{flat_map};
 ghost use Rattle.clk_packet.specs.declared.fault.Fault.TheVariants.{Memory};
+ghost use Rattle.clk_packet.specs.Scheduler.{scheduler_view};
 ghost use Rattle.clk_syntax.specs.Classes.{class_view};
 ghost use Rattle.clk_lint.specs.declared.warning.Warning.TheVariants.{SmallBurst, SmallQueue};
 ghost use Rattle.clk_lint.specs.Load.{trace_of};
 ghost use Rattle.clk_lint.specs.inside.Kept.{plan_in, spot_of, trace_in};
-ghost use Rattle.clk_lint.specs.Warnings.{class_warnings, if_so, lone_warnings, sender_warnings, sender_warnings_at, unused_warnings};
+ghost use Rattle.clk_lint.specs.Warnings.{class_warnings, if_so, lone_warnings, scheduler_warnings, sender_warnings, sender_warnings_at, unused_warnings};
 
 use crate::judged::{Judged, Spot};
 use crate::load::burst_of;
 use crate::shares::{push_quanta, push_tickets};
 use crate::warning::Warning;
-use clk_packet::{Fault, Traces};
+use clk_packet::{Fault, Scheduler, Traces};
 use clk_syntax::Class;
 
 /// Adds the warnings of an element itself. Fault 1 if an allocation fails.
@@ -30,17 +31,36 @@ pub fn push_own(
 {
     match class {
         Class::Queue(_, capacity) => push_queue(found, judged, spot.place, *capacity, sources),
-        Class::DrrSched(quanta) => {
-            push_quanta(found, spot, judged.most, quanta, sources)?;
+        Class::Scheduler(scheduler) => {
+            push_scheduler(found, spot, judged.most, scheduler, sources)
+        }
+        Class::Sender(_) | Class::ToDevice(_) => Ok(()),
+    }
+}
+
+/// Adds the warnings of a scheduler itself. `most` is the length of the longest packet. Fault 1 if an allocation fails.
+fn push_scheduler(
+    found: &mut Vec<Warning>,
+    spot: Spot,
+    most: u16,
+    scheduler: &Scheduler,
+    sources: &[u16],
+) -> Result<(), Fault>
+    ensures added { OnOk result (found.new.items ≡ found.old.items
+        ++ scheduler_warnings (spot_of spot) most sources.now (scheduler_view scheduler.now)) }
+    ensures fault { IsOkUnless result Memory }
+{
+    match scheduler {
+        Scheduler::Drr(quanta) => {
+            push_quanta(found, spot, most, quanta, sources)?;
             push_lone(found, spot.place, sources)
         }
-        Class::StrideSched(tickets) => {
+        Scheduler::Stride(tickets) => {
             push_tickets(found, spot.place, tickets)?;
             push_lone(found, spot.place, sources)
         }
-        Class::PrioSched | Class::RoundRobinSched => push_lone(found, spot.place, sources),
-        Class::Shaper(rate, burst) => push_shaper(found, spot.place, *rate, *burst),
-        Class::Sender(_) | Class::ToDevice(_) => Ok(()),
+        Scheduler::Shaper(rate, burst) => push_shaper(found, spot.place, *rate, *burst),
+        _ => push_lone(found, spot.place, sources),
     }
 }
 

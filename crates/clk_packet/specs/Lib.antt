@@ -9,6 +9,7 @@ pub mod Limits
 pub mod Lists
 pub mod Numbers
 pub mod Packets
+pub mod Scheduler
 pub mod Trace
 pub mod Written
 pub mod inside

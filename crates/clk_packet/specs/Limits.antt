@@ -1,6 +1,6 @@
 -- The limits of packets, queues and trees (this project's own choice).
 use Rattle.std.specs.Prelude.{ℕ}
-use Rattle.clk_packet.specs.declared.limits.TheConstants.{MAX_SENDER, MAX_LENGTH, MAX_CAPACITY, MAX_INPUTS, MAX_LEVELS, MAX_QUANTUM, MAX_TICKETS, MAX_RATE, MAX_BURST, MAX_ELEMENTS}
+use Rattle.clk_packet.specs.declared.limits.TheConstants.{MAX_SENDER, MAX_LENGTH, MAX_CAPACITY, MAX_INPUTS, MAX_LEVELS, MAX_QUANTUM, DEFAULT_QUANTUM, MAX_TICKETS, MAX_RATE, MAX_BURST, MAX_ELEMENTS}
 
 -- the greatest number of a sender
 abbrev pub most_sender : ℕ
@@ -25,6 +25,10 @@ most_levels = MAX_LEVELS
 -- the greatest quantum, in bytes
 abbrev pub most_quantum : ℕ
 most_quantum = MAX_QUANTUM
+
+-- the quantum of a DRRSched, in bytes, if a text leaves it out
+abbrev pub default_quantum : ℕ
+default_quantum = DEFAULT_QUANTUM
 
 -- the greatest number of tickets
 abbrev pub most_tickets : ℕ

@@ -13,6 +13,7 @@ mod limits;
 mod number;
 mod packet;
 mod packets;
+mod scheduler;
 mod tally;
 mod traces;
 
@@ -24,11 +25,12 @@ pub use fault::Fault;
 pub use from_std::{FromRead, ToWrite};
 pub use io::{Failed, Sink, Source};
 pub use limits::{
-    MAX_BURST, MAX_CAPACITY, MAX_ELEMENTS, MAX_INPUTS, MAX_LENGTH, MAX_LEVELS, MAX_QUANTUM,
-    MAX_RATE, MAX_RECORDS, MAX_SENDER, MAX_TICKETS, MAX_TRACE_BYTES,
+    DEFAULT_QUANTUM, MAX_BURST, MAX_CAPACITY, MAX_ELEMENTS, MAX_INPUTS, MAX_LENGTH, MAX_LEVELS,
+    MAX_QUANTUM, MAX_RATE, MAX_RECORDS, MAX_SENDER, MAX_TICKETS, MAX_TRACE_BYTES,
 };
 pub use number::{leading_number, number_before, number_in};
 pub use packet::{Kind, Offered, Packet};
 pub use packets::Packets;
+pub use scheduler::{Scheduler, SchedulerName};
 pub use tally::Tally;
 pub use traces::Traces;

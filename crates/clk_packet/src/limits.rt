@@ -18,6 +18,9 @@ pub const MAX_LEVELS: u8 = 64;
 /// The greatest quantum of an input of a DRRSched, in bytes.
 pub const MAX_QUANTUM: u32 = 1_000_000;
 
+/// The quantum of each input of a DRRSched, in bytes, if its arguments are left out (Click's default).
+pub const DEFAULT_QUANTUM: u32 = 500;
+
 /// How many tickets an input of a StrideSched has at most.
 pub const MAX_TICKETS: u32 = 32_768;
 

@@ -2,7 +2,7 @@
 use denote.Param.Send.{IsSend, sendable}
 use Rattle.std.proofs.Crossing as heap
 use Rattle.clk_sched.proofs.tree.Tree.TheLaws.TheKnot as trees
-use Rattle.clk_sched.proofs.tree.Class.TheSendSync as class
+use Rattle.clk_packet.proofs.scheduler.Scheduler.TheSendSync as scheduler
 use Rattle.clk_sched.proofs.session.nodes.Nodes.TheSendSync as nodes
 use Rattle.clk_sched.proofs.session.emitted.Emitted.TheSendSync as emitted
 use Rattle.clk_sched.proofs.session.keeps.Keeps.TheSendSync as keeps
@@ -14,7 +14,7 @@ use Rattle.clk_router.specs.contracts.counting.CountingRouter.{the_row}
 
 pub router : IsSend the_row
 router = search (
-  class.the_send,
+  scheduler.the_send,
   nodes.the_field_send,
   emitted.the_field_send,
   keeps.the_field_send,

@@ -5,7 +5,8 @@ use Rattle.clk_packet.specs.declared.packet.Packet.{Packet}
 use Rattle.clk_packet.specs.declared.packet.Kind.TheVariants.{TailDrop, FrontDrop}
 use Rattle.clk_packet.specs.declared.packet.Offered.TheVariants.{Accepted, Refused, Evicted}
 use Rattle.clk_packet.specs.Packets.{packet}
-use Rattle.clk_sched.specs.Tree.{drr, end, leaf, queue, scheduler}
+use Rattle.clk_packet.specs.Scheduler.{drr}
+use Rattle.clk_sched.specs.Tree.{end, leaf, queue, scheduler}
 use Rattle.clk_sched.specs.Keeps.{keeps_nothing}
 use Rattle.clk_sched.specs.Log.{asking}
 use Rattle.clk_sched.specs.Examples.{look}

@@ -4,6 +4,7 @@ pub mod Enumerated
 pub mod Table
 pub mod Bucket
 pub mod BusyTurns
+pub mod RoundRobinTurns
 pub mod Deficits
 pub mod RankBehind
 pub mod RankLemmas

@@ -1,7 +1,8 @@
 -- How many pulls a drain of a tree makes at most (this project's own bound).
 use Rattle.std.specs.Prelude.{ℕ, ◌+◌, ◌*◌, ◌-◌, ◌/◌, List, [], ◌∷◌, min, Option, Some, None}
 use Rattle.clk_packet.specs.Limits.{most_length}
-use Rattle.clk_sched.specs.Tree.{Class, drr, Row, end, leaf, node, Tree, root, height}
+use Rattle.clk_packet.specs.Scheduler.{Scheduler, drr}
+use Rattle.clk_sched.specs.Tree.{Row, end, leaf, node, Tree, root, height}
 
 -- the lesser of two numbers if both are there, or the one that is
 abbrev pub lesser : Option ℕ → Option ℕ → Option ℕ
@@ -15,7 +16,7 @@ least [] = None
 least (n ∷ ns) = lesser (Some n) (least ns)
 
 -- the quanta of a scheduler; only a DRRSched has any
-abbrev pub quanta_of : Class → List ℕ
+abbrev pub quanta_of : Scheduler → List ℕ
 quanta_of (drr quanta) = quanta
 quanta_of class = []
 

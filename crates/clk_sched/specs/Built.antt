@@ -3,7 +3,8 @@ use Rattle.std.specs.Prelude.{ℕ, List, [], ◌∷◌, length, nat_lt, Result, 
 use Rattle.clk_packet.specs.declared.fault.Fault.{Fault}
 use Rattle.clk_packet.specs.declared.fault.Fault.TheVariants.{TooLarge}
 use Rattle.clk_packet.specs.Limits.{most_inputs, most_levels}
-use Rattle.clk_sched.specs.Tree.{Class, Row, end, leaf, node, Tree, queue, scheduler, height, leaves}
+use Rattle.clk_packet.specs.Scheduler.{Scheduler}
+use Rattle.clk_sched.specs.Tree.{Row, end, leaf, node, Tree, queue, scheduler, height, leaves}
 
 -- trees at inputs that follow one another
 abbrev pub row : List Tree → Row
@@ -22,6 +23,6 @@ leaves_of (queue q) = q ∷ []
 leaves_of (scheduler class inputs) = leaves inputs
 
 -- A scheduler over some trees, or fault 18 if they are too many or too many schedulers would stand on a path.
-unfoldable pub built : Class → List Tree → Result Tree Fault
+unfoldable pub built : Scheduler → List Tree → Result Tree Fault
 built class children =
     if nat_lt most_inputs (length children) then Err TooLarge else (if nat_lt most_levels (suc (height (row children))) then Err TooLarge else Ok (scheduler class (row children)))

@@ -2,7 +2,8 @@
 use Rattle.std.specs.Prelude.{◌≡◌, ℕ, suc, ◌+◌, ◌≤◌, nat_le, ◌&&◌, ◌||◌, Bool, true, false, List, map, reverse, Option, Some, None, is_some, IfSome, MatchOption, ⊤}
 use Rattle.std.specs.List.{AllByRecursion, list_any, range_with_len}
 use Rattle.clk_sched.specs.declared.visit.Visit.{Visit}
-use Rattle.clk_sched.specs.Tree.{Class, shaper, Row, end, leaf, node, Tree, root, nodes, width}
+use Rattle.clk_packet.specs.Scheduler.{Scheduler, shaper}
+use Rattle.clk_sched.specs.Tree.{Row, end, leaf, node, Tree, root, nodes, width}
 use Rattle.clk_sched.specs.Turns.{Turn, visits_before}
 use Rattle.clk_sched.specs.Heads.{head_at}
 use Rattle.clk_sched.specs.Laws.{Manner, in_order, with_heads, manner}
@@ -16,7 +17,7 @@ abbrev pub turns_in : List Visit → ℕ → List Turn
 turns_in log x = map (turn x) (reverse (pulls log))
 
 -- Whether a scheduler, after some turns, lets a packet through at a moment: a Shaper if it has room, and any other always.
-abbrev pub lets_through : Class → List Turn → ℕ → Bool
+abbrev pub lets_through : Scheduler → List Turn → ℕ → Bool
 lets_through (shaper rate burst) turns moment = has_room rate burst moment turns
 lets_through class turns moment = true
 

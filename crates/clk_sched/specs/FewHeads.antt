@@ -2,12 +2,13 @@
 use Rattle.std.specs.Prelude.{ℕ, ◌+◌, ◌≤◌, List, length, if◌then◌else◌}
 use Rattle.clk_packet.specs.Lists.{stands_in}
 use Rattle.clk_sched.specs.declared.visit.Visit.{Visit}
-use Rattle.clk_sched.specs.Tree.{Class, drr, Row, end, leaf, node, Tree, root, leaves}
+use Rattle.clk_packet.specs.Scheduler.{Scheduler, drr}
+use Rattle.clk_sched.specs.Tree.{Row, end, leaf, node, Tree, root, leaves}
 use Rattle.clk_sched.specs.Results.{traced_heads}
 use Rattle.clk_sched.specs.Conservation.{from_queue}
 
 -- how many packets of one queue a scheduler holds as heads at most: one if it is a DRRSched, else none
-abbrev pub most_heads : Class → ℕ
+abbrev pub most_heads : Scheduler → ℕ
 most_heads (drr quanta) = 1
 most_heads class = 0
 

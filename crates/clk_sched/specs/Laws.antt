@@ -3,7 +3,7 @@ use Rattle.std.specs.Prelude.{ℕ, ◌<◌, Bool, List, []}
 use Rattle.std.specs.List.{AllByRecursion}
 use Rattle.clk_packet.specs.declared.packet.Packet.{Packet}
 use Rattle.clk_sched.specs.declared.visit.Visit.{Visit}
-use Rattle.clk_sched.specs.Tree.{Class, prio, round_robin, drr, stride, shaper}
+use Rattle.clk_packet.specs.Scheduler.{Scheduler, prio, round_robin, drr, stride, shaper}
 use Rattle.clk_sched.specs.Turns.{Turn, EachAfter, AsksInOrder, visits_before}
 use Rattle.clk_sched.specs.Heads.{LooksAtHeads, EndAtPass}
 use Rattle.clk_sched.specs.Laws.Priority.{priority_order}
@@ -25,7 +25,7 @@ pub data Manner : Type 0 where
   with_heads : (List Visit → ℕ) → (List Visit → ℕ → Packet → Bool) → Manner
 
 -- the law of each class, over so many inputs, as a manner
-abbrev pub manner : Class → ℕ → Manner
+abbrev pub manner : Scheduler → ℕ → Manner
 manner prio inputs = in_order (λ earlier moment. priority_order inputs)
 manner round_robin inputs = in_order (λ earlier moment. round_robin_order inputs earlier)
 manner (drr quanta) inputs = with_heads (next_input inputs) (deficit_covers quanta)
@@ -39,10 +39,10 @@ Follows (in_order order) inputs earlier t = AsksInOrder (order earlier t.moment)
 Follows (with_heads turn_of covers) inputs earlier t = EachAfter (LooksAtHeads turn_of covers) (visits_before earlier) t.visits × EndAtPass inputs t.visits
 
 -- What a scheduler may do in one pull after its earlier turns, the latest first: it visits inputs that it has, and keeps to its manner.
-pub record AllowsTurn (class : Class) (inputs : ℕ) (earlier : List Turn) (t : Turn) : Type 0 where
+pub record AllowsTurn (class : Scheduler) (inputs : ℕ) (earlier : List Turn) (t : Turn) : Type 0 where
   pub within : AllByRecursion (λ (v : Visit). v.input < inputs) t.visits
   pub follows : Follows (manner class inputs) inputs earlier t
 
 -- A scheduler obeys its law: it may do what it did in each of its turns, one after another.
-abbrev pub Obeys : Class → ℕ → List Turn → Type 0
+abbrev pub Obeys : Scheduler → ℕ → List Turn → Type 0
 Obeys class inputs turns = EachAfter (AllowsTurn class inputs) [] turns

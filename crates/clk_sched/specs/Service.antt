@@ -3,7 +3,8 @@ use Rattle.std.specs.Prelude.{◌≡◌, ℕ, ◌+◌, ◌-◌, ◌*◌, ◌<◌
 use Rattle.std.specs.List.{AllByRecursion}
 use Rattle.clk_packet.specs.Limits.{most_length}
 use Rattle.clk_sched.specs.declared.visit.Visit.{Visit}
-use Rattle.clk_sched.specs.Tree.{Class, drr, stride, Row, end, leaf, node, Tree, root, width, nodes, is_number}
+use Rattle.clk_packet.specs.Scheduler.{Scheduler, drr, stride}
+use Rattle.clk_sched.specs.Tree.{Row, end, leaf, node, Tree, root, width, nodes, is_number}
 use Rattle.clk_sched.specs.Log.{pulls, turn, pulls_below}
 use Rattle.clk_sched.specs.Run.{IsRun}
 use Rattle.clk_sched.specs.Turns.{Turn, giver, all_visits}
@@ -63,7 +64,7 @@ pub record SharesByStride (tickets : List ℕ) (turns : List Turn) : Type 0 wher
       → Near (2 * largest_stride tickets) (packets_given i range * stride_at tickets i) (packets_given j range * stride_at tickets j)
 
 -- what a scheduler of this class, over so many inputs, shares out in its pulls
-abbrev pub Shares : Class → ℕ → List Turn → Type 0
+abbrev pub Shares : Scheduler → ℕ → List Turn → Type 0
 Shares (drr quanta) inputs turns = SharesByDeficit quanta inputs turns
 Shares (stride tickets) inputs turns = SharesByStride tickets turns
 Shares class inputs turns = ⊤

@@ -2,13 +2,14 @@
 use Rattle.std.specs.Prelude.{◌≡◌, ℕ, ◌==◌, List, [], ◌∷◌, cond, unwrap_or, slice_get, refl}
 use Rattle.std.proofs.Common.{ap, ◌∙◌}
 use Rattle.std.specs.Coded.{Coded, code_by, coded×, coded_ℕ, coded_list}
-use Rattle.clk_sched.specs.Tree.{Class, prio, round_robin, drr, stride, shaper, Row, end, leaf, node, Tree, queue, scheduler, root}
+use Rattle.clk_packet.specs.Scheduler.{Scheduler, prio, round_robin, drr, stride, shaper}
+use Rattle.clk_sched.specs.Tree.{Row, end, leaf, node, Tree, queue, scheduler, root}
 
 -- a token: what it stands for, and its arguments
 abbrev Token : Type 0
 Token = ℕ × List ℕ
 
-abbrev class_token : Class → Token
+abbrev class_token : Scheduler → Token
 class_token prio = (2, [])
 class_token round_robin = (3, [])
 class_token (drr quanta) = (4, quanta)
@@ -18,7 +19,7 @@ class_token (shaper rate burst) = (6, rate ∷ burst ∷ [])
 abbrev argument : ℕ → List ℕ → ℕ
 argument place arguments = unwrap_or (slice_get arguments place) 0
 
-abbrev token_class : Token → Class
+abbrev token_class : Token → Scheduler
 token_class t =
     cond (t.0 == 2) prio (cond (t.0 == 3) round_robin (cond (t.0 == 4) (drr t.1) (cond (t.0 == 5) (stride t.1) (shaper (argument 0 t.1) (argument 1 t.1)))))
 
@@ -28,7 +29,7 @@ tokens end more = (0, []) ∷ more
 tokens (leaf q row) more = (1, q ∷ []) ∷ tokens row more
 tokens (node class inputs row) more = class_token class ∷ tokens inputs (tokens row more)
 
-abbrev over_two : Class → Row → List Row → List Row
+abbrev over_two : Scheduler → Row → List Row → List Row
 over_two class inputs [] = []
 over_two class inputs (row ∷ rows) = node class inputs row ∷ rows
 
@@ -50,7 +51,7 @@ tree_of (end ∷ rows) = queue 0
 tree_of (leaf q row ∷ rows) = queue q
 tree_of (node class inputs row ∷ rows) = scheduler class inputs
 
-put-class_token : (c : Class) (inputs row : Row) (rows : List Row) → put (class_token c) (inputs ∷ row ∷ rows) ≡ node c inputs row ∷ rows
+put-class_token : (c : Scheduler) (inputs row : Row) (rows : List Row) → put (class_token c) (inputs ∷ row ∷ rows) ≡ node c inputs row ∷ rows
 put-class_token (drr quanta) inputs row rows = refl
 put-class_token c inputs row rows = refl
 

@@ -1,29 +1,20 @@
 -- Trees of schedulers over queues, below a device that has one input.
-use Rattle.std.specs.Prelude.{◌≡◌, ℕ, ◌+◌, ◌≤◌, ◌==◌, ◌&&◌, ◌++◌, Bool, false, List, [], ◌∷◌, length, ⊤, Option, Some, None, suc, max, if◌then◌else◌}
+use Rattle.std.specs.Prelude.{ℕ, ◌+◌, ◌≤◌, ◌==◌, ◌&&◌, ◌++◌, Bool, false, List, [], ◌∷◌, ⊤, Option, Some, None, suc, max, if◌then◌else◌}
 use Rattle.std.specs.Option.{option_or}
-use Rattle.std.specs.List.{AllByRecursion}
 use Rattle.clk_packet.specs.Lists.{are_distinct}
-use Rattle.clk_packet.specs.Limits.{most_inputs, most_quantum, most_tickets, most_rate, most_burst}
-
--- A class of scheduler with its arguments: a quantum in bytes for each input, tickets for each input, or a rate in packets a tick and a
--- burst in packets.
-pub data Class : Type 0 where
-  prio : Class
-  round_robin : Class
-  drr : List ℕ → Class
-  stride : List ℕ → Class
-  shaper : ℕ → ℕ → Class
+use Rattle.clk_packet.specs.Scheduler.{Scheduler, HasArguments}
+use Rattle.clk_packet.specs.Limits.{most_inputs}
 
 -- Inputs in order, and what stands at each: a queue, by its number, or a scheduler with inputs of its own.
 pub data Row : Type 0 where
   end : Row
   leaf : ℕ → Row → Row
-  node : Class → Row → Row → Row
+  node : Scheduler → Row → Row → Row
 
 -- a tree: a queue alone, or a scheduler with its inputs
 pub data Tree : Type 0 where
   queue : ℕ → Tree
-  scheduler : Class → Row → Tree
+  scheduler : Scheduler → Row → Tree
 
 -- the row of the device, which has one input
 abbrev pub root : Tree → Row
@@ -70,13 +61,6 @@ is_number n (Some other) = other == n
 -- no queue stands twice in a tree
 abbrev pub leaves_distinct : Tree → Bool
 leaves_distinct tree = are_distinct (leaves (root tree))
-
--- the arguments of a scheduler over so many inputs are within their limits
-abbrev pub HasArguments : Class → ℕ → Type 0
-HasArguments (drr quanta) inputs = (length quanta ≡ inputs) × AllByRecursion (λ n. (1 ≤ n) × (n ≤ most_quantum)) quanta
-HasArguments (stride tickets) inputs = (length tickets ≡ inputs) × AllByRecursion (λ n. (1 ≤ n) × (n ≤ most_tickets)) tickets
-HasArguments (shaper rate burst) inputs = (inputs ≡ 1) × ((1 ≤ rate) × (rate ≤ most_rate)) × ((1 ≤ burst) × (burst ≤ most_burst))
-HasArguments class inputs = ⊤
 
 -- Each scheduler of a row has at least one input, and arguments within their limits. A DRRSched has a quantum for each input, a StrideSched
 -- has tickets for each, and a Shaper has one input.

@@ -6,10 +6,11 @@ mod drrs;
 
 ghost use Rattle.std.specs.Prelude.{◌≡◌, ◌≤◌, length};
 ghost use Rattle.clk_packet.specs.Limits.{most_quantum, most_tickets, most_rate, most_burst};
-ghost use Rattle.clk_sched.specs.Tree.{prio, round_robin, drr, stride, shaper, queue, height, IsWellFormed};
+ghost use Rattle.clk_packet.specs.Scheduler.{prio, round_robin, drr, stride, shaper};
+ghost use Rattle.clk_sched.specs.Tree.{queue, height, IsWellFormed};
 ghost use Rattle.clk_sched.specs.Built.{built, row};
 
-use clk_packet::{Fault, MAX_INPUTS, MAX_LEVELS};
+use clk_packet::{Fault, MAX_INPUTS, MAX_LEVELS, Scheduler};
 use std::alloc::Global;
 use std::marker::Model;
 
@@ -26,20 +27,7 @@ pub struct Tree {
 #[derive(Drop)]
 pub(crate) enum Node {
     Leaf(u16),
-    Scheduler(Class, Vec<Tree>),
-}
-
-/// What a scheduler does with its inputs, and its arguments.
-#[derive(Drop)]
-pub(crate) enum Class {
-    Prio,
-    RoundRobin,
-    /// The quantum of each input, in bytes.
-    Drr(Vec<u32>),
-    /// The tickets of each input.
-    Stride(Vec<u32>),
-    /// The rate in packets a tick, and the burst in packets.
-    Shaper(u32, u32),
+    Inner(Scheduler, Vec<Tree>),
 }
 
 impl Model for Tree {
@@ -71,8 +59,8 @@ impl Tree {
     ghost use Rattle.std.specs.Prelude.{◌⊎◌, Err, [], ◌∷◌};
     ghost use Rattle.clk_packet.specs.declared.fault.Fault.TheVariants.{Memory};
     ghost use Rattle.std.specs.List.{AllByRecursion};
-    ghost use Rattle.clk_sched.specs.Tree.{HasArguments};
-    ghost use Rattle.clk_sched.specs.inside.Kept.{class_of};
+    ghost use Rattle.clk_packet.specs.Scheduler.{HasArguments};
+    ghost use Rattle.clk_packet.specs.Scheduler.{scheduler_view};
 
     /// The queue of this number alone.
     pub fn leaf(q: u16) -> Tree
@@ -93,7 +81,7 @@ impl Tree {
         requires inputs { 1 ≤ length children.items }
         ensures { result ≡ built prio children.items }
     {
-        Tree::scheduler(Class::Prio, children)
+        Tree::scheduler(Scheduler::Prio, children)
     }
 
     /// A RoundRobinSched over these trees, of which there is at least one.
@@ -105,7 +93,7 @@ impl Tree {
         requires inputs { 1 ≤ length children.items }
         ensures { result ≡ built round_robin children.items }
     {
-        Tree::scheduler(Class::RoundRobin, children)
+        Tree::scheduler(Scheduler::RoundRobin, children)
     }
 
     /// A DRRSched over these trees, of which there is at least one, with the quantum of each in bytes, from 1 to 1,000,000.
@@ -119,7 +107,7 @@ impl Tree {
         requires quanta { AllByRecursion (λ n. (1 ≤ n) × (n ≤ most_quantum)) quanta.items }
         ensures { result ≡ built (drr quanta.items) children.items }
     {
-        Tree::scheduler(Class::Drr(quanta), children)
+        Tree::scheduler(Scheduler::Drr(quanta), children)
     }
 
     /// A StrideSched over these trees, of which there is at least one, with the tickets of each, from 1 to 32,768.
@@ -133,7 +121,7 @@ impl Tree {
         requires tickets { AllByRecursion (λ n. (1 ≤ n) × (n ≤ most_tickets)) tickets.items }
         ensures { result ≡ built (stride tickets.items) children.items }
     {
-        Tree::scheduler(Class::Stride(tickets), children)
+        Tree::scheduler(Scheduler::Stride(tickets), children)
     }
 
     /// A Shaper over a tree: a token bucket that fills by `rate` packets a tick, and holds `burst` packets at most. Each is
@@ -149,13 +137,19 @@ impl Tree {
     {
         let mut children = Vec::new(alloc);
         children.push(child)?;
-        Tree::scheduler(Class::Shaper(rate, burst), children)
+        Tree::scheduler(Scheduler::Shaper(rate, burst), children)
     }
 
-    fn scheduler(class: Class, children: Vec<Tree>) -> Result<Tree, Fault>
+    /// A scheduler over these trees, of which there is at least one. A DRRSched has a quantum for each of them, a StrideSched has tickets
+    /// for each, and a Shaper stands over one. The numbers are within the limits that `drr`, `stride` and `shaper` have.
+    ///
+    /// # Errors
+    ///
+    /// Fault 18 if there are more than 64 trees, or if more than 64 schedulers would stand on a path.
+    pub fn scheduler(scheduler: Scheduler, children: Vec<Tree>) -> Result<Tree, Fault>
         requires inputs { 1 ≤ length children.items }
-        requires arguments { HasArguments (class_of class) (length children.items) }
-        ensures { result ≡ built (class_of class) children.items }
+        requires arguments { HasArguments (scheduler_view scheduler) (length children.items) }
+        ensures { result ≡ built (scheduler_view scheduler) children.items }
     {
         if children.len() > MAX_INPUTS {
             return Err(Fault::TooLarge);
@@ -165,7 +159,7 @@ impl Tree {
             return Err(Fault::TooLarge);
         }
         Ok(Tree {
-            node: Node::Scheduler(class, children),
+            node: Node::Inner(scheduler, children),
             height: below + 1,
         })
     }

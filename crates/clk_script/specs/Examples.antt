@@ -7,7 +7,8 @@ use Rattle.clk_packet.specs.declared.packet.Kind.TheVariants.{TailDrop}
 use Rattle.clk_packet.specs.declared.packet.Offered.TheVariants.{Accepted, Refused}
 use Rattle.clk_packet.specs.Packets.{packet}
 use Rattle.clk_sched.specs.declared.visit.Visit.{Visit}
-use Rattle.clk_sched.specs.Tree.{queue, scheduler, prio, shaper, leaf, end}
+use Rattle.clk_packet.specs.Scheduler.{prio, shaper}
+use Rattle.clk_sched.specs.Tree.{queue, scheduler, leaf, end}
 use Rattle.clk_sched.specs.Log.{asking}
 use Rattle.clk_router.specs.Events.{Setup, Event, offered, pulled}
 use Rattle.clk_script.specs.declared.script.Command.{Command}

@@ -17,7 +17,7 @@ pub use laws::{
     right_tokens_are_texts, texts_can_be_read, texts_have_one_reading,
     wrong_tokens_cannot_be_mended,
 };
-pub use limits::{DEFAULT_CAPACITY, DEFAULT_QUANTUM, MAX_PORT, MAX_TREE_BYTES};
+pub use limits::{DEFAULT_CAPACITY, MAX_PORT, MAX_TREE_BYTES};
 pub use naming::Named;
 pub use naming::class::{Class, ClassName, Role, letters};
 pub use node::{Link, Node};

@@ -8,6 +8,3 @@ pub const MAX_PORT: u32 = 65_535;
 
 /// The capacity of a queue, in packets, if its argument is left out.
 pub const DEFAULT_CAPACITY: u32 = 1000;
-
-/// The quantum of each input of a DRRSched, in bytes, if its arguments are left out (Click's default).
-pub const DEFAULT_QUANTUM: u32 = 500;

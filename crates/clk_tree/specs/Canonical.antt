@@ -3,7 +3,9 @@ use Rattle.std.specs.Prelude.{ℕ, ◌+◌, List, [], ◌∷◌, ◌++◌, map, 
 use Rattle.std.specs.List.{flat_map}
 use Rattle.clk_packet.specs.declared.packet.Kind.{Kind}
 use Rattle.clk_packet.specs.declared.packet.Kind.TheVariants.{TailDrop, FrontDrop}
-use Rattle.clk_syntax.specs.Classes.{Class, sender, queue, prio, round_robin, drr, stride, shaper, device}
+use Rattle.clk_packet.specs.Scheduler as sched
+use Rattle.clk_packet.specs.Scheduler.{name_text}
+use Rattle.clk_syntax.specs.Classes.{Class, sender, queue, scheduler, device}
 use Rattle.clk_tree.specs.Plan.{Planned}
 
 -- the name of a class of queue, by its kind
@@ -15,22 +17,14 @@ queue_text FrontDrop = codes "FrontDropQueue"
 abbrev pub class_text : Class → List ℕ
 class_text (sender n) = codes "Sender"
 class_text (queue kind capacity) = queue_text kind
-class_text prio = codes "PrioSched"
-class_text round_robin = codes "RoundRobinSched"
-class_text (drr quanta) = codes "DRRSched"
-class_text (stride tickets) = codes "StrideSched"
-class_text (shaper rate burst) = codes "Shaper"
+class_text (scheduler s) = name_text (sched.name_of s)
 class_text (device word) = codes "ToDevice"
 
 -- the arguments of a class, all of them
 abbrev pub arguments_of : Class → List (List ℕ)
 arguments_of (sender n) = decimal n ∷ []
 arguments_of (queue kind capacity) = decimal capacity ∷ []
-arguments_of prio = []
-arguments_of round_robin = []
-arguments_of (drr quanta) = map decimal quanta
-arguments_of (stride tickets) = map decimal tickets
-arguments_of (shaper rate burst) = decimal rate ∷ decimal burst ∷ []
+arguments_of (scheduler s) = map decimal (sched.arguments_of s)
 arguments_of (device word) = word ∷ []
 
 -- `(WORD, WORD, ..)`, or nothing if there are no words

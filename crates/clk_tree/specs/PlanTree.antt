@@ -1,8 +1,8 @@
 -- The trees of a plan, one for each device (node and leaf numbers as this project chose them).
-use Rattle.std.specs.Prelude.{◌≡◌, ℕ, ◌+◌, List, [], ◌∷◌, length, take, replicate, Bool, true, false, if◌then◌else◌, Option, Some, None, ⊤, slice_get, get_or}
-use Rattle.clk_sched.specs.Tree as tree
+use Rattle.std.specs.Prelude.{◌≡◌, ℕ, ◌+◌, List, [], ◌∷◌, length, take, Bool, true, false, if◌then◌else◌, Option, Some, None, ⊤, slice_get, get_or}
 use Rattle.clk_sched.specs.Tree.{Row, end, leaf, node, Tree, root}
-use Rattle.clk_syntax.specs.Classes.{Class, queue, prio, round_robin, drr, stride, shaper, device}
+use Rattle.clk_packet.specs.Scheduler.{Scheduler, over_inputs}
+use Rattle.clk_syntax.specs.Classes.{Class, queue, scheduler, device}
 use Rattle.clk_tree.specs.Plan.{Planned}
 
 -- whether this is the class of a queue
@@ -29,22 +29,13 @@ number_if n (Some e) = if is_queue e.class then Some n else None
 abbrev pub queue_number : List Planned → ℕ → Option ℕ
 queue_number plan i = number_if (queue_count (take i plan)) (slice_get plan i)
 
--- a DRRSched over so many inputs: one quantum is for each of them
-abbrev pub drr_over : List ℕ → ℕ → tree.Class
-drr_over (quantum ∷ []) inputs = tree.drr (replicate inputs quantum)
-drr_over quanta inputs = tree.drr quanta
-
 -- the scheduler of this class over so many inputs, if it is the class of a scheduler
-abbrev pub scheduler_over : Class → ℕ → Option tree.Class
-scheduler_over prio inputs = Some tree.prio
-scheduler_over round_robin inputs = Some tree.round_robin
-scheduler_over (drr quanta) inputs = Some (drr_over quanta inputs)
-scheduler_over (stride tickets) inputs = Some (tree.stride tickets)
-scheduler_over (shaper rate burst) inputs = Some (tree.shaper rate burst)
+abbrev pub scheduler_over : Class → ℕ → Option Scheduler
+scheduler_over (scheduler s) inputs = Some (over_inputs s inputs)
 scheduler_over class inputs = None
 
 -- The element of a plan that a node of a tree stands for: a scheduler of the node's class, with arguments for as many inputs as it has.
-abbrev pub IsNode : tree.Class → Option Planned → Type 0
+abbrev pub IsNode : Scheduler → Option Planned → Type 0
 IsNode class None = ⊥
 IsNode class (Some e) = scheduler_over e.class (length e.sources) ≡ Some class
 

@@ -1,7 +1,7 @@
 //! What the classes of elements take.
 
 use crate::words::Words;
-use clk_packet::{MAX_BURST, MAX_CAPACITY, MAX_QUANTUM, MAX_SENDER, MAX_TICKETS};
+use clk_packet::{MAX_CAPACITY, MAX_SENDER, SchedulerName};
 use clk_syntax::ClassName;
 
 /// Whether a word is the name of a class.
@@ -29,18 +29,24 @@ pub fn arguments_of(word: &[u8]) -> Words {
             "expected no argument, or a capacity in packets",
             MAX_CAPACITY as usize,
         ),
-        ClassName::PrioSched | ClassName::RoundRobinSched => Words::of("expected no argument"),
-        ClassName::DrrSched => up_to(
-            "expected no argument, or a quantum in bytes for all inputs or for each",
-            MAX_QUANTUM as usize,
-        ),
-        ClassName::StrideSched => up_to("expected the tickets of each input", MAX_TICKETS as usize),
-        ClassName::Shaper => up_to(
-            "expected a rate in packets a tick, and maybe a burst in packets",
-            MAX_BURST as usize,
-        ),
+        ClassName::Scheduler(name) => arguments_of_scheduler(name),
         ClassName::ToDevice => Words::of("expected one word for the link"),
     }
+}
+
+/// What arguments a scheduler takes.
+fn arguments_of_scheduler(name: SchedulerName) -> Words {
+    let expected = match name {
+        SchedulerName::Prio | SchedulerName::RoundRobin => {
+            return Words::of("expected no argument");
+        }
+        SchedulerName::Drr => {
+            "expected no argument, or a quantum in bytes for all inputs or for each"
+        }
+        SchedulerName::Stride => "expected the tickets of each input",
+        SchedulerName::Shaper => "expected a rate in packets a tick, and maybe a burst in packets",
+    };
+    up_to(expected, name.most_argument() as usize)
 }
 
 /// What is expected, in numbers from 1 to `most`.

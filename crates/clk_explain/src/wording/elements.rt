@@ -2,7 +2,7 @@
 
 use crate::mentions::{Found, Mention, class_of, find, input_at, token_from, word_from};
 use crate::words::Words;
-use clk_packet::MAX_INPUTS;
+use clk_packet::{MAX_INPUTS, SchedulerName};
 use clk_syntax::{ClassName, Symbol};
 
 /// That the name at an offset was declared before.
@@ -98,7 +98,9 @@ pub fn ports_of(text: &[u8], name: &[u8]) -> Words {
         ClassName::Queue | ClassName::FrontDropQueue => {
             Words::of("expected input 0 and output 0 of a queue")
         }
-        ClassName::Shaper => Words::of("expected input 0 and output 0 of a Shaper"),
+        ClassName::Scheduler(SchedulerName::Shaper) => Words::of(
+            "expected input 0 and output 0 of a Shaper",
+        ),
         ClassName::ToDevice => Words::of("expected input 0: a ToDevice has no output"),
         _ => Words::of("expected output 0, and the inputs of a scheduler"),
     }

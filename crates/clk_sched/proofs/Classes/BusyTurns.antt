@@ -1,12 +1,11 @@
 -- No law takes notice of a turn without visits: what it allows after some turns follows from those that have visits.
-use Rattle.std.proofs.Common.{◌≡◌, ◌&&◌, ℕ, Bool, true, false, if◌then◌else◌, List, [], ◌∷◌, ◌++◌, map, filter, reverse, Option, Some, None, inl, inr, refl, sym, ap, ◌∙◌, subst}
+use Rattle.std.proofs.Common.{◌≡◌, ◌&&◌, ℕ, Bool, true, false, if◌then◌else◌, List, [], ◌∷◌, ◌++◌, map, filter, reverse, inl, inr, refl, sym, ap, ◌∙◌, subst}
 use Rattle.std.specs.Bool.{⊤}
 use Rattle.clk_sched.specs.declared.visit.Visit.{Visit}
-use Rattle.clk_sched.specs.Turns.{Turn, EachAfter, AsksInOrder, visits_before, giver}
+use Rattle.clk_sched.specs.Turns.{Turn, EachAfter, AsksInOrder, visits_before}
 use Rattle.clk_sched.specs.Log.{visits_of, moment_of, turn}
 use Rattle.clk_sched.specs.Heads.{LooksAtHeads}
 use Rattle.clk_sched.specs.Laws.{Manner, in_order, with_heads, Follows}
-use Rattle.clk_sched.specs.Laws.RoundRobin.{beginning}
 use Rattle.clk_sched.specs.Laws.Stride.{passes_after, passes_of}
 use Rattle.clk_sched.specs.Laws.Shaper.{has_passed, keeps_since, keeps_since_each}
 use Rattle.clk_sched.specs.inside.Pulling.{as_turn, with_turn}
@@ -36,7 +35,7 @@ busy-filtered test x (p ∷ earlier) none = by_test (test p) (none p (inl refl))
     by_test false e rest = ap (λ vs. with_turn (moment_of p) vs (busy (map (turn x) earlier))) (e refl) ∙ rest
 
 -- what is told from turns one by one, and stays at a turn without visits, is told from those with visits
-busy-tells : {X : Type 0} (tell : List Turn → X) → ((t : Turn) (us ts : List Turn) → tell us ≡ tell ts → tell (t ∷ us) ≡ tell (t ∷ ts)) → ((moment : ℕ) (ts : List Turn) → tell (as_turn moment [] ∷ ts) ≡ tell ts)
+pub busy-tells : {X : Type 0} (tell : List Turn → X) → ((t : Turn) (us ts : List Turn) → tell us ≡ tell ts → tell (t ∷ us) ≡ tell (t ∷ ts)) → ((moment : ℕ) (ts : List Turn) → tell (as_turn moment [] ∷ ts) ≡ tell ts)
     → (ts : List Turn) → tell (busy ts) ≡ tell ts
 busy-tells tell step stays [] = refl
 busy-tells tell step stays (t ∷ ts) = by_visits t.moment t.visits (busy-tells tell step stays ts)
@@ -47,13 +46,6 @@ busy-tells tell step stays (t ∷ ts) = by_visits t.moment t.visits (busy-tells 
 
 pub busy-visits : (ts : List Turn) → visits_before (busy ts) ≡ visits_before ts
 busy-visits = busy-tells visits_before (λ t us ts e. ap (λ vs. reverse t.visits ++ vs) e) (λ moment ts. refl)
-
-pub busy-beginning : (inputs : ℕ) (ts : List Turn) → beginning inputs (busy ts) ≡ beginning inputs ts
-busy-beginning inputs = busy-tells (beginning inputs) (λ t us ts e. by_giver t us ts (giver t.visits) refl e) (λ moment ts. refl)
-  where
-    by_giver : (t : Turn) (us ts : List Turn) (o : Option ℕ) → giver t.visits ≡ o → beginning inputs us ≡ beginning inputs ts → beginning inputs (t ∷ us) ≡ beginning inputs (t ∷ ts)
-    by_giver t us ts None e h = rw e h
-    by_giver t us ts (Some input) e h = rw e refl
 
 pub busy-passes : (tickets : List ℕ) (ts : List Turn) → passes_of tickets (busy ts) ≡ passes_of tickets ts
 busy-passes tickets = busy-tells (passes_of tickets) (λ t us ts e. ap (λ passes. passes_after tickets passes t) e) (λ moment ts. refl)

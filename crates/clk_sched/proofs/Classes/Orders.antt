@@ -1,5 +1,5 @@
 -- The order of each class that asks in order names inputs that there are, and none twice; and places around so many inputs.
-use Rattle.std.proofs.Common.{◌≡◌, ◌≢◌, ◌⊎◌, ◌||◌, ◌&&◌, ◌==◌, ℕ, zero, suc, ◌+◌, ◌-◌, ◌*◌, ◌%◌, ◌<◌, ◌≤◌, nat_lt, nat_le, if◌then◌else◌, Bool, true, false, inl, inr, List, [], ◌∷◌, map, length, Option, Some, None, refl, sym, ap, ◌∙◌, subst, mod-eq_of_lt, mod-lt, arith}
+use Rattle.std.proofs.Common.{◌≡◌, ◌≢◌, ◌⊎◌, ◌||◌, ◌&&◌, ◌==◌, ℕ, zero, suc, ◌+◌, ◌-◌, ◌*◌, ◌%◌, ◌<◌, ◌≤◌, nat_lt, nat_le, if◌then◌else◌, Bool, true, false, inl, inr, List, [], ◌∷◌, map, length, Option, Some, None, refl, sym, ap, ◌∙◌, subst, mod-eq_of_lt, arith}
 use Rattle.std.specs.List.{range_with_len, enumerate_from, AllByRecursion}
 use Rattle.std.proofs.lemmas.Bool.Decides.{nat_tests}
 use Rattle.std.proofs.lemmas.Nat.{mod-mul-add}
@@ -8,7 +8,6 @@ use Rattle.std.proofs.lemmas.List.FromFn.{length-enumerate_from}
 use Rattle.clk_sched.specs.Turns.{Turn, giver}
 pub use Rattle.clk_sched.specs.inside.Making.{IsPlace}
 use Rattle.clk_sched.specs.Laws.Priority.{priority_order}
-use Rattle.clk_sched.specs.Laws.RoundRobin.{beginning, round_robin_order}
 use Rattle.clk_sched.specs.Laws.Stride.{passes_after, passes_of, put_in_order, in_rising_order, stride_order}
 use Rattle.clk_sched.specs.Laws.Shaper.{has_room, shaper_order}
 use Rattle.clk_sched.proofs.Lists.Members.{all-weaker}
@@ -100,22 +99,6 @@ around n s j (suc count) l m =
       (record { places = j; above = omega arith; below = omega arith; place = here }, all-weaker (IsBeyond n s (j + 1)) (IsBeyond n s j) later (λ i b. beyond-lower n s j i b) rest.0),
       (all-weaker (IsBeyond n s (j + 1)) (λ i. i ≢ (s + j) % n) later (λ i b. beyond-differs n s j ((s + j) % n) i (omega arith) here b) rest.0, rest.1),
     )
-
-beginning-below : (inputs : ℕ) (earlier : List Turn) → 1 ≤ inputs → beginning inputs earlier < inputs
-beginning-below inputs [] l = omega arith
-beginning-below inputs (t ∷ earlier) l = by_giver (giver t.visits) refl (beginning-below inputs earlier l)
-  where
-    by_giver : (o : Option ℕ) → giver t.visits ≡ o → beginning inputs earlier < inputs → beginning inputs (t ∷ earlier) < inputs
-    by_giver None e rest = rw e rest
-    by_giver (Some i) e rest = rw e (mod-lt (i + 1) l)
-
-pub round_robin-order : (inputs : ℕ) (earlier : List Turn) → 1 ≤ inputs → IsOrderOf inputs (round_robin_order inputs earlier)
-round_robin-order inputs earlier l =
-    let all = around inputs (beginning inputs earlier) 0 inputs (beginning-below inputs earlier l) (omega arith) in
-    record {
-      within = all-weaker (IsBeyond inputs (beginning inputs earlier) 0) (λ i. i < inputs) (round_robin_order inputs earlier) (λ i b. b.place.within) all.0;
-      apart = all.1;
-    }
 
 -- inputs with passes, put in order
 pub put-all : (P : ℕ × ℕ → Type 0) (i : ℕ × ℕ) (pairs : List (ℕ × ℕ)) → P i → AllByRecursion P pairs → AllByRecursion P (put_in_order i pairs)

@@ -6,31 +6,32 @@ use Rattle.std.proofs.lemmas.List.{length-map}
 use Rattle.std.proofs.lemmas.List.FromFn.{length-range_with_len, length-enumerate_from}
 use Rattle.clk_sched.specs.declared.session.state.State.{State}
 use Rattle.clk_sched.specs.declared.session.state.State.TheVariants.{Prio, RoundRobin, Drr, Stride, Shaper}
-use Rattle.clk_sched.specs.Tree.{Class, prio, round_robin, drr, stride, shaper, HasArguments}
+use Rattle.clk_packet.specs.Scheduler.{Scheduler, prio, round_robin, drr, stride, shaper, HasArguments}
 use Rattle.clk_sched.specs.Turns.{Turn}
 use Rattle.clk_sched.specs.Laws.{Manner, in_order, with_heads, manner, AllowsTurn}
 use Rattle.clk_sched.specs.Laws.Stride.{passes_of, in_rising_order}
 use Rattle.clk_sched.specs.Laws.Shaper.{has_room}
 use Rattle.clk_sched.specs.inside.Holds.OfClass.{Fits, Holds}
-use Rattle.clk_sched.proofs.Classes.Orders.{IsOrderOf, priority-order, round_robin-order, stride-order, shaper-order, passes-length}
+use Rattle.clk_sched.proofs.Classes.Orders.{IsOrderOf, priority-order, stride-order, shaper-order, passes-length}
 use Rattle.clk_sched.proofs.Lists.Rising.{rising-length}
-use Rattle.clk_sched.proofs.Classes.BusyTurns.{busy, busy-beginning, busy-passes, busy-room, TakesNoNotice, follows-busy}
+use Rattle.clk_sched.proofs.Classes.RoundRobinTurns.{round_robin-order, busy-beginning}
+use Rattle.clk_sched.proofs.Classes.BusyTurns.{busy, busy-passes, busy-room, TakesNoNotice, follows-busy}
 
 -- a scheduler may ask all of its inputs at this moment, after its earlier turns: a Shaper needs room
-abbrev pub MayAsk : Class → List Turn → ℕ → Type 0
+abbrev pub MayAsk : Scheduler → List Turn → ℕ → Type 0
 MayAsk (shaper rate burst) earlier moment = has_room rate burst moment earlier ≡ true
 MayAsk class earlier moment = ⊤
 
 -- What a scheduler asks in order after any turns, at any moment, are inputs of it, none twice, and all of them where it may ask.
-pub record AreOrders (class : Class) (inputs : ℕ) (order : List Turn → ℕ → List ℕ) : Type 0 where
+pub record AreOrders (class : Scheduler) (inputs : ℕ) (order : List Turn → ℕ → List ℕ) : Type 0 where
   pub orders : (earlier : List Turn) (moment : ℕ) → IsOrderOf inputs (order earlier moment)
   pub whole : (earlier : List Turn) (moment : ℕ) → MayAsk class earlier moment → length (order earlier moment) ≡ inputs
 
-abbrev pub AsksRight : Class → ℕ → Manner → Type 0
+abbrev pub AsksRight : Scheduler → ℕ → Manner → Type 0
 AsksRight class inputs (in_order order) = AreOrders class inputs order
 AsksRight class inputs (with_heads turn_of covers) = ⊤
 
-pub asks-right : (class : Class) (inputs : ℕ) → 1 ≤ inputs → HasArguments class inputs → AsksRight class inputs (manner class inputs)
+pub asks-right : (class : Scheduler) (inputs : ℕ) → 1 ≤ inputs → HasArguments class inputs → AsksRight class inputs (manner class inputs)
 asks-right prio inputs some args = record { orders = λ earlier moment. priority-order inputs; whole = λ earlier moment may. length-range_with_len 0 inputs }
 asks-right round_robin inputs some args =
     record { orders = λ earlier moment. round_robin-order inputs earlier some; whole = λ earlier moment may. length-map (range_with_len 0 inputs) _ ∙ length-range_with_len 0 inputs }
@@ -49,7 +50,7 @@ asks-right (shaper rate burst) inputs some args =
     asked b = if b then 0 ∷ [] else []
 
 -- No law takes notice of turns without visits.
-no-notice : (class : Class) (inputs : ℕ) → TakesNoNotice (manner class inputs)
+no-notice : (class : Scheduler) (inputs : ℕ) → TakesNoNotice (manner class inputs)
 no-notice prio inputs = λ earlier moment. refl
 no-notice round_robin inputs = λ earlier moment. ap (λ b. map (λ k. (b + k) % inputs) (range_with_len 0 inputs)) (busy-beginning inputs earlier)
 no-notice (drr quanta) inputs = tt
@@ -57,11 +58,11 @@ no-notice (stride tickets) inputs = λ earlier moment. ap (λ passes. map (λ (i
 no-notice (shaper rate burst) inputs = λ earlier moment. ap (λ room. if room then 0 ∷ [] else []) (busy-room rate burst moment [] earlier)
 
 -- a turn that is allowed after those with visits is allowed after all
-pub allows-busy : (class : Class) (inputs : ℕ) (earlier : List Turn) (t : Turn) → AllowsTurn class inputs (busy earlier) t → AllowsTurn class inputs earlier t
+pub allows-busy : (class : Scheduler) (inputs : ℕ) (earlier : List Turn) (t : Turn) → AllowsTurn class inputs (busy earlier) t → AllowsTurn class inputs earlier t
 allows-busy class inputs earlier t h = record { within = h.within; follows = follows-busy (manner class inputs) inputs earlier t (no-notice class inputs) h.follows }
 
 -- what a node holds before its first turn fits its inputs
-pub fits-first : (class : Class) (inputs : ℕ) (s : State) → 1 ≤ inputs → HasArguments class inputs → Holds class inputs [] s → Fits s inputs
+pub fits-first : (class : Scheduler) (inputs : ℕ) (s : State) → 1 ≤ inputs → HasArguments class inputs → Holds class inputs [] s → Fits s inputs
 fits-first prio inputs Prio some a h = tt
 fits-first round_robin inputs (RoundRobin b) some a h = omega (arith, h)
 fits-first (drr quanta) inputs (Drr d) some a h = h.length_is

@@ -9,7 +9,7 @@ use Rattle.std.proofs.lemmas.Bool.Decides.{nat_tests}
 use Rattle.std.proofs.Math.Bool.{and-false}
 use Rattle.clk_packet.specs.declared.packet.Packet.{Packet}
 use Rattle.clk_sched.specs.declared.visit.Visit.{Visit}
-use Rattle.clk_sched.specs.Tree.{Class, drr}
+use Rattle.clk_packet.specs.Scheduler.{Scheduler, drr}
 use Rattle.clk_sched.specs.Turns.{EachAfter, IsPlain}
 use Rattle.clk_sched.specs.Heads.{head_at, is_covered}
 use Rattle.clk_sched.specs.Log.{asks}
@@ -38,7 +38,7 @@ pub record HeadCosts (k : ℕ) (quanta : List ℕ) (visits : List Visit) (i belo
   pub left_is : left ≡ below + one_if (is_some (head_at i visits))
   pub work_is : work ≡ work_below + k * below + more
 
-abbrev pub CostsAt : (k : ℕ) → Class → List Visit → (i below work_below left work : ℕ) → Type 0
+abbrev pub CostsAt : (k : ℕ) → Scheduler → List Visit → (i below work_below left work : ℕ) → Type 0
 CostsAt k (drr quanta) visits i below work_below left work = HeadCosts k quanta visits i below work_below left work
 CostsAt k class visits i below work_below left work = (left ≡ below) × (work ≡ work_below)
 
@@ -55,13 +55,13 @@ pub record KeepsDeficits (k w : ℕ) (quanta : List ℕ) (earlier visits : List 
   pub covered : IsCovered quanta earlier
   pub enough : (i : ℕ) → i < w → 65535 ≤ quantum_at quanta i * k
 
-abbrev pub TurnLaw : (k w : ℕ) → Class → List Visit → List Visit → Type 0
+abbrev pub TurnLaw : (k w : ℕ) → Scheduler → List Visit → List Visit → Type 0
 TurnLaw k w (drr quanta) earlier visits = KeepsDeficits k w quanta earlier visits
 TurnLaw k w class earlier visits = AllByRecursion IsPlain visits
 
 -- An input after a turn: what passed is left no more, and the work never grows; where the turn came by and passed nothing from there
 -- while something was left, it falls.
-pub record IsInputAfter (k : ℕ) (class : Class) (earlier visits : List Visit) (i below work_below left work : ℕ) : Type 0 where
+pub record IsInputAfter (k : ℕ) (class : Scheduler) (earlier visits : List Visit) (i below work_below left work : ℕ) : Type 0 where
   pub new_left : ℕ
   pub new_work : ℕ
   pub costs : CostsAt k class (onto visits earlier) i below work_below new_left new_work
@@ -304,7 +304,7 @@ heads-after k w quanta earlier visits i old old_work new new_work left work with
         by_passed true e h none = let one = ap one_if e in absurd (omega (arith, h, none, one))
 
 -- an input of a scheduler that asks in order, after a turn
-plain-after : (k : ℕ) (class : Class) (earlier visits : List Visit) (i old old_work new new_work left work : ℕ)
+plain-after : (k : ℕ) (class : Scheduler) (earlier visits : List Visit) (i old old_work new new_work left work : ℕ)
     → ((new_left new_work : ℕ) → CostsAt k class (onto visits earlier) i new_left new_work new_left new_work) → AllByRecursion IsPlain visits → AreApart input_of visits → IsAsked i visits old old_work new new_work
     → (left ≡ old) × (work ≡ old_work) → IsInputAfter k class earlier visits i new new_work left work
 plain-after k class earlier visits i old old_work new new_work left work plainly plain apart asked costs = by_visit (at-input i visits apart)
@@ -357,7 +357,7 @@ plain-after k class earlier visits i old old_work new new_work left work plainly
         }
 
 -- each input after a turn
-pub input-after : (k w : ℕ) (class : Class) (earlier visits : List Visit) (i old old_work new new_work left work : ℕ) → i < w → TurnLaw k w class earlier visits → AreApart input_of visits → IsAsked i visits old old_work new new_work
+pub input-after : (k w : ℕ) (class : Scheduler) (earlier visits : List Visit) (i old old_work new new_work left work : ℕ) → i < w → TurnLaw k w class earlier visits → AreApart input_of visits → IsAsked i visits old old_work new new_work
     → CostsAt k class earlier i old old_work left work → IsInputAfter k class earlier visits i new new_work left work
 input-after k w (drr quanta) earlier visits i old old_work new new_work left work within law apart asked costs = heads-after k w quanta earlier visits i old old_work new new_work left work within law apart asked costs
 input-after k w class earlier visits i old old_work new new_work left work within law apart asked costs = plain-after k class earlier visits i old old_work new new_work left work (λ m n. (refl, refl)) law apart asked costs

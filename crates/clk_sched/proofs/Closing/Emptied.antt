@@ -9,7 +9,8 @@ use Rattle.std.proofs.lemmas.List.Elements.{filter-append}
 use Rattle.clk_packet.specs.declared.packet.Packet.{Packet}
 use Rattle.clk_sched.specs.declared.visit.Visit.{Visit}
 use Rattle.clk_packet.specs.Lists.{stands_in, are_distinct}
-use Rattle.clk_sched.specs.Tree.{prio, Row, end, leaf, node, Tree, root, width, nodes, leaves, height, leaves_distinct, queue_at, IsSound}
+use Rattle.clk_packet.specs.Scheduler.{prio}
+use Rattle.clk_sched.specs.Tree.{Row, end, leaf, node, Tree, root, width, nodes, leaves, height, leaves_distinct, queue_at, IsSound}
 use Rattle.clk_sched.specs.Log.{visits_of, pulls, moment_of, NeverFalls, turn, asks, result_of}
 use Rattle.clk_sched.specs.Laws.{AllowsTurn}
 use Rattle.clk_sched.specs.Laws.Device.{IsDeviceTurn}

@@ -5,7 +5,8 @@ use Rattle.std.specs.Bool.{⊤}
 use Rattle.std.proofs.lemmas.Bool.Decides.{nat_tests}
 use Rattle.clk_packet.specs.declared.packet.Packet.{Packet}
 use Rattle.clk_sched.specs.declared.visit.Visit.{Visit}
-use Rattle.clk_sched.specs.Tree.{Class, drr, Row, end, leaf, node, width, nodes, leaves, height, HasArguments, IsSound}
+use Rattle.clk_packet.specs.Scheduler.{Scheduler, drr, HasArguments}
+use Rattle.clk_sched.specs.Tree.{Row, end, leaf, node, width, nodes, leaves, height, IsSound}
 use Rattle.clk_sched.specs.Turns.{Turn, EachAfter, all_visits}
 use Rattle.clk_sched.specs.Heads.{head_at}
 use Rattle.clk_sched.specs.Log.{turn, pulls_below}
@@ -52,17 +53,17 @@ near-all k w quanta earlier (v ∷ visits) enough law covered near =
     near-all k w quanta (v ∷ earlier) visits enough law.1 (covers-visit quanta w earlier v law.0 covered) (near-visit k w quanta earlier v enough law.0 covered near)
 
 -- the heads that a scheduler of this class holds at so many inputs
-abbrev pub heads_from : Class → List Visit → ℕ → ℕ → ℕ
+abbrev pub heads_from : Scheduler → List Visit → ℕ → ℕ → ℕ
 heads_from (drr quanta) visits first n = sum_from (λ j. one_if (is_some (head_at j visits))) first n
 heads_from class visits first n = 0
 
 -- what is known of a scheduler's visits so far
-abbrev pub IsNear : (k w : ℕ) → Class → List Visit → Type 0
+abbrev pub IsNear : (k w : ℕ) → Scheduler → List Visit → Type 0
 IsNear k w (drr quanta) visits = HeadsAreNear k w quanta visits × ((i : ℕ) → i < w → 65535 ≤ quantum_at quanta i * k)
 IsNear k w class visits = ⊤
 
 -- one input at first, which costs k for each packet left there, beside the work below it
-record IsInputFirst (k : ℕ) (class : Class) (visits : List Visit) (i below work_below : ℕ) : Type 0 where
+record IsInputFirst (k : ℕ) (class : Scheduler) (visits : List Visit) (i below work_below : ℕ) : Type 0 where
   now : Amount
   costs : CostsAt k class visits i below work_below now.left now.work
   left_is : now.left ≡ below + heads_from class visits i 1
@@ -106,15 +107,15 @@ heads-first k w quanta visits i below work_below within near large = by_head (he
         some-visits zero f = absurd (let none = ap (λ m. quantum_at quanta i * m) (sym f) in omega (arith, none, large))
         some-visits (suc n) f = omega arith
 
-plain-first : (k : ℕ) (class : Class) (visits : List Visit) (i below work_below : ℕ) → ((l w : ℕ) → CostsAt k class visits i l w l w) → heads_from class visits i 1 ≡ 0 → IsInputFirst k class visits i below work_below
+plain-first : (k : ℕ) (class : Scheduler) (visits : List Visit) (i below work_below : ℕ) → ((l w : ℕ) → CostsAt k class visits i l w l w) → heads_from class visits i 1 ≡ 0 → IsInputFirst k class visits i below work_below
 plain-first k class visits i below work_below plainly none =
     record { now = record { left = below; work = work_below }; costs = plainly below work_below; left_is = omega (arith, none); bound = omega arith }
 
-input-first : (k w : ℕ) (class : Class) (visits : List Visit) (i below work_below : ℕ) → i < w → IsNear k w class visits → IsInputFirst k class visits i below work_below
+input-first : (k w : ℕ) (class : Scheduler) (visits : List Visit) (i below work_below : ℕ) → i < w → IsNear k w class visits → IsInputFirst k class visits i below work_below
 input-first k w (drr quanta) visits i below work_below within near = heads-first k w quanta visits i below work_below within near.0 (near.1 i within)
 input-first k w class visits i below work_below within near = plain-first k class visits i below work_below (λ l m. (refl, refl)) refl
 
-heads-more : (class : Class) (visits : List Visit) (first n : ℕ) → heads_from class visits first (suc n) ≡ heads_from class visits first 1 + heads_from class visits (suc first) n
+heads-more : (class : Scheduler) (visits : List Visit) (first n : ℕ) → heads_from class visits first (suc n) ≡ heads_from class visits first 1 + heads_from class visits (suc first) n
 heads-more (drr quanta) visits first n = omega arith
 heads-more class visits first n = refl
 
@@ -132,7 +133,7 @@ length-heads log x inputs a (suc n) =
     let next : sum_from (λ j. one_if (is_some (head_at j (latest log x)))) (a + 1) n ≡ sum_from (λ j. one_if (is_some (head_at j (latest log x)))) (suc a) n = ap (λ m. sum_from (λ j. one_if (is_some (head_at j (latest log x)))) m n) (let e : a + 1 ≡ suc a = omega arith in e) in
     omega (arith, whole, here, rest, next)
 
-length-own : (log : List Visit) (x : ℕ) (class : Class) (inputs : Row) → length (own_heads log x inputs (manner class (width inputs))) ≡ heads_from class (latest log x) 0 (width inputs)
+length-own : (log : List Visit) (x : ℕ) (class : Scheduler) (inputs : Row) → length (own_heads log x inputs (manner class (width inputs))) ≡ heads_from class (latest log x) 0 (width inputs)
 length-own log x (drr quanta) inputs = length-heads log x inputs 0 (width inputs)
 length-own log x class inputs = refl
 
@@ -141,7 +142,7 @@ held-append held [] qs = omega arith
 held-append held (p ∷ ps) qs = let rest = held-append held ps qs in omega (arith, rest)
 
 -- the visits of a scheduler in a run are near
-node-near : (k : ℕ) (log : List Visit) (above first next : ℕ) (class : Class) (inputs row : Row) (pulled : List (List Visit)) → IsPulledIn log above first next (node class inputs row) pulled
+node-near : (k : ℕ) (log : List Visit) (above first next : ℕ) (class : Scheduler) (inputs row : Row) (pulled : List (List Visit)) → IsPulledIn log above first next (node class inputs row) pulled
     → Obeys class (width inputs) (map (turn next) (pulls_below above first pulled)) → HasArguments class (width inputs) → AreEnough k class → IsNear k (width inputs) class (latest log next)
 node-near k log above first next class inputs row pulled h obeys args enough = by_class class obeys args enough
   where
@@ -151,7 +152,7 @@ node-near k log above first next class inputs row pulled h obeys args enough = b
     visits : onto (all_visits turns) [] ≡ latest log next
     visits = onto-reverse (all_visits turns) ∙ ap reverse (turns-visits log above first next class inputs row pulled h)
 
-    by_class : (c : Class) → Obeys c (width inputs) turns → HasArguments c (width inputs) → AreEnough k c → IsNear k (width inputs) c (latest log next)
+    by_class : (c : Scheduler) → Obeys c (width inputs) turns → HasArguments c (width inputs) → AreEnough k c → IsNear k (width inputs) c (latest log next)
     by_class (drr quanta) o a e =
         let each : (i : ℕ) → i < width inputs → 65535 ≤ quantum_at quanta i * k = (λ i l. enough-at k i quanta e (let same = a.0 in omega (arith, same, l))) in (
           subst (HeadsAreNear k (width inputs) quanta) visits
@@ -161,17 +162,17 @@ node-near k log above first next class inputs row pulled h obeys args enough = b
     by_class c o a e = tt
 
 -- A row at first: what its queues and its heads hold is left, and the work is within so much for each packet.
-pub record IsRowFirst (k n : ℕ) (held : ℕ → ℕ) (log : List Visit) (class : Class) (above first next : ℕ) (row : Row) : Type 0 where
+pub record IsRowFirst (k n : ℕ) (held : ℕ → ℕ) (log : List Visit) (class : Scheduler) (above first next : ℕ) (row : Row) : Type 0 where
   pub now : Amount
   pub costs : Costs k held log class above first next row now.left now.work
   pub left_is : now.left ≡ held_in_all held (leaves row) + (heads_from class (latest log above) first (width row) + length (traced_heads log next row))
   pub bound : now.work ≤ now.left * (n * k + k)
 
-pub row-first : (row : Row) (k n w : ℕ) (held : ℕ → ℕ) (log : List Visit) (class : Class) (above first next : ℕ) (pulled : List (List Visit)) → first + width row ≤ w → height row ≤ n
+pub row-first : (row : Row) (k n w : ℕ) (held : ℕ → ℕ) (log : List Visit) (class : Scheduler) (above first next : ℕ) (pulled : List (List Visit)) → first + width row ≤ w → height row ≤ n
     → IsNear k w class (latest log above) → IsPulledIn log above first next row pulled → EachObeys above pulled first next row → IsSound row → EachIsEnough k row → IsRowFirst k n held log class above first next row
 row-first end k n w held log class above first next pulled within high near inside obeys sound enough = record { now = record { left = 0; work = 0 }; costs = (refl, refl); left_is = let none = no-heads class in omega (arith, none); bound = omega arith }
   where
-    no-heads : (c : Class) → heads_from c (latest log above) first 0 ≡ 0
+    no-heads : (c : Scheduler) → heads_from c (latest log above) first 0 ≡ 0
     no-heads (drr quanta) = refl
     no-heads c = refl
 row-first (leaf q row) k n w held log class above first next pulled within high near inside obeys sound enough =

@@ -6,7 +6,8 @@ use Rattle.std.proofs.Math.Bool.{and-false}
 use Rattle.std.proofs.lemmas.List.Elements.{filter-append}
 use Rattle.clk_packet.specs.declared.packet.Packet.{Packet}
 use Rattle.clk_sched.specs.declared.visit.Visit.{Visit}
-use Rattle.clk_sched.specs.Tree.{Class, Row, end, leaf, node, width, nodes}
+use Rattle.clk_packet.specs.Scheduler.{Scheduler}
+use Rattle.clk_sched.specs.Tree.{Row, end, leaf, node, width, nodes}
 use Rattle.clk_sched.specs.Log.{visits_of, asks, pulls_below, result_of}
 use Rattle.clk_sched.specs.Closing.{GivesOut}
 use Rattle.clk_sched.specs.inside.Pulling.{AreApart, input_of}
@@ -72,7 +73,7 @@ queue-asked i visits old new apart gives = by_asked (asked-one i visits apart)
         by_member v (inr m) = absurd m
 
 -- A row after one more pull: what its node's visits passed is left no more.
-pub record IsRowAfter (k : ℕ) (held : ℕ → ℕ) (log visits : List Visit) (class : Class) (above first next : ℕ) (row : Row) (left work : ℕ) : Type 0 where
+pub record IsRowAfter (k : ℕ) (held : ℕ → ℕ) (log visits : List Visit) (class : Scheduler) (above first next : ℕ) (row : Row) (left work : ℕ) : Type 0 where
   pub now : Amount
   pub costs : Costs k held log class above first next row now.left now.work
   pub conserved : now.left + sum_from (λ j. hits passes j visits) first (width row) ≡ left
@@ -85,7 +86,7 @@ record IsSumAfter (visits : List Visit) (first inputs left work : ℕ) (here res
   never_grows : here.work + rest.work ≤ work
   falls : ((j : ℕ) → first ≤ j → j < first + suc inputs → (hits (λ v. true) j visits ≡ 1) × (hits passes j visits ≡ 0)) → 0 < left → here.work + rest.work < work
 
-sum-after : (k : ℕ) (held : ℕ → ℕ) (log visits earlier : List Visit) (class : Class) (above first next i below work_below left work : ℕ) (row : Row) (s : IsSum left work) → i ≡ first
+sum-after : (k : ℕ) (held : ℕ → ℕ) (log visits earlier : List Visit) (class : Scheduler) (above first next i below work_below left work : ℕ) (row : Row) (s : IsSum left work) → i ≡ first
     → (here : IsInputAfter k class earlier visits first below work_below s.here.left s.here.work) → (rest : IsRowAfter k held log visits class above (suc first) next row s.rest.left s.rest.work)
     → IsSumAfter visits first (width row) left work (record { left = here.new_left; work = here.new_work }) rest.now
 sum-after k held log visits earlier class above first next i below work_below left work row s e here rest =
@@ -135,7 +136,7 @@ all-in_vain w visits turn long none j low high = (
 )
 
 -- a scheduler that is asked at an input of its parent
-node-asked : (k : ℕ) (old new : ℕ → ℕ) (log pull : List Visit) (above first next : ℕ) (class : Class) (inputs row : Row) (pulled : List (List Visit)) (left work : ℕ)
+node-asked : (k : ℕ) (old new : ℕ → ℕ) (log pull : List Visit) (above first next : ℕ) (class : Scheduler) (inputs row : Row) (pulled : List (List Visit)) (left work : ℕ)
     → IsPulledMore k old new log pull above first next (node class inputs row) pulled → (after : IsRowAfter k new (log ++ pull) (visits_of next pull) class next 0 (suc next) inputs left work)
     → IsAsked first (visits_of above pull) left work after.now.left after.now.work
 node-asked k old new log pull above first next class inputs row pulled left work h after =
@@ -171,7 +172,7 @@ node-asked k old new log pull above first next class inputs row pulled left work
         let one = turn.is_turn.passed ∙ ap (λ o. one_if (is_some o)) e in
         omega (arith, a, s, one)
 
-pub row-after : (row : Row) (k w : ℕ) (old new : ℕ → ℕ) (log pull : List Visit) (class : Class) (above first next : ℕ) (pulled : List (List Visit)) (left work : ℕ) → first + width row ≤ w
+pub row-after : (row : Row) (k w : ℕ) (old new : ℕ → ℕ) (log pull : List Visit) (class : Scheduler) (above first next : ℕ) (pulled : List (List Visit)) (left work : ℕ) → first + width row ≤ w
     → TurnLaw k w class (latest log above) (visits_of above pull) → AreApart input_of (visits_of above pull) → IsPulledMore k old new log pull above first next row pulled → Costs k old log class above first next row left work
     → IsRowAfter k new (log ++ pull) (visits_of above pull) class above first next row left work
 row-after end k w old new log pull class above first next pulled left work within law apart h costs =

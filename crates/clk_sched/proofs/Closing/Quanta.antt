@@ -2,7 +2,8 @@
 use Rattle.std.proofs.Common.{◌≡◌, ℕ, ◌+◌, ◌*◌, ◌-◌, ◌/◌, ◌<◌, ◌≤◌, List, [], ◌∷◌, Option, Some, None, refl, ap, ◌∙◌, mul-add, add-mul, arith}
 use Rattle.std.specs.List.{AllByRecursion}
 use Rattle.std.proofs.Math.Nat.{lt-mul-div-succ}
-use Rattle.clk_sched.specs.Tree.{Class, drr, Row, end, leaf, node, IsSound}
+use Rattle.clk_packet.specs.Scheduler.{Scheduler, drr}
+use Rattle.clk_sched.specs.Tree.{Row, end, leaf, node, IsSound}
 use Rattle.clk_sched.specs.Bound.{lesser, least, quanta_of, least_quantum, rounds}
 use Rattle.clk_sched.proofs.Lists.Members.{all-weaker}
 use Rattle.clk_sched.proofs.Trees.TreeBound.{IsPositive, positive-row}
@@ -47,7 +48,7 @@ enough-least (Some least) n some h =
     let more = ap (λ m. m * k) is ∙ add-mul least (n - least) k in
     omega (arith, past, whole, more, some)
 
-class-enough : (class : Class) (o : Option ℕ) → IsPositive o → ((n : ℕ) → AtLeast (least (quanta_of class)) n → AtLeast o n) → AreEnough (rounds_less o) class
+class-enough : (class : Scheduler) (o : Option ℕ) → IsPositive o → ((n : ℕ) → AtLeast (least (quanta_of class)) n → AtLeast o n) → AreEnough (rounds_less o) class
 class-enough (drr quanta) o some h = all-weaker (AtLeast (least quanta)) (λ n. 65535 ≤ n * rounds_less o) quanta (λ n l. enough-least o n some (h n l)) (least-at_least quanta)
 class-enough class o some h = tt
 

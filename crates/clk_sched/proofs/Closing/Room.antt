@@ -5,7 +5,7 @@ use Rattle.std.specs.Bool.{⊤}
 use Rattle.std.proofs.lemmas.Bool.{false≢true}
 use Rattle.std.proofs.lemmas.Bool.Decides.{nat_tests}
 use Rattle.clk_sched.specs.declared.visit.Visit.{Visit}
-use Rattle.clk_sched.specs.Tree.{Class, shaper, HasArguments}
+use Rattle.clk_packet.specs.Scheduler.{Scheduler, shaper, HasArguments}
 use Rattle.clk_sched.specs.Turns.{Turn, EachAfter, AsksInOrder, giver}
 use Rattle.clk_sched.specs.Laws.{AllowsTurn}
 use Rattle.clk_sched.specs.Laws.Shaper.{has_passed, packets_passed, keeps_since, keeps_since_each, has_room, shaper_order}
@@ -74,6 +74,6 @@ has-room rate burst w n (t ∷ earlier) some full h l = by_passed (has_passed t)
         ∙ ap₂ (λ a b. a && b) first (room-later rate burst t.moment n [] (t ∷ []) earlier some l.0 (ap (λ passed. if passed then 0 + 1 else 0) e) (gave-room rate burst earlier t h.0.follows e))
 
 -- after earlier turns, each at an earlier moment, a scheduler may ask
-pub may-ask : (class : Class) (w n : ℕ) (earlier : List Turn) → HasArguments class w → EachBefore (AllowsTurn class w) earlier → AllByRecursion (λ (t : Turn). t.moment < n) earlier → MayAsk class earlier n
+pub may-ask : (class : Scheduler) (w n : ℕ) (earlier : List Turn) → HasArguments class w → EachBefore (AllowsTurn class w) earlier → AllByRecursion (λ (t : Turn). t.moment < n) earlier → MayAsk class earlier n
 may-ask (shaper rate burst) w n earlier args h l = has-room rate burst w n earlier args.1.0 args.2.0 h l
 may-ask class w n earlier args h l = tt

@@ -7,7 +7,8 @@ use Rattle.std.proofs.lemmas.List.{reverse-append}
 use Rattle.std.proofs.lemmas.List.Elements.{filter-append}
 use Rattle.clk_packet.specs.declared.packet.Packet.{Packet}
 use Rattle.clk_sched.specs.declared.visit.Visit.{Visit}
-use Rattle.clk_sched.specs.Tree.{Class, drr, Row, end, leaf, node, width, nodes, HasArguments, IsSound}
+use Rattle.clk_packet.specs.Scheduler.{Scheduler, drr, HasArguments}
+use Rattle.clk_sched.specs.Tree.{Row, end, leaf, node, width, nodes, IsSound}
 use Rattle.clk_sched.specs.Turns.{Turn, EachAfter, all_visits, visits_before}
 use Rattle.clk_sched.specs.Heads.{LooksAtHeads}
 use Rattle.clk_sched.specs.Log.{visits_of, moment_of, turn, asks, pulls_below, result_of}
@@ -51,7 +52,7 @@ sum_of here rest = record { here = here; rest = rest; left_is = refl; work_is = 
 
 -- What is left in a row, and its work, where queues hold so many packets: the sum over its inputs. It stands at the inputs of node `above`,
 -- of this class, from `first` on, and its schedulers are numbered from `next` on.
-abbrev pub Costs : (k : ℕ) → (ℕ → ℕ) → List Visit → Class → (above first next : ℕ) → Row → ℕ → ℕ → Type 0
+abbrev pub Costs : (k : ℕ) → (ℕ → ℕ) → List Visit → Scheduler → (above first next : ℕ) → Row → ℕ → ℕ → Type 0
 Costs k held log class above first next end left work = (left ≡ 0) × (work ≡ 0)
 Costs k held log class above first next (leaf q row) left work =
     (s : IsSum left work) × CostsAt k class (latest log above) first (held q) 0 s.here.left s.here.work × Costs k held log class above (suc first) next row s.rest.left s.rest.work
@@ -69,7 +70,7 @@ EachGives old new pull above first next (leaf q row) = GivesOut (old q) (answers
 EachGives old new pull above first next (node c inputs row) = EachGives old new pull next 0 (suc next) inputs × EachGives old new pull above (suc first) (suc (next + nodes inputs)) row
 
 -- each quantum is enough for the longest packet in k arrivals
-abbrev pub AreEnough : ℕ → Class → Type 0
+abbrev pub AreEnough : ℕ → Scheduler → Type 0
 AreEnough k (drr quanta) = AllByRecursion (λ n. 65535 ≤ n * k) quanta
 AreEnough k class = ⊤
 
@@ -103,7 +104,7 @@ more-after_leaf k old new log pull above first next q row pulled h =
       gives = h.gives.1;
     }
 
-pub more-after_node : (k : ℕ) (old new : ℕ → ℕ) (log pull : List Visit) (above first next : ℕ) (class : Class) (inputs row : Row) (pulled : List (List Visit))
+pub more-after_node : (k : ℕ) (old new : ℕ → ℕ) (log pull : List Visit) (above first next : ℕ) (class : Scheduler) (inputs row : Row) (pulled : List (List Visit))
     → IsPulledMore k old new log pull above first next (node class inputs row) pulled → IsPulledMore k old new log pull above (suc first) (suc (next + nodes inputs)) row pulled
 more-after_node k old new log pull above first next class inputs row pulled h =
     record {
@@ -118,7 +119,7 @@ more-after_node k old new log pull above first next class inputs row pulled h =
     }
 
 -- a scheduler that isn't asked has no visits
-pub unasked-none : (k : ℕ) (old new : ℕ → ℕ) (log pull : List Visit) (above first next : ℕ) (class : Class) (inputs row : Row) (pulled : List (List Visit))
+pub unasked-none : (k : ℕ) (old new : ℕ → ℕ) (log pull : List Visit) (above first next : ℕ) (class : Scheduler) (inputs row : Row) (pulled : List (List Visit))
     → IsPulledMore k old new log pull above first next (node class inputs row) pulled → list_any (asks first) (visits_of above pull) ≡ false → visits_of next pull ≡ []
 unasked-none k old new log pull above first next class inputs row pulled h e =
     owns-self pull above first next class inputs row (h.owns next (omega arith) (omega arith)) ∙ copies-unasked (asks first) (visits_of next pull) (visits_of above pull) e
@@ -132,7 +133,7 @@ none-allows above first next (node class inputs row) earlier pull e = (
   none-allows above (suc first) (suc (next + nodes inputs)) row earlier pull e,
 )
 
-pub more-inputs : (k : ℕ) (old new : ℕ → ℕ) (log pull : List Visit) (above first next : ℕ) (class : Class) (inputs row : Row) (pulled : List (List Visit))
+pub more-inputs : (k : ℕ) (old new : ℕ → ℕ) (log pull : List Visit) (above first next : ℕ) (class : Scheduler) (inputs row : Row) (pulled : List (List Visit))
     → IsPulledMore k old new log pull above first next (node class inputs row) pulled → IsPulledMore k old new log pull next 0 (suc next) inputs (pulls_below above first pulled)
 more-inputs k old new log pull above first next class inputs row pulled h =
     record {
@@ -152,7 +153,7 @@ more-inputs k old new log pull above first next class inputs row pulled h =
     by_asked false e = none-allows next 0 (suc next) inputs (reverse (pulls_below above first pulled)) pull (unasked-none k old new log pull above first next class inputs row pulled h e)
 
 -- A scheduler's visits in one more pull, after those before.
-pub record IsTurnMore (k w : ℕ) (class : Class) (earlier visits : List Visit) (asked : Bool) : Type 0 where
+pub record IsTurnMore (k w : ℕ) (class : Scheduler) (earlier visits : List Visit) (asked : Bool) : Type 0 where
   pub law : TurnLaw k w class earlier visits
   pub is_turn : IsTurn w visits
   pub all : asked ≡ true → result_of visits ≡ None → length visits ≡ w
@@ -172,7 +173,7 @@ visits-before_onto (t ∷ ts) earlier =
     visits-before_onto ts (t ∷ earlier) ∙ ap (onto (all_visits ts)) (sym (onto-append t.visits (visits_before earlier))) ∙ sym (onto-joined t.visits (all_visits ts) (visits_before earlier))
 
 -- the turns before, and the visits in them
-record AreTurnsBefore (class : Class) (w x : ℕ) (log : List Visit) (moment : ℕ) (turns : List Turn) : Type 0 where
+record AreTurnsBefore (class : Scheduler) (w x : ℕ) (log : List Visit) (moment : ℕ) (turns : List Turn) : Type 0 where
   obeys : Obeys class w turns
   visits : onto (all_visits turns) [] ≡ latest log x
   later : AllByRecursion (λ (t : Turn). t.moment < moment) turns
@@ -188,7 +189,7 @@ deficits-keep k w x quanta log visits moment turns before enough width looks =
     }
 
 -- of a scheduler that was asked
-turn-asked : (k w x : ℕ) (class : Class) (log pull : List Visit) (turns : List Turn) → AreTurnsBefore class w x log (moment_of pull) turns → 1 ≤ w → HasArguments class w → AreEnough k class
+turn-asked : (k w x : ℕ) (class : Scheduler) (log pull : List Visit) (turns : List Turn) → AreTurnsBefore class w x log (moment_of pull) turns → 1 ≤ w → HasArguments class w → AreEnough k class
     → AllowsTurn class w (reverse turns) (turn x pull) → IsTurnMore k w class (latest log x) (visits_of x pull) true
 turn-asked k w x class log pull turns before some args enough allows =
     record {
@@ -208,24 +209,24 @@ turn-asked k w x class log pull turns before some args enough allows =
     seen : visits_before (reverse turns) ≡ latest log x
     seen = ap visits_before (sym back) ∙ visits-before_onto turns [] ∙ before.visits
 
-    law : (c : Class) → AreTurnsBefore c w x log (moment_of pull) turns → HasArguments c w → AreEnough k c → AllowsTurn c w (reverse turns) (turn x pull) → TurnLaw k w c (latest log x) (visits_of x pull)
+    law : (c : Scheduler) → AreTurnsBefore c w x log (moment_of pull) turns → HasArguments c w → AreEnough k c → AllowsTurn c w (reverse turns) (turn x pull) → TurnLaw k w c (latest log x) (visits_of x pull)
     law (drr quanta) b a e h =
         deficits-keep k w x quanta log (visits_of x pull) (moment_of pull) turns b e a.0
         (subst (λ l. EachAfter (LooksAtHeads (next_input w) (deficit_covers quanta)) l (visits_of x pull)) seen h.follows.0)
     law c b a e h = h.follows.plain
 
 -- of one that wasn't
-turn-unasked : (k w x : ℕ) (class : Class) (log visits : List Visit) (moment : ℕ) (turns : List Turn) → AreTurnsBefore class w x log moment turns → HasArguments class w → AreEnough k class → visits ≡ []
+turn-unasked : (k w x : ℕ) (class : Scheduler) (log visits : List Visit) (moment : ℕ) (turns : List Turn) → AreTurnsBefore class w x log moment turns → HasArguments class w → AreEnough k class → visits ≡ []
     → IsTurnMore k w class (latest log x) visits false
 turn-unasked k w x class log visits moment turns before args enough none =
     subst (λ vs. IsTurnMore k w class (latest log x) vs false) (sym none)
     (record { law = law class before args enough; is_turn = record { within = tt; apart = tt; passed = refl }; all = λ e _. absurd (false≢true e) })
   where
-    law : (c : Class) → AreTurnsBefore c w x log moment turns → HasArguments c w → AreEnough k c → TurnLaw k w c (latest log x) []
+    law : (c : Scheduler) → AreTurnsBefore c w x log moment turns → HasArguments c w → AreEnough k c → TurnLaw k w c (latest log x) []
     law (drr quanta) b a e = deficits-keep k w x quanta log [] moment turns b e a.0 tt
     law c b a e = tt
 
-pub turn-more : (k : ℕ) (old new : ℕ → ℕ) (log pull : List Visit) (above first next : ℕ) (class : Class) (inputs row : Row) (pulled : List (List Visit))
+pub turn-more : (k : ℕ) (old new : ℕ → ℕ) (log pull : List Visit) (above first next : ℕ) (class : Scheduler) (inputs row : Row) (pulled : List (List Visit))
     → IsPulledMore k old new log pull above first next (node class inputs row) pulled
     → IsTurnMore k (width inputs) class (latest log next) (visits_of next pull) (list_any (asks first) (visits_of above pull))
 turn-more k old new log pull above first next class inputs row pulled h = by_asked (list_any (asks first) (visits_of above pull)) refl

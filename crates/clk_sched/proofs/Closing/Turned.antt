@@ -4,7 +4,7 @@ use Rattle.std.specs.List.{AllByRecursion}
 use Rattle.std.proofs.lemmas.Bool.{false≢true}
 use Rattle.clk_packet.specs.declared.packet.Packet.{Packet}
 use Rattle.clk_sched.specs.declared.visit.Visit.{Visit}
-use Rattle.clk_sched.specs.Tree.{Class, drr, HasArguments}
+use Rattle.clk_packet.specs.Scheduler.{Scheduler, drr, HasArguments}
 use Rattle.clk_sched.specs.Turns.{Turn, EachAfter, IsPlain, UpToFirst, AsksInOrder, visits_before}
 use Rattle.clk_sched.specs.Heads.{is_covered, LooksAtHeads, EndAtPass}
 use Rattle.clk_sched.specs.Log.{result_of}
@@ -135,7 +135,7 @@ plain-turn : (w : ℕ) (order : List ℕ) (visits : List Visit) → AreWithin w 
 plain-turn w order visits l h p a =
     record { within = l; apart = in_order-apart order visits h.in_order a; passed = passed-result visits p (plain-pass visits h.plain) }
 
-pub is-turn : (class : Class) (w : ℕ) (earlier : List Turn) (t : Turn) → 1 ≤ w → HasArguments class w → AllowsTurn class w earlier t → IsTurn w t.visits
+pub is-turn : (class : Scheduler) (w : ℕ) (earlier : List Turn) (t : Turn) → 1 ≤ w → HasArguments class w → AllowsTurn class w earlier t → IsTurn w t.visits
 is-turn (drr quanta) w earlier t some args h =
     record {
       within = h.within;
@@ -146,6 +146,6 @@ is-turn class w earlier t some args h =
     plain-turn w _ t.visits h.within h.follows (turn-last (manner class w) w earlier t h.follows) ((asks-right class w some args).orders earlier t.moment).apart
 
 -- a turn that gave none visited all inputs
-pub all-visited : (class : Class) (w : ℕ) (earlier : List Turn) (t : Turn) → 1 ≤ w → HasArguments class w → MayAsk class earlier t.moment → AllowsTurn class w earlier t → result_of t.visits ≡ None → length t.visits ≡ w
+pub all-visited : (class : Scheduler) (w : ℕ) (earlier : List Turn) (t : Turn) → 1 ≤ w → HasArguments class w → MayAsk class earlier t.moment → AllowsTurn class w earlier t → result_of t.visits ≡ None → length t.visits ≡ w
 all-visited (drr quanta) w earlier t some args may h e = heads-all w t.visits (looked-pass (next_input w) (deficit_covers quanta) (visits_before earlier) t.visits h.follows.0) h.follows.1 e
 all-visited class w earlier t some args may h e = in_order-all _ t.visits h.follows.plain h.follows.in_order e ∙ (asks-right class w some args).whole earlier t.moment may

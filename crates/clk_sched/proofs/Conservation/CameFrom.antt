@@ -6,7 +6,8 @@ use Rattle.std.proofs.lemmas.Bool.Decides.{nat_tests}
 use Rattle.clk_packet.specs.declared.packet.Packet.{Packet}
 use Rattle.clk_sched.specs.declared.visit.Visit.{Visit}
 use Rattle.clk_packet.specs.Lists.{stands_in, In}
-use Rattle.clk_sched.specs.Tree.{Class, Row, end, leaf, node, Tree, root, nodes, width, leaves, queue_at, is_number}
+use Rattle.clk_packet.specs.Scheduler.{Scheduler}
+use Rattle.clk_sched.specs.Tree.{Row, end, leaf, node, Tree, root, nodes, width, leaves, queue_at, is_number}
 use Rattle.clk_sched.specs.Laws.{Manner, in_order, with_heads, manner}
 use Rattle.clk_sched.specs.Log.{visits_of, pulls, turn, pulls_below}
 use Rattle.clk_sched.specs.Run.{EachObeys}
@@ -67,10 +68,10 @@ came-wider tree log row other wider ts h = all-weaker (CameFrom tree log row) (C
 in-after_leaf : (k : ℕ) (row : Row) (q : ℕ) → stands_in q (leaves row) ≡ true → stands_in q (leaves (leaf k row)) ≡ true
 in-after_leaf k row q h = or-right (k == q) (stands_in q (leaves row)) h
 
-in-after_node : (class : Class) (inputs row : Row) (q : ℕ) → stands_in q (leaves row) ≡ true → stands_in q (leaves (node class inputs row)) ≡ true
+in-after_node : (class : Scheduler) (inputs row : Row) (q : ℕ) → stands_in q (leaves row) ≡ true → stands_in q (leaves (node class inputs row)) ≡ true
 in-after_node class inputs row q h = stands_in-append q (leaves inputs) (leaves row) ∙ or-right (stands_in q (leaves inputs)) (stands_in q (leaves row)) h
 
-in-inputs : (class : Class) (inputs row : Row) (q : ℕ) → stands_in q (leaves inputs) ≡ true → stands_in q (leaves (node class inputs row)) ≡ true
+in-inputs : (class : Scheduler) (inputs row : Row) (q : ℕ) → stands_in q (leaves inputs) ≡ true → stands_in q (leaves (node class inputs row)) ≡ true
 in-inputs class inputs row q h = stands_in-append q (leaves inputs) (leaves row) ∙ or-left (stands_in q (leaves inputs)) (stands_in q (leaves row)) h
 
 -- what a row's parent got, and what is held in the row, came from queues of the row
@@ -114,7 +115,7 @@ came-after_leaf tree log above first next k row stands rest =
         (came-wider tree log row (leaf k row) (in-after_leaf k row) (gives log above (suc first) next row i) (rest.got i (omega arith)))
 
 -- what a node passed, and what it holds
-came-own : (tree : Tree) (log : List Visit) (above first next : ℕ) (class : Class) (inputs row : Row) (pulled : List (List Visit)) → IsPulledIn log above first next (node class inputs row) pulled
+came-own : (tree : Tree) (log : List Visit) (above first next : ℕ) (class : Scheduler) (inputs row : Row) (pulled : List (List Visit)) → IsPulledIn log above first next (node class inputs row) pulled
     → EachObeys above pulled first next (node class inputs row) → AllCame tree log next 0 (suc next) inputs
     → AllFrom tree log inputs (results log next inputs) × AllFrom tree log inputs (own_heads log next inputs (manner class (width inputs)))
 came-own tree log above first next class inputs row pulled h obeys below = (
@@ -153,7 +154,7 @@ came-own tree log above first next class inputs row pulled h obeys below = (
     held (in_order order) = tt
     held (with_heads turn_of covers) = all-flat_map (CameFrom tree log inputs) (held_at log next inputs) (range_with_len 0 (width inputs)) (λ i m. (both i (let l = range-in i 0 (width inputs) m in omega arith)).1)
 
-came-node : (tree : Tree) (log : List Visit) (above first next : ℕ) (class : Class) (inputs row : Row) (pulled : List (List Visit)) → IsPulledIn log above first next (node class inputs row) pulled
+came-node : (tree : Tree) (log : List Visit) (above first next : ℕ) (class : Scheduler) (inputs row : Row) (pulled : List (List Visit)) → IsPulledIn log above first next (node class inputs row) pulled
     → EachObeys above pulled first next (node class inputs row) → AllCame tree log next 0 (suc next) inputs → AllCame tree log above (suc first) (suc (next + nodes inputs)) row
     → AllCame tree log above first next (node class inputs row)
 came-node tree log above first next class inputs row pulled h obeys below rest =

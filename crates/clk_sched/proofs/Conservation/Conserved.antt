@@ -6,7 +6,8 @@ use Rattle.std.proofs.lemmas.Bool.Decides.{nat_tests}
 use Rattle.clk_packet.specs.declared.packet.Packet.{Packet}
 use Rattle.clk_sched.specs.declared.visit.Visit.{Visit}
 use Rattle.clk_packet.specs.Lists.{stands_in, are_distinct}
-use Rattle.clk_sched.specs.Tree.{Class, Row, end, leaf, node, Tree, root, nodes, width, leaves, leaves_distinct, queue_at, is_number}
+use Rattle.clk_packet.specs.Scheduler.{Scheduler}
+use Rattle.clk_sched.specs.Tree.{Row, end, leaf, node, Tree, root, nodes, width, leaves, leaves_distinct, queue_at, is_number}
 use Rattle.clk_sched.specs.Turns.{Turn, EachAfter, all_visits, IsPlain}
 use Rattle.clk_sched.specs.Laws.{Manner, in_order, with_heads, manner, Follows}
 use Rattle.clk_sched.specs.Laws.Device.{IsDeviceTurn}
@@ -119,7 +120,7 @@ conserved-after_leaf tree log q above first next k row e rest =
     others zero p d = e
     others (suc j) p d = rest.alone j p (λ s. d (ap suc s))
 
-conserved-after_node : (tree : Tree) (log : List Visit) (q above first next : ℕ) (class : Class) (inputs row : Row) → stands_in q (leaves inputs) ≡ false
+conserved-after_node : (tree : Tree) (log : List Visit) (q above first next : ℕ) (class : Scheduler) (inputs row : Row) → stands_in q (leaves inputs) ≡ false
     → IsConservedBelow tree log q above (suc first) (suc (next + nodes inputs)) row → IsConservedBelow tree log q above first next (node class inputs row)
 conserved-after_node tree log q above first next class inputs row h rest =
     record {
@@ -144,7 +145,7 @@ own-held log q x (in_order order) inputs turns i law all l alone =
 own-held log q x (with_heads turn_of covers) inputs turns i law all l alone =
     from_queue-one q (held_at log x inputs) i 0 (width inputs) (λ j d. traced-not q _ _ (latest-not q (origin_in log (suc x) inputs j) j (reverse (visits_of x log)) (λ k. alone j k d))) (omega arith) (omega arith)
 
-conserved-node : (tree : Tree) (log : List Visit) (q above first next : ℕ) (class : Class) (inputs row : Row) (pulled : List (List Visit)) → IsPulledIn log above first next (node class inputs row) pulled
+conserved-node : (tree : Tree) (log : List Visit) (q above first next : ℕ) (class : Scheduler) (inputs row : Row) (pulled : List (List Visit)) → IsPulledIn log above first next (node class inputs row) pulled
     → EachObeys above pulled first next (node class inputs row) → stands_in q (leaves row) ≡ false → IsConservedBelow tree log q next 0 (suc next) inputs
     → IsConservedBelow tree log q above first next (node class inputs row)
 conserved-node tree log q above first next class inputs row pulled h obeys other below =

@@ -8,7 +8,8 @@ use Rattle.clk_packet.specs.Lists.{stands_in, are_distinct}
 use Rattle.clk_packet.proofs.Callers.Lists.{distinct-parts as first-parts}
 use Rattle.clk_sched.proofs.Trees.Distinct.{distinct-parts}
 use Rattle.clk_sched.specs.declared.visit.Visit.{Visit}
-use Rattle.clk_sched.specs.Tree.{Class, prio, round_robin, drr, stride, shaper, Row, end, leaf, node, Tree, root, nodes, width, leaves, leaves_distinct, is_number}
+use Rattle.clk_packet.specs.Scheduler.{Scheduler, drr}
+use Rattle.clk_sched.specs.Tree.{Row, end, leaf, node, Tree, root, nodes, width, leaves, leaves_distinct, is_number}
 use Rattle.clk_sched.specs.Log.{visits_of}
 use Rattle.clk_sched.specs.Laws.{manner}
 use Rattle.clk_sched.specs.Results.{Traced, traced, origin_in, held_at, own_heads, traced_heads}
@@ -85,14 +86,11 @@ one-held q f input most others a (suc n) = by_test (a == input) refl (one-held q
         let few = later.0 in
         (omega (arith, joined, none, few), λ below. (let after = later.1 (omega (arith, below)) in omega (arith, joined, none, after)))
 
-own-few : (q : ℕ) (log : List Visit) (x : ℕ) (class : Class) (inputs : Row) → are_distinct (leaves inputs) ≡ true → length (from_queue q (own_heads log x inputs (manner class (width inputs)))) ≤ most_heads class
-own-few q log x prio inputs distinct = omega arith
-own-few q log x round_robin inputs distinct = omega arith
-own-few q log x (stride tickets) inputs distinct = omega arith
-own-few q log x (shaper rate burst) inputs distinct = omega arith
+own-few : (q : ℕ) (log : List Visit) (x : ℕ) (class : Scheduler) (inputs : Row) → are_distinct (leaves inputs) ≡ true → length (from_queue q (own_heads log x inputs (manner class (width inputs)))) ≤ most_heads class
 own-few q log x (drr quanta) inputs distinct =
     let one = one-input q log (suc x) inputs distinct in
     (one-held q (held_at log x inputs) one.input (λ i. one-traced q _ _) (λ i other. traced-not q _ _ (latest-not q (origin_in log (suc x) inputs i) i (reverse (visits_of x log)) (λ k. one.others i k other))) 0 (width inputs)).0
+own-few q log x class inputs distinct = omega arith
 
 few-heads : (q : ℕ) (log : List Visit) (next : ℕ) (row : Row) → are_distinct (leaves row) ≡ true → length (from_queue q (traced_heads log next row)) ≤ drrs_above q row
 few-heads q log next end distinct = omega arith

@@ -8,7 +8,8 @@ use Rattle.std.proofs.lemmas.List.Elements.{filter_map-append}
 use Rattle.clk_packet.specs.declared.packet.Packet.{Packet}
 use Rattle.clk_sched.specs.declared.visit.Visit.{Visit}
 use Rattle.clk_packet.specs.Lists.{stands_in}
-use Rattle.clk_sched.specs.Tree.{Class, Row, end, leaf, node, Tree, nodes, width, queue_in, queue_at, leaves, is_number}
+use Rattle.clk_packet.specs.Scheduler.{Scheduler}
+use Rattle.clk_sched.specs.Tree.{Row, end, leaf, node, Tree, nodes, width, queue_in, queue_at, leaves, is_number}
 use Rattle.clk_sched.specs.Laws.{Manner, in_order, with_heads, manner}
 use Rattle.clk_sched.specs.Log.{visits_of, in_pull}
 use Rattle.clk_sched.specs.Results.{Traced, traced, up_to, passed_input, asked_pull, latest_origin, passed_origin, origin_in, held_at, own_heads, traced_heads}
@@ -80,7 +81,7 @@ heads-not q log next (node class inputs row) h =
     (from_queue-append q (traced_heads log (suc next) inputs) _ ∙ ap₂ (λ l m. l ++ m) (heads-not q log (suc next) inputs parts.0) (heads-not q log (suc (next + nodes inputs)) row parts.1))
 
 -- the heads of a scheduler over inputs from which the queue doesn't come are none of its
-pub node-not : (q : ℕ) (log : List Visit) (next : ℕ) (class : Class) (inputs row : Row) → stands_in q (leaves inputs) ≡ false
+pub node-not : (q : ℕ) (log : List Visit) (next : ℕ) (class : Scheduler) (inputs row : Row) → stands_in q (leaves inputs) ≡ false
     → from_queue q (traced_heads log next (node class inputs row)) ≡ from_queue q (traced_heads log (suc (next + nodes inputs)) row)
 node-not q log next class inputs row h =
     from_queue-append q (own_heads log next inputs (manner class (width inputs))) _
@@ -102,7 +103,7 @@ only-after_leaf q tree above first next k row o e only x i = only x i ∙ by_tes
         let input : first ≡ i = grind (arith, nat_tests) in
         e ∙ ap (is_number q) (sym (ap (λ y. queue_in above (suc first) next row y i) (sym at) ∙ queue_in-earlier above (suc first) next row i o (omega (arith, input))))
 
-pub only-after_node : (q : ℕ) (tree : Tree) (above first next : ℕ) (class : Class) (inputs row : Row) → above < next → stands_in q (leaves inputs) ≡ false
+pub only-after_node : (q : ℕ) (tree : Tree) (above first next : ℕ) (class : Scheduler) (inputs row : Row) → above < next → stands_in q (leaves inputs) ≡ false
     → StandsOnlyIn q tree above first next (node class inputs row) → StandsOnlyIn q tree above (suc first) (suc (next + nodes inputs)) row
 only-after_node q tree above first next class inputs row o h only x i = only x i ∙ by_test (nat_lt x (suc (next + nodes inputs))) (x == above) refl refl
   where
@@ -123,7 +124,7 @@ only-after_node q tree above first next class inputs row o h only x i = only x i
         let at : x ≡ above = grind (arith, nat_tests) in outside (queue_in-before next 0 (suc next) inputs x i (omega (arith, at)) (λ e. omega (arith, at, e)))
     by_test false false f g = outside (queue_in-after next 0 (suc next) inputs x i (omega arith) (grind (arith, nat_tests)))
 
-pub only-inputs : (q : ℕ) (tree : Tree) (above first next : ℕ) (class : Class) (inputs row : Row) → stands_in q (leaves row) ≡ false → StandsOnlyIn q tree above first next (node class inputs row)
+pub only-inputs : (q : ℕ) (tree : Tree) (above first next : ℕ) (class : Scheduler) (inputs row : Row) → stands_in q (leaves row) ≡ false → StandsOnlyIn q tree above first next (node class inputs row)
     → StandsOnlyIn q tree next 0 (suc next) inputs
 only-inputs q tree above first next class inputs row h only x i =
     only x i ∙ by_queue (queue_in next 0 (suc next) inputs x i) (queue_in-not q above (suc first) (suc (next + nodes inputs)) row x i h)

@@ -7,7 +7,7 @@ use Rattle.clk_packet.specs.declared.packet.Packet.{Packet}
 use Rattle.clk_sched.specs.declared.visit.Visit.{Visit}
 use Rattle.clk_sched.specs.declared.session.nodes.Nodes.{Nodes}
 use Rattle.clk_sched.specs.declared.session.inputs.Input.{Input}
-use Rattle.clk_sched.specs.declared.session.inputs.Input.TheVariants.{Queue, Scheduler}
+use Rattle.clk_sched.specs.declared.session.inputs.Input.TheVariants.{Queue, Node}
 use Rattle.clk_sched.specs.declared.session.inputs.Inputs.{Inputs}
 use Rattle.clk_sched.specs.declared.session.stride.Rank.{Rank}
 use Rattle.clk_sched.specs.Tree.{Row, nodes}
@@ -37,14 +37,14 @@ row-input table x i row input h e = by_place (slice_get table x) h.here e
     by_place (Some p) k f = subst (λ l. slice_get l i ≡ Some input) k f
 
 -- a scheduler at an input stands after its node, and can be pulled where its edge can be gone
-pub child-after : (table : List Inputs) (x i child : ℕ) → AreWired table → input_at table x i ≡ Some (Scheduler child) → (x < child) × (child < length table)
+pub child-after : (table : List Inputs) (x i child : ℕ) → AreWired table → input_at table x i ≡ Some (Node child) → (x < child) × (child < length table)
 child-after table x i child wired e = by_place (slice_get table x) refl e
   where
-    by_place : (o : Option Inputs) → slice_get table x ≡ o → option_input o i ≡ Some (Scheduler child) → (x < child) × (child < length table)
+    by_place : (o : Option Inputs) → slice_get table x ≡ o → option_input o i ≡ Some (Node child) → (x < child) × (child < length table)
     by_place None f k = absurd (false≢true (ap is_some k))
-    by_place (Some p) f k = of-all (IsAfter (length table) x) (Scheduler child) p.each.items (wired x p f).after (in-slice p.each.items i (Scheduler child) k)
+    by_place (Some p) f k = of-all (IsAfter (length table) x) (Node child) p.each.items (wired x p f).after (in-slice p.each.items i (Node child) k)
 
-pub edges-scheduler : (table : List Inputs) (x i child : ℕ) → input_at table x i ≡ Some (Scheduler child) → edges_at table x i ≡ suc (edges_of table child)
+pub edges-scheduler : (table : List Inputs) (x i child : ℕ) → input_at table x i ≡ Some (Node child) → edges_at table x i ≡ suc (edges_of table child)
 edges-scheduler table x i child e = ap (option_edges_to table) e
 
 -- the queue that a visit asks at an input
@@ -63,7 +63,7 @@ asks-queue a x i q got e row history visits own going unasked v at input fresh g
     )
 
 -- a scheduler is asked
-pub asks-child : (a b : Nodes) (x i child : ℕ) (got : Option Packet) → input_at a.inputs.items x i ≡ Some (Scheduler child) → Pulls a b child got → Asks a b x i got
+pub asks-child : (a b : Nodes) (x i child : ℕ) (got : Option Packet) → input_at a.inputs.items x i ≡ Some (Node child) → Pulls a b child got → Asks a b x i got
 asks-child a b x i child got e pulls row history visits own going unasked v at input fresh gets = (
   pulling-asks (now_of a) history x row a.states.items visits own going.pulling i unasked (added a b) got (here.asked (now_of a) history (added a b) got r.block) b.states.items
       (here.holds_back b.states.items (after history a.moment (added a b)) r.holds) (λ y away. r.outside y (apart y (nat_lt y child) (nat_lt y (suc (child + nodes here.inputs))) refl refl away)) v at input fresh gets,
@@ -71,7 +71,7 @@ asks-child a b x i child got e pulls row history visits own going unasked v at i
 )
   where
     here : IsChildAt (suc x) row i child
-    here = child-at (suc x) row i child (row-input a.inputs.items x i row (Scheduler child) going.stands e)
+    here = child-at (suc x) row i child (row-input a.inputs.items x i row (Node child) going.stands e)
 
     r : HasPulled a b history child here.class here.inputs got
     r = pulls here.class here.inputs history (here.stands a.inputs.items going.stands.below) (here.holds a.states.items history (pulling-before (now_of a) history x row a.states.items visits own going.pulling i unasked)) going.before

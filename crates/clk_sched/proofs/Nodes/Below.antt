@@ -5,10 +5,11 @@ use Rattle.std.proofs.lemmas.Bool.{false≢true}
 use Rattle.clk_packet.specs.declared.packet.Packet.{Packet}
 use Rattle.clk_sched.specs.declared.visit.Visit.{Visit}
 use Rattle.clk_sched.specs.declared.session.inputs.Input.{Input}
-use Rattle.clk_sched.specs.declared.session.inputs.Input.TheVariants.{Queue, Scheduler}
+use Rattle.clk_sched.specs.declared.session.inputs.Input.TheVariants.{Queue, Node}
 use Rattle.clk_sched.specs.declared.session.inputs.Inputs.{Inputs}
 use Rattle.clk_sched.specs.declared.session.state.State.{State}
-use Rattle.clk_sched.specs.Tree.{Class, Row, end, leaf, node, nodes, width}
+use Rattle.clk_packet.specs.Scheduler.{Scheduler}
+use Rattle.clk_sched.specs.Tree.{Row, end, leaf, node, nodes, width}
 use Rattle.clk_sched.specs.inside.Holds.OfClass.{Holds}
 use Rattle.clk_sched.specs.inside.Places.{inputs_of, EachHasInputs, StandsIn}
 use Rattle.clk_sched.specs.inside.Pulling.{Now, History, EachHolds, NodeHolds, IsBlock, IsAskedAt}
@@ -27,7 +28,7 @@ pub record AreAlike (states more : List State) (history later : History) (y : �
   pub state : slice_get more y ≡ slice_get states y
   pub turns : later y ≡ history y
 
-holds-here : (states more : List State) (history later : History) (next : ℕ) (class : Class) (inputs : ℕ) → AreAlike states more history later next
+holds-here : (states more : List State) (history later : History) (next : ℕ) (class : Scheduler) (inputs : ℕ) → AreAlike states more history later next
     → MatchOption (slice_get states next) ⊥ (Holds class inputs (history next)) → MatchOption (slice_get more next) ⊥ (Holds class inputs (later next))
 holds-here states more history later next class inputs same h =
     subst (λ o. MatchOption o ⊥ (Holds class inputs (later next))) (sym same.state) (subst (λ ts. MatchOption (slice_get states next) ⊥ (Holds class inputs ts)) (sym same.turns) h)
@@ -80,7 +81,7 @@ holds-put states more history later next (node class inputs row) (suc i) same h 
 
 -- a scheduler at an input of a row
 pub record IsChildAt (next : ℕ) (row : Row) (i child : ℕ) : Type 0 where
-  pub class : Class
+  pub class : Scheduler
   pub inputs : Row
   pub ahead : next ≤ child
   pub lies : (y : ℕ) → child ≤ y → y < suc (child + nodes inputs) → LiesAt next row i y
@@ -93,14 +94,14 @@ pub record IsChildAt (next : ℕ) (row : Row) (i child : ℕ) : Type 0 where
 abbrev number_of : Option Input → ℕ
 number_of None = 0
 number_of (Some (Queue q)) = q
-number_of (Some (Scheduler m)) = m
+number_of (Some (Node m)) = m
 
 abbrev is_scheduler : Option Input → Bool
 is_scheduler None = false
 is_scheduler (Some (Queue q)) = false
-is_scheduler (Some (Scheduler m)) = true
+is_scheduler (Some (Node m)) = true
 
-pub child-at : (next : ℕ) (row : Row) (i child : ℕ) → slice_get (inputs_of next row) i ≡ Some (Scheduler child) → IsChildAt next row i child
+pub child-at : (next : ℕ) (row : Row) (i child : ℕ) → slice_get (inputs_of next row) i ≡ Some (Node child) → IsChildAt next row i child
 child-at next end i child e = absurd (false≢true (ap is_scheduler e))
 child-at next (leaf q row) zero child e = absurd (false≢true (ap is_scheduler e))
 child-at next (leaf q row) (suc i) child e =

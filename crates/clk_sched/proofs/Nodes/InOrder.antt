@@ -6,7 +6,8 @@ use Rattle.std.proofs.lemmas.Bool.{false≢true}
 use Rattle.clk_packet.specs.declared.packet.Packet.{Packet}
 use Rattle.clk_sched.specs.declared.visit.Visit.{Visit}
 use Rattle.clk_sched.specs.declared.session.nodes.Nodes.{Nodes}
-use Rattle.clk_sched.specs.Tree.{Class, Row, width}
+use Rattle.clk_packet.specs.Scheduler.{Scheduler}
+use Rattle.clk_sched.specs.Tree.{Row, width}
 use Rattle.clk_sched.specs.Turns.{Turn, UpToFirst, IsPlain, AsksInOrder, giver}
 use Rattle.clk_sched.specs.Laws.{manner, Follows}
 use Rattle.clk_sched.specs.Log.{visits_of, result_of, asking}
@@ -116,11 +117,11 @@ walked-inputs now x (i ∷ order) zero packet l = refl
 walked-inputs now x (i ∷ order) (suc k) packet l = ap (λ l. i ∷ l) (walked-inputs now x order k packet (omega arith))
 
 -- A scheduler had its turn, and these are its visits.
-pub record HasTurnedBy (old new : Nodes) (history : History) (x : ℕ) (class : Class) (row : Row) (own : List Visit) (got : Option Packet) : Type 0 where
+pub record HasTurnedBy (old new : Nodes) (history : History) (x : ℕ) (class : Scheduler) (row : Row) (own : List Visit) (got : Option Packet) : Type 0 where
   pub turned : HasTurned old new history x class row got
   pub own_is : visits_of x (added old new) ≡ own
 
-pub turned-in-order : (old new : Nodes) (history : History) (x : ℕ) (class : Class) (row : Row) (order : List ℕ) (r : Option (ℕ × Packet)) → IsReady old history x row → IsWithin order r
+pub turned-in-order : (old new : Nodes) (history : History) (x : ℕ) (class : Scheduler) (row : Row) (order : List ℕ) (r : Option (ℕ × Packet)) → IsReady old history x row → IsWithin order r
     → AsksAll old new x order (asked_in_order (now_of old) x order r) → IsOrderOf (width row) order
     → (AsksInOrder order (asked_in_order (now_of old) x order r) → Follows (manner class (width row)) (width row) (history x) (as_turn old.moment (asked_in_order (now_of old) x order r)))
     → HasTurnedBy old new history x class row (asked_in_order (now_of old) x order r) (packet_of r)

@@ -4,7 +4,7 @@ use Rattle.std.proofs.lemmas.Bool.{false≢true}
 use Rattle.clk_packet.specs.declared.packet.Packet.{Packet}
 use Rattle.clk_sched.specs.declared.visit.Visit.{Visit}
 use Rattle.clk_sched.specs.declared.session.inputs.Input.{Input}
-use Rattle.clk_sched.specs.declared.session.inputs.Input.TheVariants.{Queue, Scheduler}
+use Rattle.clk_sched.specs.declared.session.inputs.Input.TheVariants.{Queue, Node}
 use Rattle.clk_sched.specs.declared.session.inputs.Inputs.{Inputs}
 use Rattle.clk_sched.specs.declared.session.nodes.Nodes.{Nodes}
 use Rattle.clk_sched.specs.Answers.{Answers, at_queue}
@@ -42,7 +42,7 @@ edge-there table x i h = by_input (input_at table x i) h
     by_input : (o : Option Input) → IsSome o → 1 ≤ option_edges_to table o
     by_input None k = absurd (false≢true k)
     by_input (Some (Queue q)) k = omega arith
-    by_input (Some (Scheduler m)) k = omega arith
+    by_input (Some (Node m)) k = omega arith
 
 -- A node looked at one of its inputs, where a head is held or none is.
 pub asks-fresh : (a b c : Nodes) (m x : ℕ) (v : Visit) → Keeps a b m → Logs b c v → IsVisitAt (now_of a) x v → v.fresh ≡ true → Asks a b x v.input v.got → AsksAll a c x (v.input ∷ []) (v ∷ [])

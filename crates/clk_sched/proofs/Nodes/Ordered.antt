@@ -7,7 +7,8 @@ use Rattle.clk_sched.specs.declared.session.inputs.Input.TheVariants.{Queue}
 use Rattle.clk_sched.specs.declared.session.inputs.Inputs.{Inputs}
 use Rattle.clk_sched.specs.declared.session.nodes.Nodes.{Nodes}
 use Rattle.clk_sched.specs.declared.session.state.State.{State}
-use Rattle.clk_sched.specs.Tree.{Class, Row, end, leaf, node, nodes, width}
+use Rattle.clk_packet.specs.Scheduler.{Scheduler}
+use Rattle.clk_sched.specs.Tree.{Row, end, leaf, node, nodes, width}
 use Rattle.clk_sched.specs.inside.Places.{inputs_of, StandsIn, edges_of, edges_in, input_at, option_input}
 use Rattle.clk_sched.specs.inside.Holds.OfClass.{Fits}
 use Rattle.clk_sched.specs.inside.Pulling.{AreApart, CanPull, Keeps, TakesTurn}
@@ -74,6 +75,6 @@ row-order table x row order l stands is = let p = item-there table x l in subst 
 
 -- Inputs were asked in an order, and that was a node's turn.
 pub had-order : {S : Type 0} (gives : S → ℕ → Option Packet → S → Type 0) (a b : Nodes) (q r : S) (x : ℕ) (order : List ℕ) (o : Option (ℕ × Packet)) (before now : State) → CanPull a x (edges_of a.inputs.items x)
-    → IsOrderAt a.inputs.items x order → HasAskedAll gives a b q r x order o → IfSome (slice_get a.inputs.items x) (λ (p : Inputs). Fits now (length p.each.items)) → ((class : Class) → TakesTurn a b x class before now (packet_of o))
+    → IsOrderAt a.inputs.items x order → HasAskedAll gives a b q r x order o → IfSome (slice_get a.inputs.items x) (λ (p : Inputs). Fits now (length p.each.items)) → ((class : Scheduler) → TakesTurn a b x class before now (packet_of o))
     → HadTurn gives a b q r x before now (packet_of o)
 had-order gives a b q r x order o before now can is h fits turn = record { keeps = keeps-asked a b x order can is h.keeps; answers = h.answers; fits = fits; turn = turn }

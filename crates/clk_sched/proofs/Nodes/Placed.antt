@@ -10,7 +10,8 @@ use Rattle.clk_sched.specs.declared.session.state.State.{State}
 use Rattle.clk_sched.specs.declared.session.state.State.TheVariants.{Prio, Shaper}
 use Rattle.clk_sched.specs.declared.session.shaper.Bucket.{Bucket}
 use Rattle.clk_sched.specs.declared.session.nodes.Nodes.{Nodes}
-use Rattle.clk_sched.specs.Tree.{Class, Row, nodes, width}
+use Rattle.clk_packet.specs.Scheduler.{Scheduler}
+use Rattle.clk_sched.specs.Tree.{Row, nodes, width}
 use Rattle.clk_sched.specs.inside.Holds.OfClass.{Fits, Holds}
 use Rattle.clk_sched.specs.inside.Holds.Shaper.{AreBefore}
 use Rattle.clk_sched.specs.inside.Places.{StandsIn, AllFit, edges_of}
@@ -44,7 +45,7 @@ put-in : (a b : Nodes) (x : ℕ) (s : State) → IsPutIn a b x s → now_of b �
 put-in a b x s p = ap₂ (λ n t. record { number = n; moment = t }) p.pull p.moment
 
 -- what holds of the node and below before its turn still does with another state in its place
-ready-put : (a taken : Nodes) (x : ℕ) (class : Class) (row : Row) (history : History) (placed : State) → IsPutIn a taken x placed → StandsIn a.inputs.items x row → NodeHolds a.states.items history x class row
+ready-put : (a taken : Nodes) (x : ℕ) (class : Scheduler) (row : Row) (history : History) (placed : State) → IsPutIn a taken x placed → StandsIn a.inputs.items x row → NodeHolds a.states.items history x class row
     → ((y : ℕ) → AreBefore a.moment (history y)) → IsReady taken history x row
 ready-put a taken x class row history placed out stands holds early =
     record {
@@ -54,7 +55,7 @@ ready-put a taken x class row history placed out stands holds early =
     }
 
 pub pulls-put : (a taken turned b : Nodes) (x : ℕ) (placed before now : State) (got : Option Packet) → IsPutIn a taken x placed → slice_get a.states.items x ≡ Some before
-    → ((class : Class) → TakesTurn taken turned x class before now got) → IsPutIn turned b x now → Pulls a b x got
+    → ((class : Scheduler) → TakesTurn taken turned x class before now got) → IsPutIn turned b x now → Pulls a b x got
 pulls-put a taken turned b x placed before now got out state turn back class row history stands holds early =
     record {
       block = subst (λ t. IsBlock t history x class row (added a b) got) (put-in a taken x placed out) (subst (λ l. IsBlock (now_of taken) history x class row l got) logged r.turned.block);
@@ -90,8 +91,8 @@ is-put a x s l = record { inputs = refl; log = refl; pull = refl; moment = refl;
 
 -- What a node holds after its turn may follow from what stands in its place then.
 pub pulls-later : (a taken turned b : Nodes) (x : ℕ) (placed before other : State) (got : Option Packet) → IsPutIn a taken x placed → slice_get a.states.items x ≡ Some before
-    → ((class : Class) → TakesTurn taken turned x class before other got)
-    → (slice_get turned.states.items x ≡ Some placed → (now : State) × ((class : Class) → TakesTurn taken turned x class before now got) × IsPutIn turned b x now) → Pulls a b x got
+    → ((class : Scheduler) → TakesTurn taken turned x class before other got)
+    → (slice_get turned.states.items x ≡ Some placed → (now : State) × ((class : Scheduler) → TakesTurn taken turned x class before now got) × IsPutIn turned b x now) → Pulls a b x got
 pulls-later a taken turned b x placed before other got out state turn then class row history stands holds early =
     let r = turn class row history (ready-put a taken x class row history placed out stands holds early) (subst (λ o. MatchOption o ⊥ (Holds class (width row) (history x))) state holds.here) in
     let t = then (r.turned.outside x (inl (omega arith)) ∙ out.here) in

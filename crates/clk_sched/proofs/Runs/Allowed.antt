@@ -5,7 +5,8 @@ use Rattle.std.specs.Bool.{⊤}
 use Rattle.std.proofs.lemmas.List.{reverse-append}
 use Rattle.clk_packet.specs.declared.packet.Packet.{Packet}
 use Rattle.clk_sched.specs.declared.visit.Visit.{Visit}
-use Rattle.clk_sched.specs.Tree.{Class, Row, end, leaf, node, nodes, width}
+use Rattle.clk_packet.specs.Scheduler.{Scheduler}
+use Rattle.clk_sched.specs.Tree.{Row, end, leaf, node, nodes, width}
 use Rattle.clk_sched.specs.Turns.{Turn, EachAfter, all_visits, visits_before, IsPlain, UpToFirst, AsksInOrder}
 use Rattle.clk_sched.specs.Heads.{LooksAtHeads}
 use Rattle.clk_sched.specs.Log.{visits_of, turn, asks, pulls_below}
@@ -34,12 +35,12 @@ each-join P earlier (u ∷ us) vs h k = (h.0, each-join P (u ∷ earlier) us vs 
 abbrev pub AreWithin : ℕ → List Visit → Type 0
 AreWithin inputs visits = AllByRecursion (λ (v : Visit). v.input < inputs) visits
 
-pub turns-within : (class : Class) (inputs : ℕ) (earlier turns : List Turn) → EachAfter (AllowsTurn class inputs) earlier turns → AreWithin inputs (all_visits turns)
+pub turns-within : (class : Scheduler) (inputs : ℕ) (earlier turns : List Turn) → EachAfter (AllowsTurn class inputs) earlier turns → AreWithin inputs (all_visits turns)
 turns-within class inputs earlier [] h = tt
 turns-within class inputs earlier (t ∷ turns) h = all-append (λ (v : Visit). v.input < inputs) t.visits (all_visits turns) h.0.within (turns-within class inputs (t ∷ earlier) turns h.1)
 
 -- each turn of a scheduler is in its manner
-pub each-follows : (class : Class) (inputs : ℕ) (turns : List Turn) → Obeys class inputs turns → EachAfter (Follows (manner class inputs) inputs) [] turns
+pub each-follows : (class : Scheduler) (inputs : ℕ) (turns : List Turn) → Obeys class inputs turns → EachAfter (Follows (manner class inputs) inputs) [] turns
 each-follows class inputs turns h = each-weaker (AllowsTurn class inputs) (Follows (manner class inputs) inputs) (λ e t k. k.follows) [] turns h
 
 -- the visits of what holds heads, as one history across its turns

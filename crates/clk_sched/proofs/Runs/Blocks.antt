@@ -5,7 +5,8 @@ use Rattle.std.proofs.lemmas.Bool.{false≢true}
 use Rattle.std.proofs.lemmas.Bool.Decides.{nat_tests}
 use Rattle.std.proofs.lemmas.List.Elements.{filter-append}
 use Rattle.clk_sched.specs.declared.visit.Visit.{Visit}
-use Rattle.clk_sched.specs.Tree.{Class, Row, end, leaf, node, Tree, root, nodes}
+use Rattle.clk_packet.specs.Scheduler.{Scheduler}
+use Rattle.clk_sched.specs.Tree.{Row, end, leaf, node, Tree, root, nodes}
 use Rattle.clk_sched.specs.Log.{visits_of, block_at, block, asks}
 use Rattle.clk_packet.specs.Lists.{In}
 use Rattle.clk_sched.proofs.Lists.Members.{of-all, to-all, in-filter, all-append, all-flat_map, filter-all, filter-none}
@@ -114,7 +115,7 @@ owns-after_leaf y pull above first next q row h = h ∙ flat_map-same _ _ (visit
     by_test true i false e = refl
     by_test true i true e = ap (visits_of y) (sym (block-before pull (suc first) next row i (grind (arith, nat_tests))))
 
-pub owns-after_node : (y : ℕ) (pull : List Visit) (above first next : ℕ) (class : Class) (inputs row : Row) → suc (next + nodes inputs) ≤ y → Owns y pull above first next (node class inputs row)
+pub owns-after_node : (y : ℕ) (pull : List Visit) (above first next : ℕ) (class : Scheduler) (inputs row : Row) → suc (next + nodes inputs) ≤ y → Owns y pull above first next (node class inputs row)
     → Owns y pull above (suc first) (suc (next + nodes inputs)) row
 owns-after_node y pull above first next class inputs row l h = h ∙ flat_map-same _ _ (visits_of above pull) (λ v m. by_test v.fresh v.input (first == v.input) refl)
   where
@@ -133,7 +134,7 @@ abbrev pub copies : {X Y : Type 0} → (X → Bool) → List Y → List X → Li
 copies test ys xs = flat_map (λ x. if test x then ys else []) xs
 
 -- of the scheduler at an input, and of those below it, by what its parent asked there
-owns-here : (y : ℕ) (pull : List Visit) (above first next : ℕ) (class : Class) (inputs row : Row) → y < suc (next + nodes inputs) → Owns y pull above first next (node class inputs row)
+owns-here : (y : ℕ) (pull : List Visit) (above first next : ℕ) (class : Scheduler) (inputs row : Row) → y < suc (next + nodes inputs) → Owns y pull above first next (node class inputs row)
     → visits_of y pull ≡ copies (asks first) (visits_of y (own_block pull next inputs)) (visits_of above pull)
 owns-here y pull above first next class inputs row l h = h ∙ flat_map-same _ _ (visits_of above pull) (λ v m. by_test v.fresh v.input (first == v.input) refl)
   where
@@ -230,12 +231,12 @@ copies-cancel {Y = Y} {Z = Z} test ys zs xs e empty = by_count (count test xs) r
     by_count (suc zero) k = copies-one test zs xs k
     by_count (suc (suc n)) k = let more = copies-more test ys xs (omega (arith, k)) in let same = ap length e in none (empty-length ys (omega (arith, more, same)))
 
-pub owns-self : (pull : List Visit) (above first next : ℕ) (class : Class) (inputs row : Row) → Owns next pull above first next (node class inputs row)
+pub owns-self : (pull : List Visit) (above first next : ℕ) (class : Scheduler) (inputs row : Row) → Owns next pull above first next (node class inputs row)
     → visits_of next pull ≡ copies (asks first) (visits_of next pull) (visits_of above pull)
 owns-self pull above first next class inputs row h =
     owns-here next pull above first next class inputs row (omega arith) h ∙ ap (λ l. copies (asks first) l (visits_of above pull)) (own_block-self pull next inputs)
 
-pub owns-inputs : (y : ℕ) (pull : List Visit) (above first next : ℕ) (class : Class) (inputs row : Row) → suc next ≤ y → y < suc (next + nodes inputs)
+pub owns-inputs : (y : ℕ) (pull : List Visit) (above first next : ℕ) (class : Scheduler) (inputs row : Row) → suc next ≤ y → y < suc (next + nodes inputs)
     → Owns next pull above first next (node class inputs row) → Owns y pull above first next (node class inputs row) → Owns y pull next 0 (suc next) inputs
 owns-inputs y pull above first next class inputs row l h self own =
     owns-here y pull above first next class inputs row h own ∙ ap (λ k. copies (asks first) k (visits_of above pull)) (visits-asked pull y next (suc next) inputs (λ e. omega (arith, e)))

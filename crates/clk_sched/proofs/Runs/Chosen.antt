@@ -6,7 +6,7 @@ use Rattle.std.specs.Bool.{⊤}
 use Rattle.std.proofs.lemmas.Bool.{false≢true}
 use Rattle.clk_packet.specs.declared.packet.Packet.{Packet}
 use Rattle.clk_sched.specs.declared.visit.Visit.{Visit}
-use Rattle.clk_sched.specs.Tree.{Class, drr, HasArguments}
+use Rattle.clk_packet.specs.Scheduler.{Scheduler, drr, HasArguments}
 use Rattle.clk_sched.specs.Turns.{Turn, EachAfter, IsPlain, UpToFirst, AsksInOrder, visits_before}
 use Rattle.clk_sched.specs.Heads.{head_at, is_covered, LooksAtHeads, EndAtPass}
 use Rattle.clk_sched.specs.Laws.{manner, Follows, AllowsTurn}
@@ -34,7 +34,7 @@ pub record IsVisitBy (a : Asker) (v : Visit) : Type 0 where
   pub got : v.fresh ≡ true → v.got ≡ a.gives v.input
 
 -- what a scheduler may do in that pull
-pub record HasChosen (a : Asker) (class : Class) (inputs : ℕ) (earlier : List Turn) : Type 0 where
+pub record HasChosen (a : Asker) (class : Scheduler) (inputs : ℕ) (earlier : List Turn) : Type 0 where
   pub visits : List Visit
   pub allowed : AllowsTurn class inputs earlier (as_turn a.moment visits)
   pub apart : AreApart input_of visits
@@ -74,7 +74,7 @@ walk-apart a (i ∷ order) h = by_got (is_some (a.gives i)) (walk-all a (λ v. i
     by_got true d rest = (tt, tt)
     by_got false d rest = (d, rest)
 
-in-order : (a : Asker) (class : Class) (inputs : ℕ) (earlier : List Turn) (order : List ℕ) → IsOrderOf inputs order
+in-order : (a : Asker) (class : Scheduler) (inputs : ℕ) (earlier : List Turn) (order : List ℕ) → IsOrderOf inputs order
     → (AsksInOrder order (walk a order) → Follows (manner class inputs) inputs earlier (as_turn a.moment (walk a order))) → HasChosen a class inputs earlier
 in-order a class inputs earlier order is follows =
     record {
@@ -199,7 +199,7 @@ around-inputs a quanta inputs earlier l were =
       each = looks-by a (next_input inputs) (deficit_covers quanta) inputs before;
     }
 
-pub choose : (a : Asker) (class : Class) (inputs : ℕ) (earlier : List Turn) → 1 ≤ inputs → HasArguments class inputs → AllByRecursion (λ (t : Turn). AreWithin inputs t.visits) earlier
+pub choose : (a : Asker) (class : Scheduler) (inputs : ℕ) (earlier : List Turn) → 1 ≤ inputs → HasArguments class inputs → AllByRecursion (λ (t : Turn). AreWithin inputs t.visits) earlier
     → HasChosen a class inputs earlier
 choose a (drr quanta) inputs earlier l arguments were = around-inputs a quanta inputs earlier l were
 choose a class inputs earlier l arguments were = in-order a class inputs earlier _ ((asks-right class inputs l arguments).orders earlier a.moment) (λ h. h)

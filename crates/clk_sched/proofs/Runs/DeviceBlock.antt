@@ -5,7 +5,8 @@ use Rattle.std.proofs.lemmas.List.{map-append}
 use Rattle.std.proofs.lemmas.List.Elements.{filter-append}
 use Rattle.clk_packet.specs.declared.packet.Packet.{Packet}
 use Rattle.clk_sched.specs.declared.visit.Visit.{Visit}
-use Rattle.clk_sched.specs.Tree.{Class, prio, Row, end, leaf, node, Tree, queue, scheduler, root, nodes, width}
+use Rattle.clk_packet.specs.Scheduler.{Scheduler, prio}
+use Rattle.clk_sched.specs.Tree.{Row, end, leaf, node, Tree, queue, scheduler, root, nodes, width}
 use Rattle.clk_sched.specs.Turns.{AsksInOrder}
 use Rattle.clk_sched.specs.Log.{visits_of, pulls, block_at, moment_of, NeverFalls, turn, asks, pulls_below, result_of}
 use Rattle.clk_sched.specs.Laws.{AllowsTurn}
@@ -40,7 +41,7 @@ asked-absent now history next row made v y h away = by_fresh v.fresh refl
     by_fresh false f = refl
 
 -- A pull has the block of node x: the visits of the node, and of those below it, are those of the block.
-record HasBlock (now : Now) (history : History) (x : ℕ) (class : Class) (row : Row) (visits : List Visit) (got : Option Packet) (pull : List Visit) : Type 0 where
+record HasBlock (now : Now) (history : History) (x : ℕ) (class : Scheduler) (row : Row) (visits : List Visit) (got : Option Packet) (pull : List Visit) : Type 0 where
   block : IsBlock now history x class row visits got
   has : (y : ℕ) → x ≤ y → y < suc (x + nodes row) → visits_of y pull ≡ visits_of y visits
 
@@ -51,7 +52,7 @@ record IsMadeIn (now : Now) (history : History) (above first next : ℕ) (row : 
   owns : (i : ℕ) (v : Visit) → In v (visits_of above pull) → v.fresh ≡ true → v.input ≡ first + i → (y : ℕ) → LiesAt next row i y → visits_of y pull ≡ visits_of y (made v.input)
 
 -- of a node itself are its own visits
-block-own : (now : Now) (history : History) (x : ℕ) (class : Class) (row : Row) (visits : List Visit) (got : Option Packet) (pull : List Visit) → (h : HasBlock now history x class row visits got pull)
+block-own : (now : Now) (history : History) (x : ℕ) (class : Scheduler) (row : Row) (visits : List Visit) (got : Option Packet) (pull : List Visit) → (h : HasBlock now history x class row visits got pull)
     → visits_of x pull ≡ h.block.own
 block-own now history x class row visits got pull h =
     h.has x (omega arith) (omega arith) ∙ ap (visits_of x) b.whole ∙ filter-flat_map (λ (v : Visit). v.node == x) (λ v. asked_of b.made v ++ v ∷ []) b.own
@@ -66,7 +67,7 @@ block-own now history x class row visits got pull h =
     none v m = asked-absent now history (suc x) row b.made v x (of-all _ v b.own b.each m) (λ l. let k = (lies-within (suc x) row v.input x l).0 in omega (arith, k))
 
 -- and of one below it are those that were made where it lies
-block-made : (now : Now) (history : History) (x : ℕ) (class : Class) (row : Row) (visits : List Visit) (got : Option Packet) (pull : List Visit) → (h : HasBlock now history x class row visits got pull)
+block-made : (now : Now) (history : History) (x : ℕ) (class : Scheduler) (row : Row) (visits : List Visit) (got : Option Packet) (pull : List Visit) → (h : HasBlock now history x class row visits got pull)
     → IsMadeIn now history x 0 (suc x) row h.block.made pull
 block-made now history x class row visits got pull h =
     record {
@@ -99,7 +100,7 @@ block-made now history x class row visits got pull h =
         ∙ ap (λ c. visits_of y (if c then b.made v.input else [])) f
 
 -- the block of what stands at the first input of a row, where it was asked
-made-block : (now : Now) (history : History) (above first next : ℕ) (class : Class) (inputs row : Row) (made : ℕ → List Visit) (pull : List Visit)
+made-block : (now : Now) (history : History) (above first next : ℕ) (class : Scheduler) (inputs row : Row) (made : ℕ → List Visit) (pull : List Visit)
     → IsMadeIn now history above first next (node class inputs row) made pull → (v : Visit) → In v (visits_of above pull) → v.fresh ≡ true → v.input ≡ first
     → HasBlock now history next class inputs (made v.input) v.got pull
 made-block now history above first next class inputs row made pull h v m f e =
@@ -110,13 +111,13 @@ made-after_leaf : (now : Now) (history : History) (above first next q : ℕ) (ro
 made-after_leaf now history above first next q row made pull h =
     record { asked = λ i v m f e. h.asked (suc i) v m f (omega (arith, e)); owns = λ i v m f e y at. h.owns (suc i) v m f (omega (arith, e)) y at }
 
-made-after_node : (now : Now) (history : History) (above first next : ℕ) (class : Class) (inputs row : Row) (made : ℕ → List Visit) (pull : List Visit)
+made-after_node : (now : Now) (history : History) (above first next : ℕ) (class : Scheduler) (inputs row : Row) (made : ℕ → List Visit) (pull : List Visit)
     → IsMadeIn now history above first next (node class inputs row) made pull → IsMadeIn now history above (suc first) (suc (next + nodes inputs)) row made pull
 made-after_node now history above first next class inputs row made pull h =
     record { asked = λ i v m f e. h.asked (suc i) v m f (omega (arith, e)); owns = λ i v m f e y at. h.owns (suc i) v m f (omega (arith, e)) y at }
 
 -- the block of a node, by the blocks that it asked for
-block-whole : (now : Now) (history : History) (x : ℕ) (class : Class) (row : Row) (visits : List Visit) (got : Option Packet) (pull : List Visit) → (h : HasBlock now history x class row visits got pull)
+block-whole : (now : Now) (history : History) (x : ℕ) (class : Scheduler) (row : Row) (visits : List Visit) (got : Option Packet) (pull : List Visit) → (h : HasBlock now history x class row visits got pull)
     → ((v : Visit) → In v (visits_of x pull) → v.fresh ≡ true → block_at pull 0 (suc x) row v.input ≡ h.block.made v.input) → flat_map (asked pull (suc x) row) (visits_of x pull) ≡ visits
 block-whole now history x class row visits got pull h below =
     flat_map-same (asked pull (suc x) row) (λ v. asked_of h.block.made v ++ v ∷ []) (visits_of x pull) (λ v m. ap (λ l. l ++ v ∷ []) (by_fresh v m v.fresh refl))
@@ -153,7 +154,7 @@ pub past-after_leaf : (history : History) (above first next q : ℕ) (row : Row)
     → ArePast history above (suc first) next row earlier
 past-after_leaf history above first next q row earlier h = record { owns = λ y l k p m. owns-after_leaf y p above first next q row (h.owns y l k p m); turns = h.turns }
 
-pub past-after_node : (history : History) (above first next : ℕ) (class : Class) (inputs row : Row) (earlier : List (List Visit)) → ArePast history above first next (node class inputs row) earlier
+pub past-after_node : (history : History) (above first next : ℕ) (class : Scheduler) (inputs row : Row) (earlier : List (List Visit)) → ArePast history above first next (node class inputs row) earlier
     → ArePast history above (suc first) (suc (next + nodes inputs)) row earlier
 past-after_node history above first next class inputs row earlier h =
     record {
@@ -166,7 +167,7 @@ pub record IsPast (history : History) (above first next : ℕ) (inputs : Row) (e
   pub here : history next ≡ busy (map (turn next) (pulls_below above first earlier))
   pub below : ArePast history next 0 (suc next) inputs (pulls_below above first earlier)
 
-pub past-inputs : (history : History) (above first next : ℕ) (class : Class) (inputs row : Row) (earlier : List (List Visit)) → ArePast history above first next (node class inputs row) earlier
+pub past-inputs : (history : History) (above first next : ℕ) (class : Scheduler) (inputs row : Row) (earlier : List (List Visit)) → ArePast history above first next (node class inputs row) earlier
     → IsPast history above first next inputs earlier
 past-inputs history above first next class inputs row earlier h =
     record {

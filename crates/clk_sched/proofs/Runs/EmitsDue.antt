@@ -7,7 +7,8 @@ use Rattle.std.proofs.lemmas.Bool.Decides.{nat_tests}
 use Rattle.clk_packet.specs.declared.packet.Packet.{Packet}
 use Rattle.clk_packet.specs.Lists.{In}
 use Rattle.clk_sched.specs.declared.visit.Visit.{Visit}
-use Rattle.clk_sched.specs.Tree.{Class, prio, round_robin, drr, stride, shaper, Row, end, leaf, node, Tree, root, nodes, width, queue_at}
+use Rattle.clk_packet.specs.Scheduler.{Scheduler, shaper}
+use Rattle.clk_sched.specs.Tree.{Row, end, leaf, node, Tree, root, nodes, width, queue_at}
 use Rattle.clk_sched.specs.Turns.{Turn, EachAfter, UpToFirst, IsPlain, AsksInOrder, visits_before}
 use Rattle.clk_sched.specs.Heads.{head_at, is_covered, LooksAtHeads}
 use Rattle.clk_sched.specs.Laws.{Manner, in_order, with_heads, manner, Follows, AllowsTurn}
@@ -27,12 +28,9 @@ use Rattle.clk_sched.proofs.Runs.NoChoice.{root-width}
 use Rattle.clk_sched.proofs.Runs.DeviceBlock.{ArePast, IsPast, past-after_leaf, past-after_node, past-inputs, are-past}
 
 -- Turns without visits change nothing.
-lets-busy : (class : Class) (turns : List Turn) (moment : ℕ) → lets_through class (busy turns) moment ≡ lets_through class turns moment
-lets-busy prio turns moment = refl
-lets-busy round_robin turns moment = refl
-lets-busy (drr quanta) turns moment = refl
-lets-busy (stride tickets) turns moment = refl
+lets-busy : (class : Scheduler) (turns : List Turn) (moment : ℕ) → lets_through class (busy turns) moment ≡ lets_through class turns moment
 lets-busy (shaper rate burst) turns moment = busy-room rate burst moment [] turns
+lets-busy class turns moment = refl
 
 heads-busy : (m : Manner) (inputs : ℕ) (turns : List Turn) → holds_head m inputs (busy turns) ≡ holds_head m inputs turns
 heads-busy (in_order order) inputs turns = refl
@@ -107,20 +105,17 @@ looks-none turn_of covers inputs earlier (v ∷ visits) h within none gets = (
     by_input i false l = none i l
 
 -- A scheduler that lets nothing through, or has no head and gets nothing, has no result.
-turn-none : (class : Class) (inputs : ℕ) (earlier : List Turn) (t : Turn) (below : Bool) → AllowsTurn class inputs earlier t
+turn-none : (class : Scheduler) (inputs : ℕ) (earlier : List Turn) (t : Turn) (below : Bool) → AllowsTurn class inputs earlier t
     → (lets_through class earlier t.moment && (holds_head (manner class inputs) inputs earlier || below)) ≡ false → (below ≡ false → GetNone t.visits) → result_of t.visits ≡ None
 turn-none class inputs earlier t below allowed e gets = by_way (lets_through class earlier t.moment) refl e
   where
-    shut : (c : Class) → AllowsTurn c inputs earlier t → lets_through c earlier t.moment ≡ false → t.visits ≡ []
-    shut prio a f = absurd (false≢true (sym f))
-    shut round_robin a f = absurd (false≢true (sym f))
-    shut (drr quanta) a f = absurd (false≢true (sym f))
-    shut (stride tickets) a f = absurd (false≢true (sym f))
+    shut : (c : Scheduler) → AllowsTurn c inputs earlier t → lets_through c earlier t.moment ≡ false → t.visits ≡ []
     shut (shaper rate burst) a f = none t.visits (subst (λ b. AsksInOrder (if b then 0 ∷ [] else []) t.visits) f a.follows).in_order
       where
         none : (visits : List Visit) → UpToFirst [] visits → visits ≡ []
         none [] k = refl
         none (v ∷ visits) k = absurd k
+    shut c a f = absurd (false≢true (sym f))
 
     by_manner : (m : Manner) → Follows m inputs earlier t → holds_head m inputs earlier ≡ false → GetNone t.visits → NonePassed t.visits
     by_manner (in_order order) f h g = plain-none t.visits f.plain g

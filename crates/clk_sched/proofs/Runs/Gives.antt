@@ -2,7 +2,8 @@
 use Rattle.std.proofs.Common.{◌≡◌, ℕ, suc, ◌+◌, ◌==◌, if◌then◌else◌, Bool, true, false, List, [], ◌∷◌, ◌++◌, map, filter, reverse, Option, Some, option_and_then, refl, sym, ap, ap₂, ◌∙◌, subst, append-nil, arith}
 use Rattle.std.specs.List.{flat_map, AllByRecursion, list_any}
 use Rattle.clk_sched.specs.declared.visit.Visit.{Visit}
-use Rattle.clk_sched.specs.Tree.{Class, Row, leaf, node, nodes, width}
+use Rattle.clk_packet.specs.Scheduler.{Scheduler}
+use Rattle.clk_sched.specs.Tree.{Row, leaf, node, nodes, width}
 use Rattle.clk_sched.specs.Turns.{Turn, EachAfter}
 use Rattle.clk_sched.specs.Laws.{manner, Follows, Obeys}
 use Rattle.clk_sched.specs.Log.{visits_of, in_pull, turn, asks, pulls_below, result_of}
@@ -59,7 +60,7 @@ filter-turned f g (x ∷ xs) = by_tests (f x) (g x) refl refl (filter-turned f g
     by_tests false false d e rest = rest
 
 -- what a node's parent got from it is what it passed
-pub gives-results : (log : List Visit) (above first next : ℕ) (class : Class) (inputs row : Row) (pulled : List (List Visit)) → IsPulledIn log above first next (node class inputs row) pulled
+pub gives-results : (log : List Visit) (above first next : ℕ) (class : Scheduler) (inputs row : Row) (pulled : List (List Visit)) → IsPulledIn log above first next (node class inputs row) pulled
     → Obeys class (width inputs) (map (turn next) (pulls_below above first pulled)) → AllByRecursion (GetsResult above first next) pulled
     → gives log above first next (node class inputs row) 0 ≡ results log next inputs
 gives-results log above first next class inputs row pulled h law gets =
@@ -127,13 +128,13 @@ pub gives-after_leaf : (log : List Visit) (above first next q : ℕ) (row : Row)
 gives-after_leaf log above first next q row i =
     ap (λ j. flat_map (got_by (λ k. origin_in log next row i k) j) (visits_of above log)) (let e : first + suc i ≡ suc first + i = omega arith in e)
 
-pub gives-after_node : (log : List Visit) (above first next : ℕ) (class : Class) (inputs row : Row) (i : ℕ)
+pub gives-after_node : (log : List Visit) (above first next : ℕ) (class : Scheduler) (inputs row : Row) (i : ℕ)
     → gives log above first next (node class inputs row) (suc i) ≡ gives log above (suc first) (suc (next + nodes inputs)) row i
 gives-after_node log above first next class inputs row i =
     ap (λ j. flat_map (got_by (λ k. origin_in log (suc (next + nodes inputs)) row i k) j) (visits_of above log)) (let e : first + suc i ≡ suc first + i = omega arith in e)
 
 -- what a node got at an input is what it passed from there, and then what it holds there
-pub gives-passed_and_held : (log : List Visit) (above first next : ℕ) (class : Class) (inputs row : Row) (pulled : List (List Visit)) → IsPulledIn log above first next (node class inputs row) pulled
+pub gives-passed_and_held : (log : List Visit) (above first next : ℕ) (class : Scheduler) (inputs row : Row) (pulled : List (List Visit)) → IsPulledIn log above first next (node class inputs row) pulled
     → Obeys class (width inputs) (map (turn next) (pulls_below above first pulled)) → (i : ℕ)
     → gives log next 0 (suc next) inputs i ≡ flat_map (passed_by (λ k. origin_in log (suc next) inputs i k) i (reverse (visits_of next log))) (visits_of next log) ++ held_at log next inputs i
 gives-passed_and_held log above first next class inputs row pulled h law i =

@@ -5,7 +5,8 @@ use Rattle.std.specs.List.{flat_map, AllByRecursion, list_any}
 use Rattle.std.proofs.lemmas.Bool.Decides.{nat_tests}
 use Rattle.clk_packet.specs.declared.packet.Packet.{Packet}
 use Rattle.clk_sched.specs.declared.visit.Visit.{Visit}
-use Rattle.clk_sched.specs.Tree.{Class, Row, end, leaf, node, Tree, nodes, width, queue_at, IsSound}
+use Rattle.clk_packet.specs.Scheduler.{Scheduler}
+use Rattle.clk_sched.specs.Tree.{Row, end, leaf, node, Tree, nodes, width, queue_at, IsSound}
 use Rattle.clk_sched.specs.Turns.{Turn}
 use Rattle.clk_sched.specs.Laws.{AllowsTurn}
 use Rattle.clk_sched.specs.Log.{visits_of, block_at, moment_of, turn, asks, pulls_below, result_of}
@@ -110,13 +111,13 @@ at-here first i x others e = ap (λ b. if b then x else others i) (equal first i
 at-other : {X : Type 0} (first i : ℕ) (x : X) (others : ℕ → X) → first ≢ i → here_or first x others i ≡ others i
 at-other first i x others d = ap (λ b. if b then x else others i) (differs first i d)
 
-no-queue : (tree : Tree) (above first next : ℕ) (class : Class) (inputs row : Row) → StandsAt tree above first next (node class inputs row) → queue_at tree above first ≡ None
+no-queue : (tree : Tree) (above first next : ℕ) (class : Scheduler) (inputs row : Row) → StandsAt tree above first next (node class inputs row) → queue_at tree above first ≡ None
 no-queue tree above first next class inputs row s =
     let o = s.ordered in
     s.own first (omega arith)
     ∙ rw (queue_in-before next 0 (suc next) inputs above first (omega arith) (λ e. omega (arith, e)), queue_in-earlier above (suc first) (suc (next + nodes inputs)) row first (omega arith) (omega arith)) refl
 
-node-made : (g : Given) (above first next : ℕ) (class : Class) (inputs row : Row) (earlier : List (List Visit)) → StandsAt g.tree above first next (node class inputs row)
+node-made : (g : Given) (above first next : ℕ) (class : Scheduler) (inputs row : Row) (earlier : List (List Visit)) → StandsAt g.tree above first next (node class inputs row)
     → (below : IsMade g next 0 (suc next) inputs (pulls_below above first earlier)) → IsMade g above (suc first) (suc (next + nodes inputs)) row earlier
     → HasChosen (asker g next below.gives) class (width inputs) (map (turn next) (pulls_below above first earlier)) → IsMade g above first next (node class inputs row) earlier
 node-made g above first next class inputs row earlier stands below rest choice =

@@ -3,7 +3,8 @@ use Rattle.std.proofs.Common.{◌≡◌, ℕ, suc, ◌+◌, ◌<◌, ◌≤◌, 
 use Rattle.std.specs.List.{flat_map, AllByRecursion}
 use Rattle.std.proofs.lemmas.Bool.Decides.{nat_tests}
 use Rattle.clk_sched.specs.declared.visit.Visit.{Visit}
-use Rattle.clk_sched.specs.Tree.{Class, Row, end, leaf, node, Tree, queue, scheduler, root, nodes, width, queue_at, is_number}
+use Rattle.clk_packet.specs.Scheduler.{Scheduler}
+use Rattle.clk_sched.specs.Tree.{Row, end, leaf, node, Tree, queue, scheduler, root, nodes, width, queue_at, is_number}
 use Rattle.clk_sched.specs.Turns.{EachAfter}
 use Rattle.clk_sched.specs.Laws.{manner}
 use Rattle.clk_sched.specs.Laws.Device.{IsDeviceTurn}
@@ -93,7 +94,7 @@ leaf-alike tree p q above first next k row stands rest i v u mv mu iv iu l h fv 
         (refl, cc)
     by_test false t c = rest i v u mv mu iv iu (grind (arith, nat_tests)) (omega arith) fv fu c
 
-node-alike : (tree : Tree) (p q : List Visit) → ArePaired p q → (earlier : List (List Visit)) (above first next : ℕ) (class : Class) (inputs row : Row)
+node-alike : (tree : Tree) (p q : List Visit) → ArePaired p q → (earlier : List (List Visit)) (above first next : ℕ) (class : Scheduler) (inputs row : Row)
     → EachAllows above first next (node class inputs row) earlier p → EachAllows above first next (node class inputs row) earlier q
     → (EachAllows next 0 (suc next) inputs (pulls_below above first earlier) p → EachAllows next 0 (suc next) inputs (pulls_below above first earlier) q → AskAlike tree p q next 0 (suc next) inputs)
     → AskAlike tree p q above (suc first) (suc (next + nodes inputs)) row → AskAlike tree p q above first next (node class inputs row)

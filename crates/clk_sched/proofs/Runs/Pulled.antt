@@ -5,7 +5,8 @@ use Rattle.std.specs.Bool.{⊤}
 use Rattle.std.proofs.lemmas.Bool.{false≢true}
 use Rattle.std.proofs.lemmas.List.Concat.{flat_map-append}
 use Rattle.clk_sched.specs.declared.visit.Visit.{Visit}
-use Rattle.clk_sched.specs.Tree.{Class, Row, leaf, node, Tree, root, nodes}
+use Rattle.clk_packet.specs.Scheduler.{Scheduler}
+use Rattle.clk_sched.specs.Tree.{Row, leaf, node, Tree, root, nodes}
 use Rattle.clk_sched.specs.Turns.{Turn, EachAfter, all_visits}
 use Rattle.clk_sched.specs.Log.{visits_of, in_pull, pulls, block, turn, asks, pulls_below}
 use Rattle.clk_sched.specs.Laws.{Manner, Follows}
@@ -117,7 +118,7 @@ pulled-after_leaf log above first next q row pulled h =
       rising = h.rising;
     }
 
-pub pulled-after_node : (log : List Visit) (above first next : ℕ) (class : Class) (inputs row : Row) (pulled : List (List Visit))
+pub pulled-after_node : (log : List Visit) (above first next : ℕ) (class : Scheduler) (inputs row : Row) (pulled : List (List Visit))
     → IsPulledIn log above first next (node class inputs row) pulled → IsPulledIn log above (suc first) (suc (next + nodes inputs)) row pulled
 pulled-after_node log above first next class inputs row pulled h =
     record {
@@ -128,7 +129,7 @@ pulled-after_node log above first next class inputs row pulled h =
       rising = h.rising;
     }
 
-pub pulled-inputs : (log : List Visit) (above first next : ℕ) (class : Class) (inputs row : Row) (pulled : List (List Visit))
+pub pulled-inputs : (log : List Visit) (above first next : ℕ) (class : Scheduler) (inputs row : Row) (pulled : List (List Visit))
     → IsPulledIn log above first next (node class inputs row) pulled → IsPulledIn log next 0 (suc next) inputs (pulls_below above first pulled)
 pulled-inputs log above first next class inputs row pulled h =
     record {
@@ -154,7 +155,7 @@ pulled-inputs log above first next class inputs row pulled h =
     own y p l m k = owns-inputs y p above first next class inputs row l m (self p k) (h.owns y (omega arith) (omega arith) p k)
 
 -- a node's turns have all its visits
-pub turns-visits : (log : List Visit) (above first next : ℕ) (class : Class) (inputs row : Row) (pulled : List (List Visit)) → IsPulledIn log above first next (node class inputs row) pulled
+pub turns-visits : (log : List Visit) (above first next : ℕ) (class : Scheduler) (inputs row : Row) (pulled : List (List Visit)) → IsPulledIn log above first next (node class inputs row) pulled
     → all_visits (map (turn next) (pulls_below above first pulled)) ≡ visits_of next log
 turns-visits log above first next class inputs row pulled h =
     flat_map-map (λ (t : Turn). t.visits) (turn next) (pulls_below above first pulled) ∙ sym (pulled-inputs log above first next class inputs row pulled h).own_visits

@@ -6,13 +6,14 @@ use Rattle.std.proofs.lemmas.Bool.Decides.{nat_tests}
 use Rattle.clk_sched.specs.declared.visit.Visit.{Visit}
 use Rattle.clk_sched.specs.declared.session.drr.Served.{Served}
 use Rattle.clk_sched.specs.declared.session.inputs.Input.{Input}
-use Rattle.clk_sched.specs.declared.session.inputs.Input.TheVariants.{Queue, Scheduler}
+use Rattle.clk_sched.specs.declared.session.inputs.Input.TheVariants.{Queue, Node}
 use Rattle.clk_sched.specs.declared.session.inputs.Inputs.{Inputs}
 use Rattle.clk_sched.specs.declared.session.nodes.Nodes.{Nodes}
 use Rattle.clk_sched.specs.declared.session.shaper.Bucket.{Bucket}
 use Rattle.clk_sched.specs.declared.session.state.State.{State}
 use Rattle.clk_sched.specs.declared.session.state.State.TheVariants.{Drr}
-use Rattle.clk_sched.specs.Tree.{Class, prio, round_robin, drr, stride, shaper, Row, end, leaf, node, Tree, root, nodes, width}
+use Rattle.clk_packet.specs.Scheduler.{Scheduler, drr, shaper}
+use Rattle.clk_sched.specs.Tree.{Row, end, leaf, node, Tree, root, nodes, width}
 use Rattle.clk_sched.specs.Turns.{Turn, visits_before}
 use Rattle.clk_sched.specs.Heads.{head_at}
 use Rattle.clk_sched.specs.Laws.{manner}
@@ -148,11 +149,8 @@ tick-opens rate burst moment turns b h before now = record { each = at; later = 
 
 -- A state that is no Shaper's lets packets through at once.
 pub others-open : (s : State) (moment : ℕ) → ((rate burst inputs : ℕ) (turns : List Turn) → Holds (shaper rate burst) inputs turns s → ⊥) → OpensAt s moment moment
-others-open s moment other prio inputs turns h before = record { each = λ m l. sym (come-first moment m l); later = omega arith }
-others-open s moment other round_robin inputs turns h before = record { each = λ m l. sym (come-first moment m l); later = omega arith }
-others-open s moment other (drr quanta) inputs turns h before = record { each = λ m l. sym (come-first moment m l); later = omega arith }
-others-open s moment other (stride tickets) inputs turns h before = record { each = λ m l. sym (come-first moment m l); later = omega arith }
 others-open s moment other (shaper rate burst) inputs turns h before = absurd (other rate burst inputs turns h)
+others-open s moment other class inputs turns h before = record { each = λ m l. sym (come-first moment m l); later = omega arith }
 
 -- whether a DRRSched holds a head is what its visits say
 any-head : (row : List Served) (before : List Visit) (i n : ℕ) → length row ≡ n → ((k : ℕ) (s : Served) → slice_get row k ≡ Some s → s.head ≡ head_at (i + k) before)
@@ -164,16 +162,13 @@ any-head (s ∷ row) before i (suc n) e each =
     ap₂ (λ b c. b || c) (ap is_some (each 0 s refl ∙ ap (λ k. head_at k before) (omega arith)))
     (any-head row before (i + 1) n (omega (arith, e)) (λ k t f. each (suc k) t f ∙ ap (λ j. head_at j before) (omega arith)))
 
-pub drr-head : (class : Class) (inputs : ℕ) (turns : List Turn) (s : State) (held : Bool) (d : _) → s ≡ Drr d → held ≡ list_any (λ (x : Served). is_some x.head) d.value.row.items → Holds class inputs turns s
+pub drr-head : (class : Scheduler) (inputs : ℕ) (turns : List Turn) (s : State) (held : Bool) (d : _) → s ≡ Drr d → held ≡ list_any (λ (x : Served). is_some x.head) d.value.row.items → Holds class inputs turns s
     → held ≡ holds_head (manner class inputs) inputs turns
 drr-head class inputs turns s held d is e h = e ∙ by_class class (subst (Holds class inputs turns) is h)
   where
-    by_class : (c : Class) → Holds c inputs turns (Drr d) → list_any (λ (x : Served). is_some x.head) d.value.row.items ≡ holds_head (manner c inputs) inputs turns
-    by_class prio k = absurd k
-    by_class round_robin k = absurd k
+    by_class : (c : Scheduler) → Holds c inputs turns (Drr d) → list_any (λ (x : Served). is_some x.head) d.value.row.items ≡ holds_head (manner c inputs) inputs turns
     by_class (drr quanta) k = any-head d.value.row.items (visits_before turns) 0 inputs k.length_is (λ i x f. (k.each i x f).head_is ∙ ap (λ j. head_at j (visits_before turns)) (omega arith))
-    by_class (stride tickets) k = absurd k
-    by_class (shaper rate burst) k = absurd k
+    by_class c k = absurd k
 
 at-least : (due : Option ℕ) (from : ℕ) → IfSome due (λ moment. moment ≡ from) → IfSome due (λ moment. from ≤ moment)
 at-least None from h = tt
@@ -182,11 +177,11 @@ at-least (Some d) from h = omega (arith, h)
 -- the kinds of inputs are told apart
 abbrev is_queue : Input → Bool
 is_queue (Queue q) = true
-is_queue (Scheduler m) = false
+is_queue (Node m) = false
 
 abbrev number : Input → ℕ
 number (Queue q) = q
-number (Scheduler m) = m
+number (Node m) = m
 
 -- nothing is possible from a row without inputs
 no-row : (turns : History) (backlogged : ℕ → Bool) (moment next : ℕ) (row : Row) → inputs_of next row ≡ [] → could_emit turns backlogged moment next row ≡ false
@@ -213,7 +208,7 @@ queue-due n backlogged q due come later next (leaf k row) history e has holds be
     (record { each = λ moment l. ap backlogged (sym same) ∙ sym (come moment l); later = at-least due n.moment later })
 queue-due n backlogged q due come later next (node class inputs row) history e has holds before = absurd (true≢false (ap (λ l. is_queue (get_or l 0 (Queue q))) e))
 
-pub scheduler-due : (n : Nodes) (backlogged : ℕ → Bool) (x : ℕ) (due : Option ℕ) → IsDueAt n backlogged x due → AreDue n backlogged (Scheduler x ∷ []) due
+pub scheduler-due : (n : Nodes) (backlogged : ℕ → Bool) (x : ℕ) (due : Option ℕ) → IsDueAt n backlogged x due → AreDue n backlogged (Node x ∷ []) due
 scheduler-due n backlogged x due at next end history e has holds before = absurd (omega (arith, ap length e))
 scheduler-due n backlogged x due at next (leaf k row) history e has holds before = absurd (false≢true (ap (λ l. is_queue (get_or l 0 (Queue k))) e))
 scheduler-due n backlogged x due at next (node class inputs row) history e has holds before =
@@ -245,7 +240,7 @@ first-at_once n backlogged i others due is one next (node class inputs row) hist
     subst (IsDue _ n.moment) (sym is) (at-once _ (λ moment. could_emit history backlogged moment (suc (next + nodes inputs)) row) n.moment (subst (IsDue _ n.moment) is first))
 
 -- A node: what its state says, and what is due below it.
-state-holds : (n : Nodes) (x : ℕ) (s : State) (class : Class) (row : Row) (history : History) → slice_get n.states.items x ≡ Some s → NodeHolds n.states.items history x class row → Holds class (width row) (history x) s
+state-holds : (n : Nodes) (x : ℕ) (s : State) (class : Scheduler) (row : Row) (history : History) → slice_get n.states.items x ≡ Some s → NodeHolds n.states.items history x class row → Holds class (width row) (history x) s
 state-holds n x s class row history is holds = subst (λ o. MatchOption o ⊥ (Holds class (width row) (history x))) is holds.here
 
 pub head-due : (n : Nodes) (backlogged : ℕ → Bool) (x : ℕ) (s : State) (opens : ℕ) → slice_get n.states.items x ≡ Some s → OpensAt s n.moment opens → HoldsHead s true → IsDueAt n backlogged x (Some opens)
@@ -267,7 +262,7 @@ below-of n backlogged x p due row history is below stands holds before =
     below (suc x) row history (subst (λ o. MatchOption o ⊥ (λ q. q.each.items ≡ inputs_of (suc x) row)) is stands.here) stands.below holds before
 
 -- what is due below a node without a head, behind its own way
-behind : (n : Nodes) (backlogged : ℕ → Bool) (x : ℕ) (s : State) (p : Inputs) (class : Class) (row : Row) (history : History) (due : Option ℕ) → HoldsHead s false → Holds class (width row) (history x) s
+behind : (n : Nodes) (backlogged : ℕ → Bool) (x : ℕ) (s : State) (p : Inputs) (class : Scheduler) (row : Row) (history : History) (due : Option ℕ) → HoldsHead s false → Holds class (width row) (history x) s
     → IsDue (λ moment. could_emit history backlogged moment (suc x) row) n.moment due
     → IsDue (λ moment. holds_head (manner class (width row)) (width row) (history x) || could_emit history backlogged moment (suc x) row) n.moment due
 behind n backlogged x s p class row history due held state h =

@@ -10,7 +10,8 @@ use Rattle.clk_sched.specs.declared.session.drr.Served.{Served}
 use Rattle.clk_sched.specs.declared.session.nodes.Nodes.{Nodes}
 use Rattle.clk_sched.specs.declared.session.state.State.{State}
 use Rattle.clk_sched.specs.declared.session.state.State.TheVariants.{Drr}
-use Rattle.clk_sched.specs.Tree.{Class, prio, drr, Row, end, leaf, node, Tree, root, nodes, width}
+use Rattle.clk_packet.specs.Scheduler.{Scheduler, prio, drr}
+use Rattle.clk_sched.specs.Tree.{Row, end, leaf, node, Tree, root, nodes, width}
 use Rattle.clk_sched.specs.Turns.{Turn, visits_before}
 use Rattle.clk_sched.specs.Heads.{head_at}
 use Rattle.clk_sched.specs.Log.{visits_of, pulls, moment_of}
@@ -79,7 +80,7 @@ heads-of_inputs log x inputs (s ∷ row) i (suc n) e each =
     rest k t f = each (suc k) t f ∙ ap (λ j. head_at j (reverse (visits_of x log))) (omega arith)
 
 -- the heads of a node
-heads-of_node : (log : List Visit) (x : ℕ) (class : Class) (inputs : Row) (turns : List Turn) (s : State) → visits_before turns ≡ reverse (visits_of x log) → Holds class (width inputs) turns s
+heads-of_node : (log : List Visit) (x : ℕ) (class : Scheduler) (inputs : Row) (turns : List Turn) (s : State) → visits_before turns ≡ reverse (visits_of x log) → Holds class (width inputs) turns s
     → heads_of s ≡ without_origins (own_heads log x inputs (manner class (width inputs)))
 heads-of_node log x (drr quanta) inputs turns (Drr d) e h =
     heads-of_inputs log x inputs d.value.row.items 0 (width inputs) h.length_is (λ k s f. (h.each k s f).head_is ∙ ap₂ head_at (omega arith) e)
@@ -112,7 +113,7 @@ from-all [] = refl
 from-all (s ∷ states) = ap (λ l. heads_of s ++ l) (from-later s states 0 (length states) ∙ from-all states)
 
 -- what is held by the node of a number
-held-there : (log : List Visit) (x : ℕ) (class : Class) (inputs : Row) (turns : List Turn) (o : Option State) → visits_before turns ≡ reverse (visits_of x log)
+held-there : (log : List Visit) (x : ℕ) (class : Scheduler) (inputs : Row) (turns : List Turn) (o : Option State) → visits_before turns ≡ reverse (visits_of x log)
     → MatchOption o ⊥ (Holds class (width inputs) turns) → heads_there o ≡ without_origins (own_heads log x inputs (manner class (width inputs)))
 held-there log x class inputs turns None e h = absurd h
 held-there log x class inputs turns (Some s) e h = heads-of_node log x class inputs turns s e h

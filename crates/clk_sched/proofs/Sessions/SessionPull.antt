@@ -5,7 +5,8 @@ use Rattle.std.proofs.lemmas.List.{map-append, reverse-append, length-append}
 use Rattle.clk_packet.specs.declared.packet.Packet.{Packet}
 use Rattle.clk_sched.specs.declared.visit.Visit.{Visit}
 use Rattle.clk_sched.specs.declared.session.nodes.Nodes.{Nodes}
-use Rattle.clk_sched.specs.Tree.{Tree, root, prio, nodes}
+use Rattle.clk_packet.specs.Scheduler.{prio}
+use Rattle.clk_sched.specs.Tree.{Tree, root, nodes}
 use Rattle.clk_sched.specs.Turns.{Turn, UpToFirst, AsksInOrder}
 use Rattle.clk_sched.specs.Log.{visits_of, pulls, moment_of, result_of, turn, NeverFalls}
 use Rattle.clk_sched.specs.Laws.Device.{IsDeviceTurn}

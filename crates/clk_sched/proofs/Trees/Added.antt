@@ -7,7 +7,8 @@ use Rattle.clk_sched.specs.declared.session.inputs.Inputs.{Inputs}
 use Rattle.clk_sched.specs.declared.session.layout.Tables.{Tables}
 use Rattle.clk_sched.specs.declared.session.state.State.{State}
 use Rattle.clk_sched.specs.declared.session.state.State.TheVariants.{Prio}
-use Rattle.clk_sched.specs.Tree.{prio, Row, end, leaf, node, Tree, queue, scheduler, root, nodes, width}
+use Rattle.clk_packet.specs.Scheduler.{prio}
+use Rattle.clk_sched.specs.Tree.{Row, end, leaf, node, Tree, queue, scheduler, root, nodes, width}
 use Rattle.clk_sched.specs.Built.{row}
 use Rattle.clk_sched.specs.inside.Places.{inputs_of}
 use Rattle.clk_sched.specs.Session.{elements}

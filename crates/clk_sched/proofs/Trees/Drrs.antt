@@ -3,7 +3,8 @@ use Rattle.std.proofs.Common.{◌≡◌, ℕ, ◌+◌, ◌<◌, ◌≤◌, ◌||
 use Rattle.std.proofs.lemmas.Bool.{false≢true}
 use Rattle.clk_packet.specs.Limits.{most_levels}
 use Rattle.clk_packet.specs.Lists.{stands_in, are_distinct}
-use Rattle.clk_sched.specs.Tree.{Class, drr, Row, end, leaf, node, Tree, queue, scheduler, root, height, leaves}
+use Rattle.clk_packet.specs.Scheduler.{Scheduler, drr}
+use Rattle.clk_sched.specs.Tree.{Row, end, leaf, node, Tree, queue, scheduler, root, height, leaves}
 use Rattle.clk_sched.specs.Built.{row, levels}
 use Rattle.clk_sched.specs.FewHeads.{most_heads, drrs_above}
 use Rattle.clk_sched.specs.inside.Drrs.{HasPlaces, IsCounted}
@@ -49,7 +50,7 @@ height-root : (t : Tree) → height (root t) ≡ levels t
 height-root (queue p) = refl
 height-root (scheduler class inputs) = omega arith
 
-most-one : (class : Class) → most_heads class ≤ 1
+most-one : (class : Scheduler) → most_heads class ≤ 1
 most-one (drr quanta) = omega arith
 most-one class = omega arith
 

@@ -8,7 +8,8 @@ use Rattle.clk_packet.specs.Limits.{most_inputs}
 use Rattle.clk_sched.specs.declared.session.inputs.Inputs.{Inputs}
 use Rattle.clk_sched.specs.declared.session.nodes.Nodes.{Nodes}
 use Rattle.clk_sched.specs.declared.session.state.State.{State}
-use Rattle.clk_sched.specs.Tree.{Class, prio, Row, end, leaf, node, Tree, queue, scheduler, root, nodes, width, HasArguments, IsWellFormed}
+use Rattle.clk_packet.specs.Scheduler.{Scheduler, prio, HasArguments}
+use Rattle.clk_sched.specs.Tree.{Row, end, leaf, node, Tree, queue, scheduler, root, nodes, width, IsWellFormed}
 use Rattle.clk_sched.specs.inside.Places.{inputs_of, EachHasInputs, option_edges, edges_to_all, IsAfter, IsWired}
 use Rattle.clk_sched.specs.inside.Pulling.{EachHolds}
 use Rattle.clk_sched.specs.Session.{elements}
@@ -77,7 +78,7 @@ length-first (k ∷ kinds) [] h = absurd h
 length-first (k ∷ kinds) (s ∷ states) h = ap suc (length-first kinds states h.1)
 
 -- All that tables say of a node over a row.
-record IsPlaced (table : List Inputs) (states : List State) (x : ℕ) (class : Class) (row : Row) : Type 0 where
+record IsPlaced (table : List Inputs) (states : List State) (x : ℕ) (class : Scheduler) (row : Row) : Type 0 where
   inputs : MatchOption (slice_get table x) ⊥ (IsEntry (entry_over x row))
   state : MatchOption (slice_get states x) ⊥ (Holds class (width row) [])
   some : 1 ≤ width row
@@ -140,7 +141,7 @@ match-weaker : {X : Type 0} (P Q : X → Type 0) (o : Option X) → ((x : X) →
 match-weaker P Q None f h = absurd h
 match-weaker P Q (Some x) f h = f x h
 
-has-inputs : (table : List Inputs) (states : List State) (x : ℕ) (class : Class) (row : Row) → IsPlaced table states x class row → MatchOption (slice_get table x) ⊥ (λ (p : Inputs). p.each.items ≡ inputs_of (suc x) row)
+has-inputs : (table : List Inputs) (states : List State) (x : ℕ) (class : Scheduler) (row : Row) → IsPlaced table states x class row → MatchOption (slice_get table x) ⊥ (λ (p : Inputs). p.each.items ≡ inputs_of (suc x) row)
 has-inputs table states x class row h = match-weaker (IsEntry (entry_over x row)) (λ (p : Inputs). p.each.items ≡ inputs_of (suc x) row) (slice_get table x) (λ p e. ap (λ (q : Entry). q.0) e) h.inputs
 
 each-has : (table : List Inputs) (states : List State) (next : ℕ) (row : Row) → ArePlaced table states next row → EachHasInputs table next row
@@ -155,7 +156,7 @@ each-holds table states next (leaf q row) h = each-holds table states next row h
 each-holds table states next (node class inputs row) h = (h.0.state, each-holds table states (suc next) inputs h.1, each-holds table states (suc (next + nodes inputs)) row h.2)
 
 record Found (table : List Inputs) (states : List State) (x : ℕ) : Type 0 where
-  class : Class
+  class : Scheduler
   row : Row
   placed : IsPlaced table states x class row
 

@@ -1,7 +1,8 @@
 -- Which queue stands at which input of which node.
 use Rattle.std.proofs.Common.{◌≡◌, ◌≢◌, ℕ, ◌+◌, ◌<◌, ◌≤◌, ◌==◌, ◌&&◌, suc, Bool, true, false, Option, Some, None, refl, sym, ◌∙◌, arith}
 use Rattle.std.specs.Option.{option_or}
-use Rattle.clk_sched.specs.Tree.{Class, Row, end, leaf, node, Tree, root, nodes, queue_in, queue_at}
+use Rattle.clk_packet.specs.Scheduler.{Scheduler}
+use Rattle.clk_sched.specs.Tree.{Row, end, leaf, node, Tree, root, nodes, queue_in, queue_at}
 use Rattle.clk_sched.proofs.Lists.Numbers.{equal, differs}
 
 and_false : (b : Bool) → (b && false) ≡ false
@@ -51,7 +52,7 @@ stands-after_leaf tree above first next q row s =
       below = λ x i l h. s.below x i l h ∙ (let o = s.ordered in rw (differs above x (λ e. omega (arith, e, o))) refl);
     }
 
-pub stands-after_node : (tree : Tree) (above first next : ℕ) (class : Class) (inputs row : Row) → StandsAt tree above first next (node class inputs row)
+pub stands-after_node : (tree : Tree) (above first next : ℕ) (class : Scheduler) (inputs row : Row) → StandsAt tree above first next (node class inputs row)
     → StandsAt tree above (suc first) (suc (next + nodes inputs)) row
 stands-after_node tree above first next class inputs row s =
     let o = s.ordered in
@@ -61,7 +62,7 @@ stands-after_node tree above first next class inputs row s =
       below = λ x i l h. s.below x i (omega arith) (omega arith) ∙ rw (queue_in-after next 0 (suc next) inputs x i (omega arith) (omega arith)) refl;
     }
 
-pub stands-inputs : (tree : Tree) (above first next : ℕ) (class : Class) (inputs row : Row) → StandsAt tree above first next (node class inputs row)
+pub stands-inputs : (tree : Tree) (above first next : ℕ) (class : Scheduler) (inputs row : Row) → StandsAt tree above first next (node class inputs row)
     → StandsAt tree next 0 (suc next) inputs
 stands-inputs tree above first next class inputs row s =
     let o = s.ordered in

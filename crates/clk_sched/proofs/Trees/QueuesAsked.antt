@@ -6,7 +6,8 @@ use Rattle.std.proofs.Math.Bool.{and-false}
 use Rattle.clk_packet.specs.declared.packet.Packet.{Packet}
 use Rattle.clk_sched.specs.declared.visit.Visit.{Visit}
 use Rattle.clk_sched.specs.declared.session.inputs.Inputs.{Inputs}
-use Rattle.clk_sched.specs.Tree.{Class, Row, end, leaf, node, Tree, root, nodes, queue_in, queue_at}
+use Rattle.clk_packet.specs.Scheduler.{Scheduler}
+use Rattle.clk_sched.specs.Tree.{Row, end, leaf, node, Tree, root, nodes, queue_in, queue_at}
 use Rattle.clk_sched.specs.Answers.{at_queue, Answers, tree_queue}
 use Rattle.clk_sched.specs.inside.Places.{inputs_of, HasInputs, EachHasInputs, StandsIn, option_input, input_at, queue_of, queue_asked}
 use Rattle.clk_sched.specs.inside.Pulling.{Now, History, IsBlock}
@@ -57,7 +58,7 @@ queue-is tree table h zero i l = table-queue table 0 (root tree) i h.here
 queue-is tree table h (suc x) i l = row-queues tree table 0 0 1 (root tree) (stands-root tree) h.below (suc x) i (omega arith) (omega arith)
 
 -- the visits of the block of a node are of that node and of those below it
-pub block-nodes : (now : Now) (history : History) (x : ℕ) (class : Class) (row : Row) (visits : List Visit) (got : Option Packet) → IsBlock now history x class row visits got
+pub block-nodes : (now : Now) (history : History) (x : ℕ) (class : Scheduler) (row : Row) (visits : List Visit) (got : Option Packet) → IsBlock now history x class row visits got
     → AllByRecursion (λ (v : Visit). (x ≤ v.node) × (v.node < suc (x + nodes row))) visits
 block-nodes now history x class row visits got b =
     all-weaker (IsVisitBelow now x (node class row end) 0) (λ (v : Visit). (x ≤ v.node) × (v.node < suc (x + nodes row))) visits (λ v h. h.lies)

@@ -5,7 +5,8 @@ use Rattle.std.specs.List.{AllByRecursion}
 use Rattle.std.proofs.Math.Nat.{mul-le-mul, div-le_of_le-mul}
 use Rattle.clk_packet.specs.Limits.{most_quantum, most_length, most_levels}
 use Rattle.clk_sched.specs.Limits.{most_left}
-use Rattle.clk_sched.specs.Tree.{Class, drr, Row, end, leaf, node, Tree, queue, scheduler, root, width, height, HasArguments, IsWellFormed, IsSound}
+use Rattle.clk_packet.specs.Scheduler.{Scheduler, drr, HasArguments}
+use Rattle.clk_sched.specs.Tree.{Row, end, leaf, node, Tree, queue, scheduler, root, width, height, IsWellFormed, IsSound}
 use Rattle.clk_sched.specs.Built.{levels}
 use Rattle.clk_sched.proofs.Trees.TreeLemmas.{sound-formed}
 use Rattle.clk_sched.specs.Bound.{lesser, least, quanta_of, least_quantum, rounds, closing_bound}
@@ -24,7 +25,7 @@ positive-least : (ns : List ℕ) → AllByRecursion (λ n. (1 ≤ n) × (n ≤ m
 positive-least [] h = tt
 positive-least (n ∷ ns) h = positive-lesser (Some n) (least ns) h.0.0 (positive-least ns h.1)
 
-positive-class : (class : Class) (inputs : ℕ) → HasArguments class inputs → IsPositive (least (quanta_of class))
+positive-class : (class : Scheduler) (inputs : ℕ) → HasArguments class inputs → IsPositive (least (quanta_of class))
 positive-class (drr quanta) inputs h = positive-least quanta h.1
 positive-class class inputs h = tt
 

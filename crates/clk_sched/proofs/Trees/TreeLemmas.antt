@@ -5,25 +5,26 @@ use Rattle.std.proofs.lemmas.List.{take_all}
 use Rattle.clk_packet.specs.declared.fault.Fault.TheVariants.{TooLarge}
 use Rattle.clk_packet.specs.Limits.{most_inputs, most_levels}
 use Rattle.clk_packet.specs.Lists.{stands_in}
-use Rattle.clk_sched.specs.Tree.{Class, Tree, queue, scheduler, root, height, width, leaves, Row, end, leaf, node, IsWellFormed, IsSound}
+use Rattle.clk_packet.specs.Scheduler.{Scheduler}
+use Rattle.clk_sched.specs.Tree.{Tree, queue, scheduler, root, height, width, leaves, Row, end, leaf, node, IsWellFormed, IsSound}
 use Rattle.clk_sched.specs.Built.{built, row, leaves_of}
 use Rattle.clk_sched.specs.Session.{elements}
 use Rattle.clk_sched.specs.inside.LaidOut.{elements_of}
 
-pub built-wide : (class : Class) (children : List Tree) → most_inputs < length children → Err TooLarge ≡ built class children
+pub built-wide : (class : Scheduler) (children : List Tree) → most_inputs < length children → Err TooLarge ≡ built class children
 unfolding built
 built-wide class children wide =
     let e : nat_lt most_inputs (length children) ≡ true = grind (arith, nat_tests) in
     rw e refl
 
-pub built-high : (class : Class) (children : List Tree) → length children ≤ most_inputs → most_levels ≤ height (row children) → Err TooLarge ≡ built class children
+pub built-high : (class : Scheduler) (children : List Tree) → length children ≤ most_inputs → most_levels ≤ height (row children) → Err TooLarge ≡ built class children
 unfolding built
 built-high class children narrow high =
     let e : nat_lt most_inputs (length children) ≡ false = grind (arith, nat_tests) in
     let f : nat_lt most_levels (suc (height (row children))) ≡ true = grind (arith, nat_tests) in
     rw (e, f) refl
 
-pub built-fits : (class : Class) (children : List Tree) → length children ≤ most_inputs → height (row children) < most_levels → Ok (scheduler class (row children)) ≡ built class children
+pub built-fits : (class : Scheduler) (children : List Tree) → length children ≤ most_inputs → height (row children) < most_levels → Ok (scheduler class (row children)) ≡ built class children
 unfolding built
 built-fits class children narrow low =
     let e : nat_lt most_inputs (length children) ≡ false = grind (arith, nat_tests) in

@@ -4,7 +4,7 @@ use Rattle.std.proofs.lemmas.Bool.{false≢true}
 use Rattle.std.proofs.lemmas.List.{length-set}
 use Rattle.clk_packet.specs.declared.packet.Packet.{Packet}
 use Rattle.clk_sched.specs.declared.visit.Visit.{Visit}
-use Rattle.clk_sched.specs.declared.session.inputs.Input.TheVariants.{Scheduler}
+use Rattle.clk_sched.specs.declared.session.inputs.Input.TheVariants.{Node}
 use Rattle.clk_sched.specs.declared.session.inputs.Inputs.{Inputs}
 use Rattle.clk_sched.specs.declared.session.nodes.Nodes.{Nodes}
 use Rattle.clk_sched.specs.declared.session.state.State.TheVariants.{Shaper}
@@ -24,7 +24,7 @@ use Rattle.clk_sched.proofs.Nodes.Placed.{state-there}
 use Rattle.clk_sched.proofs.Turns.TurnShaper.{HasInput, shaper-asks, shaper-input, shaper-may, shaper-refused, shaper-passed, shaper-returned}
 
 -- a scheduler at an input can be pulled where the input can be asked
-child-can : (a : Nodes) (x child : ℕ) → CanPull a x (edges_at a.inputs.items x 0) → input_at a.inputs.items x 0 ≡ Some (Scheduler child) → CanPull a child (edges_of a.inputs.items child)
+child-can : (a : Nodes) (x child : ℕ) → CanPull a x (edges_at a.inputs.items x 0) → input_at a.inputs.items x 0 ≡ Some (Node child) → CanPull a child (edges_of a.inputs.items child)
 child-can a x child can e =
     record {
       wired = can.wired;
@@ -58,7 +58,7 @@ down-edges a b x (suc k) h below =
     let rest = down-edges a m x k h.1 h.2 in
     let first = edges-first m (x + k) h.3.can (shaper-input m (x + k) h.3.takes.bucket h.3.can h.3.takes.held) in
     let same : b.inputs.items ≡ m.inputs.items = ap (λ (n : Nodes). n.inputs.items) h.3.takes.is in
-    let edge = edges-scheduler m.inputs.items (x + k) 0 (x + suc k) (subst (λ table. input_at table (x + k) 0 ≡ Some (Scheduler (x + suc k))) same (below (x + k) (omega arith) (omega arith))) in
+    let edge = edges-scheduler m.inputs.items (x + k) 0 (x + suc k) (subst (λ table. input_at table (x + k) 0 ≡ Some (Node (x + suc k))) same (below (x + k) (omega arith) (omega arith))) in
     let table : m.inputs.items ≡ a.inputs.items = ap (λ v. v.items) (down-inputs a m x k h.1) in
     let here = ap (λ t. edges_of t (x + k)) table in
     let next = ap (λ t. edges_of t (x + suc k)) table in
@@ -81,17 +81,17 @@ down-first a t x token can takes =
     }
 
 -- Another stands at the input of the last, whose token was taken.
-pub down-can : (a b : Nodes) (x last below : ℕ) → GoesDown a b x last true → input_at b.inputs.items last 0 ≡ Some (Scheduler below) → CanPull b below (edges_of b.inputs.items below)
+pub down-can : (a b : Nodes) (x last below : ℕ) → GoesDown a b x last true → input_at b.inputs.items last 0 ≡ Some (Node below) → CanPull b below (edges_of b.inputs.items below)
 down-can a b x last below h e = child-can b last below (shaper-may h.mid b last true h.can h.spent).0 e
 
-pub down-next : (a b t : Nodes) (x last below : ℕ) (token : Bool) → GoesDown a b x last true → below ≡ last + 1 → input_at b.inputs.items last 0 ≡ Some (Scheduler below) → TakesToken b t below token → GoesDown a t x below token
+pub down-next : (a b t : Nodes) (x last below : ℕ) (token : Bool) → GoesDown a b x last true → below ≡ last + 1 → input_at b.inputs.items last 0 ≡ Some (Node below) → TakesToken b t below token → GoesDown a t x below token
 down-next a b t x last below token h next e takes =
     record {
       mid = b;
       count = suc h.count;
       last_is = let l = h.last_is in omega (arith, l, next);
       takes = (h.mid, h.takes, subst (IsBelow h.mid.inputs.items x) h.last_is h.below, subst (SpendsAt h.mid b) h.last_is (record { can = h.can; takes = h.spent }));
-      below = λ above is l. subst (λ n. input_at b.inputs.items n 0 ≡ Some (Scheduler below)) (let same : last ≡ above = omega (arith, next, is) in same) e;
+      below = λ above is l. subst (λ n. input_at b.inputs.items n 0 ≡ Some (Node below)) (let same : last ≡ above = omega (arith, next, is) in same) e;
       can = down-can a b x last below h e;
       spent = takes;
     }
@@ -102,7 +102,7 @@ pub record WasAsked {S : Type 0} (gives : S → ℕ → Option Packet → S → 
   pub answers : (v : Visit) → v.node ≡ x → v.input ≡ 0 → v.fresh ≡ true → v.got ≡ got → Answers gives (queue_asked old.inputs.items) before (added old new ++ v ∷ []) now
   pub asks : Asks old new x 0 got
 
-child-asked : {S : Type 0} (gives : S → ℕ → Option Packet → S → Type 0) (a b : Nodes) (q r : S) (x child : ℕ) (got : Option Packet) → input_at a.inputs.items x 0 ≡ Some (Scheduler child) → WasPulled gives a b q r child got
+child-asked : {S : Type 0} (gives : S → ℕ → Option Packet → S → Type 0) (a b : Nodes) (q r : S) (x child : ℕ) (got : Option Packet) → input_at a.inputs.items x 0 ≡ Some (Node child) → WasPulled gives a b q r child got
     → WasAsked gives a b q r x got
 child-asked gives a b q r x child got e pulled =
     let edges = edges-scheduler a.inputs.items x 0 child e in
@@ -110,7 +110,7 @@ child-asked gives a b q r x child got e pulled =
       keeps = keeps-more a b _ _ pulled.keeps (omega (arith, edges));
       answers = λ v node at fresh gets.
           answers-then gives (queue_asked a.inputs.items) (added a b) (v ∷ []) q r r pulled.answers
-          (subst (λ o. at_queue gives o v.got r (λ s. s ≡ r)) (sym (queue-visited a.inputs.items x 0 (Scheduler child) v e node at fresh)) refl);
+          (subst (λ o. at_queue gives o v.got r (λ s. s ≡ r)) (sym (queue-visited a.inputs.items x 0 (Node child) v e node at fresh)) refl);
       asks = asks-child a b x 0 child got e pulled.pulls;
     }
 
@@ -242,7 +242,7 @@ up-next a b c last above got some l up at =
 pub goes-may : (a b : Nodes) (x last : ℕ) (token : Bool) → GoesDown a b x last token → CanPull b last (edges_at b.inputs.items last 0) × IsSome (input_at b.inputs.items last 0)
 goes-may a b x last token h = shaper-may h.mid b last token h.can h.spent
 
-pub goes-below : (a b : Nodes) (x last below : ℕ) (token : Bool) → GoesDown a b x last token → input_at b.inputs.items last 0 ≡ Some (Scheduler below) → below < length b.states.items
+pub goes-below : (a b : Nodes) (x last below : ℕ) (token : Bool) → GoesDown a b x last token → input_at b.inputs.items last 0 ≡ Some (Node below) → below < length b.states.items
 goes-below a b x last below token h e = state-there b below _ (child-can b last below (goes-may a b x last token h).0 e)
 
 -- The edge to its input, which is asked.

@@ -10,7 +10,8 @@ use Rattle.clk_sched.specs.declared.session.drr.Deficits.{Deficits}
 use Rattle.clk_sched.specs.declared.session.nodes.Nodes.{Nodes}
 use Rattle.clk_sched.specs.declared.session.state.State.{State}
 use Rattle.clk_sched.specs.declared.session.state.State.TheVariants.{Drr}
-use Rattle.clk_sched.specs.Tree.{Class, drr, width}
+use Rattle.clk_packet.specs.Scheduler.{Scheduler, drr}
+use Rattle.clk_sched.specs.Tree.{width}
 use Rattle.clk_sched.specs.Turns.{Turn, EachAfter, visits_before}
 use Rattle.clk_sched.specs.Heads.{LooksAtHeads, EndAtPass}
 use Rattle.clk_sched.specs.Laws.Deficit.{next_input, deficit_covers}
@@ -33,7 +34,7 @@ use Rattle.clk_sched.proofs.Nodes.Asking.{added-none, added-then, keeps-then, ke
 use Rattle.clk_sched.proofs.Nodes.Ordered.{item-there, stands-width, can-order, order-there, keeps-order}
 
 -- by what a DRRSched holds, a scheduler of no other class has a turn
-drr-alone : (a b : Nodes) (x : ℕ) (s : Box Deficits) (now : State) (got : Option Packet) → ((quanta : List ℕ) → TakesTurn a b x (drr quanta) (Drr s) now got) → (class : Class) → TakesTurn a b x class (Drr s) now got
+drr-alone : (a b : Nodes) (x : ℕ) (s : Box Deficits) (now : State) (got : Option Packet) → ((quanta : List ℕ) → TakesTurn a b x (drr quanta) (Drr s) now got) → (class : Scheduler) → TakesTurn a b x class (Drr s) now got
 drr-alone a b x s now got h (drr quanta) row history ready holds = h quanta row history ready holds
 drr-alone a b x s now got h class row history ready holds = absurd holds
 

@@ -6,7 +6,8 @@ use Rattle.clk_sched.specs.declared.session.inputs.Inputs.{Inputs}
 use Rattle.clk_sched.specs.declared.session.nodes.Nodes.{Nodes}
 use Rattle.clk_sched.specs.declared.session.state.State.{State}
 use Rattle.clk_sched.specs.declared.session.state.State.TheVariants.{Prio}
-use Rattle.clk_sched.specs.Tree.{Class, prio, width}
+use Rattle.clk_packet.specs.Scheduler.{Scheduler, prio}
+use Rattle.clk_sched.specs.Tree.{width}
 use Rattle.clk_sched.specs.Turns.{AsksInOrder}
 use Rattle.clk_sched.specs.inside.Holds.OfClass.{IsPrio}
 use Rattle.clk_sched.specs.inside.Places.{edges_of, edges_at, edges_in, input_at}
@@ -19,7 +20,7 @@ use Rattle.clk_sched.proofs.Nodes.Ordered.{IsOrderAt, item-there, stands-width, 
 use Rattle.clk_sched.proofs.Nodes.Placed.{some-same, state-there, fits-there, pulled-still}
 
 -- a PrioSched holds one thing alone, by which a scheduler of no other class has a turn
-prio-alone : (a b : Nodes) (x : ℕ) (now : State) (got : Option Packet) → TakesTurn a b x prio Prio now got → (class : Class) → TakesTurn a b x class Prio now got
+prio-alone : (a b : Nodes) (x : ℕ) (now : State) (got : Option Packet) → TakesTurn a b x prio Prio now got → (class : Scheduler) → TakesTurn a b x class Prio now got
 prio-alone a b x now got h prio row history ready holds = h row history ready holds
 prio-alone a b x now got h class row history ready holds = absurd holds
 

@@ -12,7 +12,8 @@ use Rattle.clk_sched.specs.declared.session.nodes.Nodes.{Nodes}
 use Rattle.clk_sched.specs.declared.session.state.State.{State}
 use Rattle.clk_sched.specs.declared.session.state.State.TheVariants.{RoundRobin}
 use Rattle.clk_sched.specs.declared.session.round_robin.Beginning.{Beginning}
-use Rattle.clk_sched.specs.Tree.{Class, round_robin, width}
+use Rattle.clk_packet.specs.Scheduler.{Scheduler, round_robin}
+use Rattle.clk_sched.specs.Tree.{width}
 use Rattle.clk_sched.specs.Turns.{Turn, AsksInOrder, giver}
 use Rattle.clk_sched.specs.Laws.RoundRobin.{beginning, round_robin_order}
 use Rattle.clk_sched.specs.inside.Places.{edges_of, edges_in, input_at}
@@ -23,12 +24,13 @@ use Rattle.clk_sched.proofs.Lists.Ranges.{range-append}
 use Rattle.clk_sched.proofs.Nodes.Asking.{keeps-more, asks-front, asked-vain, edges-append, apart-split, can-go_on}
 use Rattle.clk_sched.proofs.Nodes.Asked.{entry}
 use Rattle.clk_sched.proofs.Nodes.InTwo.{past, past-length, in_order-first, index-first, index-second, asked-both}
-use Rattle.clk_sched.proofs.Classes.Orders.{IsOrderOf, IsBeyond, around, round_robin-order}
+use Rattle.clk_sched.proofs.Classes.Orders.{IsOrderOf, IsBeyond, around}
+use Rattle.clk_sched.proofs.Classes.RoundRobinTurns.{round_robin-order}
 use Rattle.clk_sched.proofs.Nodes.InOrder.{IsWithin, HasTurnedBy, packet_of, turned-in-order, after-own, with_turn-given, giver_at, in_order-giver}
 use Rattle.clk_sched.proofs.Nodes.Ordered.{stands-width, can-order, order-there, keeps-order}
 
 -- by what a RoundRobinSched holds, a scheduler of no other class has a turn
-round_robin-alone : (a b : Nodes) (x : ℕ) (s : Beginning) (now : State) (got : Option Packet) → TakesTurn a b x round_robin (RoundRobin s) now got → (class : Class) → TakesTurn a b x class (RoundRobin s) now got
+round_robin-alone : (a b : Nodes) (x : ℕ) (s : Beginning) (now : State) (got : Option Packet) → TakesTurn a b x round_robin (RoundRobin s) now got → (class : Scheduler) → TakesTurn a b x class (RoundRobin s) now got
 round_robin-alone a b x s now got h round_robin row history ready holds = h row history ready holds
 round_robin-alone a b x s now got h class row history ready holds = absurd holds
 

@@ -9,7 +9,7 @@ use Rattle.clk_sched.specs.declared.session.nodes.Nodes.{Nodes}
 use Rattle.clk_sched.specs.declared.session.state.State.{State}
 use Rattle.clk_sched.specs.declared.session.state.State.TheVariants.{Shaper}
 use Rattle.clk_sched.specs.declared.session.shaper.Bucket.{Bucket}
-use Rattle.clk_sched.specs.Tree.{Class, shaper}
+use Rattle.clk_packet.specs.Scheduler.{Scheduler, shaper}
 use Rattle.clk_sched.specs.Turns.{Turn, AsksInOrder, giver}
 use Rattle.clk_sched.specs.Laws.Shaper.{has_room}
 use Rattle.clk_sched.specs.Log.{asking}
@@ -27,7 +27,7 @@ use Rattle.clk_sched.proofs.Nodes.InOrder.{IsWithin, packet_of, HasTurnedBy, tur
 use Rattle.clk_sched.proofs.Nodes.Ordered.{IsOrderAt, can-ask, inputs-asked, keeps-asked, row-order}
 
 -- by what a Shaper holds, a scheduler of no other class has a turn
-shaper-alone : (a b : Nodes) (x : ℕ) (s : Bucket) (now : State) (got : Option Packet) → ((rate burst : ℕ) → TakesTurn a b x (shaper rate burst) (Shaper s) now got) → (class : Class) → TakesTurn a b x class (Shaper s) now got
+shaper-alone : (a b : Nodes) (x : ℕ) (s : Bucket) (now : State) (got : Option Packet) → ((rate burst : ℕ) → TakesTurn a b x (shaper rate burst) (Shaper s) now got) → (class : Scheduler) → TakesTurn a b x class (Shaper s) now got
 shaper-alone a b x s now got h (shaper rate burst) row history ready holds = h rate burst row history ready holds
 shaper-alone a b x s now got h class row history ready holds = absurd holds
 
@@ -191,7 +191,7 @@ spent-keeps gives a b q r x s z got h = keeps-look a b x h.can (shaper-input a x
 -- It gave a packet.
 spent-passed : {S : Type 0} (gives : S → ℕ → Option Packet → S → Type 0) (a b : Nodes) (q r : S) (x : ℕ) (s z : Bucket) (got : Option Packet) → Spends gives a b q r x s z got → is_some got ≡ true → WasPulled gives a b q r x got
 spent-passed gives a b q r x s z got h given =
-    let turn : (class : Class) → TakesTurn (with_state a x (Shaper z)) b x class (Shaper s) (Shaper z) got =
+    let turn : (class : Scheduler) → TakesTurn (with_state a x (Shaper z)) b x class (Shaper s) (Shaper z) got =
     shaper-alone (with_state a x (Shaper z)) b x s (Shaper z) got (shaper-passes (with_state a x (Shaper z)) b x s z got given h.can.there (shaper-input a x s h.can h.held) h.tells h.asked.asks h.taken)
     in
     record {
@@ -235,7 +235,7 @@ spent-back gives a b c q r x s z got h none back =
     more : added a c ≡ added a b
     more = ap (λ v. drop (length a.log.items) v.items) back.log
 
-    turn : (w : Bucket) → IsLeft s w a.moment → (class : Class) → TakesTurn put b x class (Shaper s) (Shaper w) None
+    turn : (w : Bucket) → IsLeft s w a.moment → (class : Scheduler) → TakesTurn put b x class (Shaper s) (Shaper w) None
     turn w left = shaper-alone put b x s (Shaper w) None (shaper-vain put b x s w got none h.can.there (shaper-input a x s h.can h.held) h.tells h.asked.asks left)
 
 pub shaper-returned : {S : Type 0} (gives : S → ℕ → Option Packet → S → Type 0) (a t b c : Nodes) (q r : S) (x : ℕ) (token : Bool) (got : Option Packet) → CanPull a x (edges_of a.inputs.items x) → TakesToken a t x token → token ≡ true

@@ -12,7 +12,7 @@ use Rattle.clk_sched.specs.declared.session.state.State.{State}
 use Rattle.clk_sched.specs.declared.session.state.State.TheVariants.{Stride}
 use Rattle.clk_sched.specs.declared.session.stride.Rank.{Rank}
 use Rattle.clk_sched.specs.declared.session.stride.Passes.{Passes}
-use Rattle.clk_sched.specs.Tree.{Class, stride}
+use Rattle.clk_packet.specs.Scheduler.{Scheduler, stride}
 use Rattle.clk_sched.specs.Turns.{Turn, AsksInOrder, giver}
 use Rattle.clk_sched.specs.inside.Holds.OfClass.{FitsPasses}
 use Rattle.clk_sched.specs.inside.Holds.Stride.{HoldsPasses}
@@ -26,7 +26,7 @@ use Rattle.clk_sched.proofs.Nodes.InOrder.{IsWithin, packet_of, HasTurnedBy, tur
 use Rattle.clk_sched.proofs.Nodes.Ordered.{item-there, IsOrderAt, row-order, can-ask, inputs-asked, had-order}
 
 -- by what a StrideSched holds, a scheduler of no other class has a turn
-stride-alone : (a b : Nodes) (x : ℕ) (s : Box Passes) (now : State) (got : Option Packet) → ((tickets : List ℕ) → TakesTurn a b x (stride tickets) (Stride s) now got) → (class : Class) → TakesTurn a b x class (Stride s) now got
+stride-alone : (a b : Nodes) (x : ℕ) (s : Box Passes) (now : State) (got : Option Packet) → ((tickets : List ℕ) → TakesTurn a b x (stride tickets) (Stride s) now got) → (class : Scheduler) → TakesTurn a b x class (Stride s) now got
 stride-alone a b x s now got h (stride tickets) row history ready holds = h tickets row history ready holds
 stride-alone a b x s now got h class row history ready holds = absurd holds
 

@@ -2,7 +2,8 @@
 use Rattle.std.specs.Prelude.{List, [], ◌∷◌, Some, None, true, false}
 use Rattle.std.proofs.Common.{lit≤}
 use Rattle.clk_sched.specs.declared.visit.Visit.{Visit}
-use Rattle.clk_sched.specs.Tree.{Tree, end, leaf, node, scheduler, prio, drr}
+use Rattle.clk_packet.specs.Scheduler.{prio, drr}
+use Rattle.clk_sched.specs.Tree.{Tree, end, leaf, node, scheduler}
 use Rattle.clk_sched.specs.Log.{asking}
 use Rattle.clk_packet.specs.Packets.{packet}
 use Rattle.clk_sched.specs.Examples.{look}

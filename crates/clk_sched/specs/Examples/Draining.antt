@@ -3,7 +3,8 @@ use Rattle.std.specs.Prelude.{◌≡◌, ℕ, ◌+◌, List, [], ◌∷◌, ◌+
 use Rattle.std.specs.List.{range_with_len}
 use Rattle.clk_packet.specs.declared.packet.Packet.{Packet}
 use Rattle.clk_sched.specs.declared.visit.Visit.{Visit}
-use Rattle.clk_sched.specs.Tree.{Tree, end, leaf, scheduler, prio}
+use Rattle.clk_packet.specs.Scheduler.{prio}
+use Rattle.clk_sched.specs.Tree.{Tree, end, leaf, scheduler}
 use Rattle.clk_sched.specs.Log.{asking, moment_of}
 use Rattle.clk_sched.specs.Session.{Progress}
 use Rattle.clk_sched.specs.Examples.Priority.{p0_0, p1_0}

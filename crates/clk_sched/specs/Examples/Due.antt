@@ -5,7 +5,8 @@ use Rattle.clk_packet.specs.Packets.{packet}
 use Rattle.clk_packet.specs.declared.packet.Packet.{Packet}
 use Rattle.clk_sched.specs.declared.visit.Visit.{Visit}
 use Rattle.clk_sched.specs.Log.{asking}
-use Rattle.clk_sched.specs.Tree.{Tree, end, leaf, node, scheduler, prio, shaper}
+use Rattle.clk_packet.specs.Scheduler.{prio, shaper}
+use Rattle.clk_sched.specs.Tree.{Tree, end, leaf, node, scheduler}
 
 -- no queue is backlogged
 abbrev pub none : ℕ → Bool

@@ -1,6 +1,7 @@
 -- The largest tree that a session may have, and a larger one.
 use Rattle.std.specs.Prelude.{ℕ, suc, zero}
-use Rattle.clk_sched.specs.Tree.{Tree, Row, end, leaf, node, scheduler, prio}
+use Rattle.clk_packet.specs.Scheduler.{prio}
+use Rattle.clk_sched.specs.Tree.{Tree, Row, end, leaf, node, scheduler}
 
 -- `count` queues, numbered from `from` on, before a row
 abbrev queues : (count from : ℕ) → Row → Row

@@ -2,7 +2,8 @@
 use Rattle.std.specs.Prelude.{List, [], ◌∷◌, Some, None}
 use Rattle.std.proofs.Common.{lit≤}
 use Rattle.clk_sched.specs.declared.visit.Visit.{Visit}
-use Rattle.clk_sched.specs.Tree.{Tree, end, leaf, scheduler, round_robin}
+use Rattle.clk_packet.specs.Scheduler.{round_robin}
+use Rattle.clk_sched.specs.Tree.{Tree, end, leaf, scheduler}
 use Rattle.clk_sched.specs.Log.{asking}
 use Rattle.clk_packet.specs.Packets.{packet}
 use Rattle.clk_packet.specs.declared.packet.Packet.{Packet}

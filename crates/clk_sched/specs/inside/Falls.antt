@@ -3,7 +3,7 @@ use Rattle.std.specs.Prelude.{◌+◌, ◌≤◌, max, List, [], ◌∷◌}
 use Rattle.std.proofs.Common.{arith}
 use denote.Param.Weighed.{most}
 use Rattle.clk_sched.specs.declared.tree.Node.{Node}
-use Rattle.clk_sched.specs.declared.tree.Node.TheVariants.{Leaf, Scheduler}
+use Rattle.clk_sched.specs.declared.tree.Node.TheVariants.{Leaf, Inner}
 use Rattle.clk_sched.specs.declared.tree.Tree.TheDeep.{deep-Node}
 use Rattle.clk_sched.specs.Tree.{Tree, queue, scheduler, height}
 use Rattle.clk_sched.specs.Built.{row, levels}
@@ -16,4 +16,4 @@ most_le-height-row (scheduler class inputs ∷ trees) = omega (arith, most_le-he
 
 pub depth_le-levels : (n : Node) → max (deep-Node n) 0 ≤ levels (kept n)
 depth_le-levels (Leaf q) = omega arith
-depth_le-levels (Scheduler c children) = omega (arith, most_le-height-row children.items)
+depth_le-levels (Inner c children) = omega (arith, most_le-height-row children.items)

@@ -2,11 +2,12 @@
 use Rattle.std.specs.Prelude.{◌≡◌, ℕ, ◌+◌, ◌≤◌, List, [], ◌∷◌, ◌++◌, length, map, suc, ⊤}
 use Rattle.clk_packet.specs.Limits.{most_inputs}
 use Rattle.clk_sched.specs.declared.session.inputs.Input.{Input}
-use Rattle.clk_sched.specs.declared.session.inputs.Input.TheVariants.{Queue, Scheduler}
+use Rattle.clk_sched.specs.declared.session.inputs.Input.TheVariants.{Queue, Node}
 use Rattle.clk_sched.specs.declared.session.inputs.Inputs.{Inputs}
 use Rattle.clk_sched.specs.declared.session.layout.Tables.{Tables}
 use Rattle.clk_sched.specs.declared.session.state.State.{State}
-use Rattle.clk_sched.specs.Tree.{Class, Row, end, leaf, node, Tree, queue, scheduler, nodes, width, HasArguments}
+use Rattle.clk_packet.specs.Scheduler.{Scheduler, HasArguments}
+use Rattle.clk_sched.specs.Tree.{Row, end, leaf, node, Tree, queue, scheduler, nodes, width}
 use Rattle.clk_sched.specs.inside.Places.{inputs_of}
 use Rattle.clk_sched.specs.Session.{elements}
 use Rattle.clk_sched.specs.inside.Holds.OfClass.{Holds}
@@ -24,7 +25,7 @@ nodes_of (scheduler class inputs) = suc (nodes inputs)
 -- what stands at an input for a tree whose schedulers are numbered from `next` on
 abbrev pub input_of : ℕ → Tree → Input
 input_of next (queue q) = Queue q
-input_of next (scheduler class inputs) = Scheduler next
+input_of next (scheduler class inputs) = Node next
 
 -- What a table says of a node: what stands at its inputs, and how many edges there are from it and below.
 abbrev pub Entry : Type 0
@@ -50,7 +51,7 @@ entries_of next (scheduler class inputs) = entry_over next inputs ∷ entries (s
 
 -- the class of a node, and how many inputs it has
 abbrev pub Kind : Type 0
-Kind = Class × ℕ
+Kind = Scheduler × ℕ
 
 -- the kinds of the schedulers of a row, by number
 abbrev pub kinds : Row → List Kind
@@ -78,11 +79,11 @@ pub record Adds (old new : Tables) (more : List Entry) (added : List Kind) : Typ
 -- A node that holds this was added to tables, with those below it: it stands over a row.
 abbrev pub AddsNode : Tables → Tables → State → Row → Type 0
 AddsNode old new state row =
-    (class : Class) → Holds class (width row) [] state
+    (class : Scheduler) → Holds class (width row) [] state
     → Adds old new (entry_over (length old.inputs.items) row ∷ entries (suc (length old.inputs.items)) row) ((class, width row) ∷ kinds row)
 
 -- the arguments of a class are those of a scheduler over some inputs
-pub record FitsInputs (class : Class) : Type 0 where
+pub record FitsInputs (class : Scheduler) : Type 0 where
   pub inputs : ℕ
   pub some : 1 ≤ inputs
   pub few : inputs ≤ most_inputs

@@ -4,7 +4,7 @@ use Rattle.std.specs.List.{AllByRecursion}
 use Rattle.clk_packet.specs.Limits.{most_inputs}
 use Rattle.clk_sched.specs.declared.visit.Visit.{Visit}
 use Rattle.clk_sched.specs.declared.session.inputs.Input.{Input}
-use Rattle.clk_sched.specs.declared.session.inputs.Input.TheVariants.{Queue, Scheduler}
+use Rattle.clk_sched.specs.declared.session.inputs.Input.TheVariants.{Queue, Node}
 use Rattle.clk_sched.specs.declared.session.inputs.Inputs.{Inputs}
 use Rattle.clk_sched.specs.declared.session.state.State.{State}
 use Rattle.clk_sched.specs.Tree.{Row, end, leaf, node, nodes}
@@ -14,7 +14,7 @@ use Rattle.clk_sched.specs.inside.Holds.OfClass.{Fits}
 abbrev pub inputs_of : ℕ → Row → List Input
 inputs_of next end = []
 inputs_of next (leaf q row) = Queue q ∷ inputs_of next row
-inputs_of next (node class inputs row) = Scheduler next ∷ inputs_of (suc (next + nodes inputs)) row
+inputs_of next (node class inputs row) = Node next ∷ inputs_of (suc (next + nodes inputs)) row
 
 -- the inputs of a node are those of a row
 abbrev pub HasInputs : List Inputs → ℕ → Row → Type 0
@@ -43,7 +43,7 @@ edges_of table x = option_edges (slice_get table x)
 -- the edge to what stands at an input, and those below that
 abbrev pub edges_to : List Inputs → Input → ℕ
 edges_to table (Queue q) = 1
-edges_to table (Scheduler m) = suc (edges_of table m)
+edges_to table (Node m) = suc (edges_of table m)
 
 abbrev pub edges_to_all : List Inputs → List Input → ℕ
 edges_to_all table [] = 0
@@ -73,7 +73,7 @@ edges_in table x (i ∷ order) = edges_at table x i + edges_in table x order
 -- a scheduler stands in the table, after the node that it is below
 abbrev pub IsAfter : ℕ → ℕ → Input → Type 0
 IsAfter size x (Queue q) = ⊤
-IsAfter size x (Scheduler m) = (x < m) × (m < size)
+IsAfter size x (Node m) = (x < m) × (m < size)
 
 -- Each node of a table has schedulers after it at its inputs, and tells how many edges there are from it and below.
 pub record IsWired (table : List Inputs) (x : ℕ) (p : Inputs) : Type 0 where
@@ -93,7 +93,7 @@ pub record AllFit (table : List Inputs) (states : List State) : Type 0 where
 abbrev pub queue_of : Option Input → Option ℕ
 queue_of None = None
 queue_of (Some (Queue q)) = Some q
-queue_of (Some (Scheduler m)) = None
+queue_of (Some (Node m)) = None
 
 -- the queue that a visit asked, if it asked one
 abbrev pub queue_asked : List Inputs → Visit → Option ℕ

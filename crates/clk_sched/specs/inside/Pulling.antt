@@ -6,7 +6,8 @@ use Rattle.clk_sched.specs.declared.visit.Visit.{Visit}
 use Rattle.clk_sched.specs.declared.session.state.State.{State}
 use Rattle.clk_sched.specs.declared.session.nodes.Nodes.{Nodes}
 use Rattle.clk_sched.specs.Limits.{end_of_moments}
-use Rattle.clk_sched.specs.Tree.{Class, Row, end, leaf, node, nodes, width}
+use Rattle.clk_packet.specs.Scheduler.{Scheduler}
+use Rattle.clk_sched.specs.Tree.{Row, end, leaf, node, nodes, width}
 use Rattle.clk_sched.specs.Turns.{Turn}
 use Rattle.clk_sched.specs.Laws.{AllowsTurn}
 use Rattle.clk_sched.specs.Log.{visits_of, result_of, asking}
@@ -45,7 +46,7 @@ EachHolds states history next (node class inputs row) =
     × EachHolds states history (suc (next + nodes inputs)) row
 
 -- a node and the schedulers of the row below it hold what their histories say
-pub record NodeHolds (states : List State) (history : History) (x : ℕ) (class : Class) (row : Row) : Type 0 where
+pub record NodeHolds (states : List State) (history : History) (x : ℕ) (class : Scheduler) (row : Row) : Type 0 where
   pub here : MatchOption (slice_get states x) ⊥ (Holds class (width row) (history x))
   pub below : EachHolds states history (suc x) row
 
@@ -73,7 +74,7 @@ pub record IsVisitAt (now : Now) (x : ℕ) (v : Visit) : Type 0 where
 
 -- These visits are the block of a scheduler that was pulled, and this its result: its own visits, which its law allows, each after what it
 -- asked. `Below` says what a visit to an input may have asked for, and got.
-pub record IsBlockOf (Below : ℕ → List Visit → Option Packet → Type 0) (now : Now) (x : ℕ) (class : Class) (inputs : ℕ) (turns : List Turn) (visits : List Visit) (got : Option Packet) : Type 0 where
+pub record IsBlockOf (Below : ℕ → List Visit → Option Packet → Type 0) (now : Now) (x : ℕ) (class : Scheduler) (inputs : ℕ) (turns : List Turn) (visits : List Visit) (got : Option Packet) : Type 0 where
   pub own : List Visit
   pub made : ℕ → List Visit
   pub whole : visits ≡ with_asked made own
@@ -93,7 +94,7 @@ IsAskedAt now history next (node class inputs row) zero visits got =
 IsAskedAt now history next (node class inputs row) (suc i) visits got = IsAskedAt now history (suc (next + nodes inputs)) row i visits got
 
 -- the block of node x
-abbrev pub IsBlock : Now → History → ℕ → Class → Row → List Visit → Option Packet → Type 0
+abbrev pub IsBlock : Now → History → ℕ → Scheduler → Row → List Visit → Option Packet → Type 0
 IsBlock now history x class row visits got = IsBlockOf (IsAskedAt now history (suc x) row) now x class (width row) (history x) visits got
 
 -- Node x, over a row, is being pulled. It has made its own visits, each after what it asked. What is below it holds what it is to hold
@@ -136,14 +137,14 @@ abbrev pub SameOutside : Nodes → Nodes → ℕ → Row → Type 0
 SameOutside old new x row = (y : ℕ) → (y < x) ⊎ (suc (x + nodes row) ≤ y) → slice_get new.states.items y ≡ slice_get old.states.items y
 
 -- A node was pulled.
-pub record HasPulled (old new : Nodes) (history : History) (x : ℕ) (class : Class) (row : Row) (got : Option Packet) : Type 0 where
+pub record HasPulled (old new : Nodes) (history : History) (x : ℕ) (class : Scheduler) (row : Row) (got : Option Packet) : Type 0 where
   pub block : IsBlock (now_of old) history x class row (added old new) got
   pub holds : NodeHolds new.states.items (after history old.moment (added old new)) x class row
   pub outside : SameOutside old new x row
 
 abbrev pub Pulls : Nodes → Nodes → ℕ → Option Packet → Type 0
 Pulls old new x got =
-    (class : Class) (row : Row) (history : History) → StandsIn old.inputs.items x row → NodeHolds old.states.items history x class row → ((y : ℕ) → AreBefore old.moment (history y))
+    (class : Scheduler) (row : Row) (history : History) → StandsIn old.inputs.items x row → NodeHolds old.states.items history x class row → ((y : ℕ) → AreBefore old.moment (history y))
     → HasPulled old new history x class row got
 
 -- the states of a node and of those outside it are the same
@@ -188,7 +189,7 @@ asked_in_order now x order None = asked_in_vain now x order
 asked_in_order now x order (Some r) = asked_in_vain now x (take r.0 order) ++ asking now.number now.moment x (slice_index order r.0) (Some r.1) ∷ []
 
 -- A scheduler had its turn, but this says nothing of what it holds itself.
-pub record HasTurned (old new : Nodes) (history : History) (x : ℕ) (class : Class) (row : Row) (got : Option Packet) : Type 0 where
+pub record HasTurned (old new : Nodes) (history : History) (x : ℕ) (class : Scheduler) (row : Row) (got : Option Packet) : Type 0 where
   pub block : IsBlock (now_of old) history x class row (added old new) got
   pub holds : EachHolds new.states.items (after history old.moment (added old new)) (suc x) row
   pub outside : SameButBelow old new x row
@@ -200,11 +201,11 @@ pub record IsReady (n : Nodes) (history : History) (x : ℕ) (row : Row) : Type 
   pub holds : EachHolds n.states.items history (suc x) row
 
 -- A scheduler of a class had its turn, and what it holds itself follows.
-pub record TurnIsTaken (old new : Nodes) (history : History) (x : ℕ) (class : Class) (row : Row) (now : State) (got : Option Packet) : Type 0 where
+pub record TurnIsTaken (old new : Nodes) (history : History) (x : ℕ) (class : Scheduler) (row : Row) (now : State) (got : Option Packet) : Type 0 where
   pub turned : HasTurned old new history x class row got
   pub holds : Holds class (width row) (after history old.moment (added old new) x) now
 
 -- The scheduler at a node, if it is of this class, takes its turn by one state and holds another after it.
-abbrev pub TakesTurn : Nodes → Nodes → ℕ → Class → State → State → Option Packet → Type 0
+abbrev pub TakesTurn : Nodes → Nodes → ℕ → Scheduler → State → State → Option Packet → Type 0
 TakesTurn old new x class before now got =
     (row : Row) (history : History) → IsReady old history x row → Holds class (width row) (history x) before → TurnIsTaken old new history x class row now got

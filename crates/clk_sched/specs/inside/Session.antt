@@ -2,7 +2,8 @@
 use Rattle.std.specs.Prelude.{◌≡◌, List, [], ◌∷◌, length, reverse, suc}
 use Rattle.clk_sched.specs.declared.visit.Visit.{Visit}
 use Rattle.clk_sched.specs.declared.session.nodes.Nodes.{Nodes}
-use Rattle.clk_sched.specs.Tree.{prio, Tree, root, nodes}
+use Rattle.clk_packet.specs.Scheduler.{prio}
+use Rattle.clk_sched.specs.Tree.{Tree, root, nodes}
 use Rattle.clk_sched.specs.Log.{visits_of, pulls, moment_of}
 use Rattle.clk_sched.specs.Run.{IsRun}
 use Rattle.clk_sched.specs.inside.Places.{StandsIn, AreWired, AllFit}

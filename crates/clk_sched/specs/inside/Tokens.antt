@@ -1,7 +1,7 @@
 -- The tokens of a Shaper, whose bucket stands in its place.
 use Rattle.std.specs.Prelude.{◌≡◌, ℕ, zero, suc, ◌+◌, ◌-◌, ◌≤◌, Bool, true, List, Option, Some, MatchBool, MatchOption, slice_get}
 use Rattle.clk_packet.specs.declared.packet.Packet.{Packet}
-use Rattle.clk_sched.specs.declared.session.inputs.Input.TheVariants.{Scheduler}
+use Rattle.clk_sched.specs.declared.session.inputs.Input.TheVariants.{Node}
 use Rattle.clk_sched.specs.declared.session.inputs.Inputs.{Inputs}
 use Rattle.clk_sched.specs.declared.session.state.State.TheVariants.{Shaper}
 use Rattle.clk_sched.specs.declared.session.shaper.Bucket.{Bucket}
@@ -44,7 +44,7 @@ AnswersUp old new last (suc k) got = (m : Nodes) × AnswersUp old m last k got �
 
 -- Node y is the first of a row of Shapers, which is x, or stands at the input of the node before it.
 abbrev pub IsBelow : List Inputs → ℕ → ℕ → Type 0
-IsBelow table x y = (above : ℕ) → y ≡ suc above → x ≤ above → input_at table above 0 ≡ Some (Scheduler y)
+IsBelow table x y = (above : ℕ) → y ≡ suc above → x ≤ above → input_at table above 0 ≡ Some (Node y)
 
 -- A node that could be pulled spent a token.
 pub record SpendsAt (old new : Nodes) (x : ℕ) : Type 0 where

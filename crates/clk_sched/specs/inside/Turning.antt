@@ -6,7 +6,7 @@ use Rattle.clk_sched.specs.declared.session.state.State.{State}
 use Rattle.clk_sched.specs.declared.session.inputs.Input.TheVariants.{Queue}
 use Rattle.clk_sched.specs.declared.session.inputs.Inputs.{Inputs}
 use Rattle.clk_sched.specs.declared.session.nodes.Nodes.{Nodes}
-use Rattle.clk_sched.specs.Tree.{Class}
+use Rattle.clk_packet.specs.Scheduler.{Scheduler}
 use Rattle.clk_sched.specs.inside.Holds.OfClass.{Fits}
 use Rattle.clk_sched.specs.Log.{asking}
 use Rattle.clk_sched.specs.Answers.{Answers}
@@ -34,7 +34,7 @@ pub record HadTurn {S : Type 0} (gives : S → ℕ → Option Packet → S → T
   pub keeps : Keeps old new (edges_of old.inputs.items x)
   pub answers : Answers gives (queue_asked old.inputs.items) before (added old new) now
   pub fits : IfSome (slice_get old.inputs.items x) (λ p. Fits holds (length p.each.items))
-  pub turn : (class : Class) → TakesTurn old new x class held holds got
+  pub turn : (class : Scheduler) → TakesTurn old new x class held holds got
 
 -- At an input of a node stands a queue that may give nothing, and then stays as it is.
 pub record IsIdle {S : Type 0} (gives : S → ℕ → Option Packet → S → Type 0) (n : Nodes) (q : S) (x i : ℕ) : Type 0 where

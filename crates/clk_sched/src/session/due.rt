@@ -69,7 +69,7 @@ impl Nodes {
     {
         match input {
             Input::Queue(leaf) => self.due_if(queues.is_backlogged(*leaf)),
-            Input::Scheduler(below) => self.due_at(queues, *below),
+            Input::Node(below) => self.due_at(queues, *below),
         }
     }
 

@@ -8,7 +8,7 @@ ghost use Rattle.clk_sched.specs.inside.QueuesFrom.{AreQueuesFrom};
 #[derive(Clone, Copy, Debug, PartialEq, Eq)]
 pub enum Input {
     Queue(u16),
-    Scheduler(u16),
+    Node(u16),
 }
 
 impl Input {
@@ -21,7 +21,7 @@ impl Input {
     {
         match self {
             Input::Queue(queue) => usize::from(queue) == leaf,
-            Input::Scheduler(_) => false,
+            Input::Node(_) => false,
         }
     }
 }

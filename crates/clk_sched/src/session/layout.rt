@@ -2,11 +2,12 @@
 
 ghost use Rattle.std.specs.Prelude.{◌≡◌, ℕ, ◌+◌, ◌≤◌, ◌<◌, true, [], ◌++◌, length, MatchOption, IfOk, IfErr};
 ghost use Rattle.clk_packet.specs.Limits.{most_elements};
-ghost use Rattle.clk_sched.specs.Tree.{root, HasArguments};
+ghost use Rattle.clk_packet.specs.Scheduler.{HasArguments};
+ghost use Rattle.clk_sched.specs.Tree.{root};
 ghost use Rattle.clk_sched.specs.Built.{row};
 ghost use Rattle.clk_sched.specs.LaidOut.{IsRefused};
 ghost use Rattle.clk_sched.specs.Session.{elements};
-ghost use Rattle.clk_sched.specs.inside.Kept.{class_of};
+ghost use Rattle.clk_packet.specs.Scheduler.{scheduler_view};
 ghost use Rattle.clk_sched.specs.inside.Logged.{kind_made};
 ghost use Rattle.clk_sched.specs.inside.Places.{edges_of, inputs_of};
 ghost use Rattle.clk_sched.specs.inside.Holds.OfClass.{Holds};
@@ -23,8 +24,8 @@ use crate::session::round_robin::Beginning;
 use crate::session::shaper::Bucket;
 use crate::session::state::State;
 use crate::session::stride::Passes;
-use crate::tree::{Class, Node, Tree};
-use clk_packet::{Fault, MAX_ELEMENTS};
+use crate::tree::{Node, Tree};
+use clk_packet::{Fault, MAX_ELEMENTS, Scheduler};
 use std::alloc::{AllocError, Global};
 use std::slice;
 
@@ -76,7 +77,7 @@ fn room_after(tree: &Tree, room: u16) -> Option<u16>
     let left = room.checked_sub(1)?;
     match &tree.node {
         Node::Leaf(_) => Some(left),
-        Node::Scheduler(_, inputs) => room_after_each(inputs, left),
+        Node::Inner(_, inputs) => room_after_each(inputs, left),
     }
 }
 
@@ -101,26 +102,29 @@ fn lay(alloc: Global, tables: &mut Tables, tree: &Tree) -> Result<(Input, u16), 
 {
     match &tree.node {
         Node::Leaf(q) => Ok((Input::Queue(*q), 1)),
-        Node::Scheduler(class, inputs) => {
+        Node::Inner(scheduler, inputs) => {
             let number = tables.inputs.len() as u16;
-            let state = first_state(alloc, class)?;
+            let state = first_state(alloc, scheduler)?;
             let edges = lay_node(alloc, tables, state, inputs)?;
-            Ok((Input::Scheduler(number), 1 + edges))
+            Ok((Input::Node(number), 1 + edges))
         }
     }
 }
 
-/// What a scheduler of a class holds before its first pull.
-fn first_state(alloc: Global, class: &Class) -> Result<State, AllocError>
-    requires { FitsInputs (class_of class.now) }
-    ensures { IfOk result (λ state. (inputs : ℕ) → HasArguments (class_of class.now) inputs → Holds (class_of class.now) inputs [] state) }
+/// What a scheduler holds before its first pull.
+fn first_state(alloc: Global, scheduler: &Scheduler) -> Result<State, AllocError>
+    requires { FitsInputs (scheduler_view scheduler.now) }
+    ensures { IfOk result (λ state. (inputs : ℕ) → HasArguments (scheduler_view scheduler.now) inputs → Holds (scheduler_view scheduler.now) inputs [] state) }
 {
-    match class {
-        Class::Prio => Ok(State::Prio),
-        Class::RoundRobin => Ok(State::RoundRobin(Beginning { input: 0 })),
-        Class::Drr(quanta) => Ok(State::Drr(Box::new(alloc, Deficits::new(alloc, quanta)?)?)),
-        Class::Stride(tickets) => Ok(State::Stride(Box::new(alloc, Passes::new(alloc, tickets)?)?)),
-        Class::Shaper(rate, burst) => Ok(State::Shaper(Bucket::new(*rate, *burst))),
+    match scheduler {
+        Scheduler::Prio => Ok(State::Prio),
+        Scheduler::RoundRobin => Ok(State::RoundRobin(Beginning { input: 0 })),
+        Scheduler::Drr(quanta) => Ok(State::Drr(Box::new(alloc, Deficits::new(alloc, quanta)?)?)),
+        Scheduler::Stride(tickets) => Ok(State::Stride(Box::new(
+            alloc,
+            Passes::new(alloc, tickets)?,
+        )?)),
+        Scheduler::Shaper(rate, burst) => Ok(State::Shaper(Bucket::new(*rate, *burst))),
     }
 }
 

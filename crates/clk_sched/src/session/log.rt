@@ -167,6 +167,20 @@ impl Log {
         requires within { idle.now.first + idle.now.count < 2 ^ 16 }
         ensures { self.new ≡ with_idle self.old idle.now }
     {
+        if self.keeps_any {
+            self.push_idle_kept(idle);
+        } else {
+            self.all.push_idle(idle);
+        }
+    }
+
+    // Adds the visits of inputs that gave nothing to what is kept. A call of its own, as `push_kept` is.
+    #[inline(never)]
+    fn push_idle_kept(&mut self, idle: &IdleInputs)
+        requires room { idle.now.count ≤ self.old.spare }
+        requires within { idle.now.first + idle.now.count < 2 ^ 16 }
+        ensures { self.new ≡ with_idle self.old idle.now }
+    {
         if self.keeps {
             keep_idle(&mut self.kept, idle);
         }

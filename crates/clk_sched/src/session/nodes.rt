@@ -291,7 +291,7 @@ impl Nodes {
     {
         match self.inputs[node as usize].each[input as usize] {
             Input::Queue(leaf) => q.ask(leaf),
-            Input::Scheduler(child) => self.pull(q, child),
+            Input::Node(child) => self.pull(q, child),
         }
     }
 }

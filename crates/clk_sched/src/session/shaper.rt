@@ -32,7 +32,7 @@ impl Bucket {
     ghost use Rattle.clk_sched.specs.Laws.Shaper.{has_room};
     ghost use Rattle.clk_sched.specs.Due.{IsDue};
     ghost use Rattle.clk_sched.specs.inside.Holds.Shaper.{AreBefore, HoldsBucket, IsTaken, IsGivenBack, tokens_at};
-    ghost use Rattle.clk_sched.specs.declared.session.inputs.Input.TheVariants.{Scheduler};
+    ghost use Rattle.clk_sched.specs.declared.session.inputs.Input.TheVariants.{Node};
     ghost use Rattle.clk_sched.specs.inside.Holds.OfClass.{IsShaper};
     ghost use Rattle.clk_sched.specs.inside.Places.{AllFit, edges_of, edges_at, input_at};
     ghost use Rattle.clk_sched.specs.inside.Pulling.{CanPull};
@@ -147,12 +147,12 @@ impl Bucket {
         requires can_pull { CanPull nodes.now node (edges_at nodes.now.inputs.items node 0) }
         requires within { IsSome (input_at nodes.now.inputs.items node 0) }
         ensures fits { result ≡ true → node + 1 < 2 ^ 16 }
-        ensures stands { result ≡ true → input_at nodes.now.inputs.items node 0 ≡ Some (Scheduler (node + 1)) }
+        ensures stands { result ≡ true → input_at nodes.now.inputs.items node 0 ≡ Some (Node (node + 1)) }
         ensures holds { result ≡ true → IfSome (slice_get nodes.now.states.items (node + 1)) IsShaper }
     {
         match nodes.inputs[node as usize].each[0] {
             Input::Queue(_) => false,
-            Input::Scheduler(below) => {
+            Input::Node(below) => {
                 below - node == 1 && matches!(nodes.states[below as usize], State::Shaper(_))
             }
         }

@@ -1,12 +1,13 @@
 //! How many pulls a drain of a tree makes at most.
 
 ghost use Rattle.std.specs.Prelude.{◌≡◌, ◌+◌, ◌*◌, ◌<◌, ◌≤◌, ◌^◌, ℕ};
+ghost use Rattle.clk_packet.specs.Scheduler.{scheduler_view};
 ghost use Rattle.clk_sched.specs.Tree.{root, IsSound};
 ghost use Rattle.clk_sched.specs.Built.{row};
-ghost use Rattle.clk_sched.specs.Bound.{lesser, least, least_quantum};
+ghost use Rattle.clk_sched.specs.Bound.{lesser, least, least_quantum, quanta_of};
 
-use super::{Class, Node, Tree};
-use clk_packet::MAX_LENGTH;
+use super::{Node, Tree};
+use clk_packet::{MAX_LENGTH, Scheduler};
 
 impl Tree {
     ghost use Rattle.clk_sched.specs.Bound.{rounds, closing_bound};
@@ -61,8 +62,8 @@ impl Tree {
     {
         match &self.node {
             Node::Leaf(_) => None,
-            Node::Scheduler(class, inputs) => {
-                let own = class.least_quantum();
+            Node::Inner(scheduler, inputs) => {
+                let own = own_least(scheduler);
                 lesser(own, least_quantum(inputs))
             }
         }
@@ -81,18 +82,13 @@ fn least_quantum(trees: &[Tree]) -> Option<u32>
     lesser(least, least_quantum(rest))
 }
 
-impl Class {
-    ghost use Rattle.clk_sched.specs.Bound.{quanta_of};
-    ghost use Rattle.clk_sched.specs.inside.Kept.{class_of};
-
-    // The least quantum of a DRRSched; other classes have none.
-    fn least_quantum(&self) -> Option<u32>
-        ensures { result ≡ least (quanta_of (class_of self.now)) }
-    {
-        match self {
-            Class::Drr(quanta) => least(quanta),
-            _ => None,
-        }
+// The least quantum of a DRRSched; other schedulers have none.
+fn own_least(scheduler: &Scheduler) -> Option<u32>
+    ensures { result ≡ least (quanta_of (scheduler_view scheduler.now)) }
+{
+    match scheduler {
+        Scheduler::Drr(quanta) => least(quanta),
+        _ => None,
     }
 }
 

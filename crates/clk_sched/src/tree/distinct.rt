@@ -37,7 +37,7 @@ impl Tree {
                 marks[place] = true;
                 is_new
             }
-            Node::Scheduler(_, inputs) => mark(inputs, marks),
+            Node::Inner(_, inputs) => mark(inputs, marks),
         }
     }
 }

@@ -3,11 +3,14 @@
 ghost use Rattle.std.specs.Prelude.{◌≡◌, ◌+◌, ◌≤◌, true};
 ghost use Rattle.clk_packet.specs.Limits.{most_levels};
 ghost use Rattle.clk_packet.specs.Lists.{are_distinct};
+ghost use Rattle.clk_packet.specs.Scheduler.{scheduler_view};
 ghost use Rattle.clk_sched.specs.Tree.{height, leaves};
 ghost use Rattle.clk_sched.specs.Built.{row};
+ghost use Rattle.clk_sched.specs.FewHeads.{most_heads};
 ghost use Rattle.clk_sched.specs.inside.Drrs.{HasPlaces, IsCounted};
 
-use super::{Class, Node, Tree};
+use super::{Node, Tree};
+use clk_packet::Scheduler;
 
 impl Tree {
     ghost use Rattle.std.specs.Prelude.{◌<◌, ℕ, false, length, slice_index};
@@ -40,9 +43,9 @@ impl Tree {
     {
         match &self.node {
             Node::Leaf(q) => counts[usize::from(*q)] = above,
-            Node::Scheduler(class, inputs) => count_below(
+            Node::Inner(scheduler, inputs) => count_below(
                 inputs,
-                above + class.most_heads(),
+                above + most_heads(scheduler),
                 counts,
             ),
         }
@@ -64,18 +67,13 @@ fn count_below(trees: &[Tree], above: u32, counts: &mut [u32])
     count_below(rest, above, counts);
 }
 
-impl Class {
-    ghost use Rattle.clk_sched.specs.FewHeads.{most_heads};
-    ghost use Rattle.clk_sched.specs.inside.Kept.{class_of};
-
-    // How many packets of one queue a scheduler holds as heads at most: one if it is a DRRSched.
-    fn most_heads(&self) -> u32
-        ensures heads { result ≡ most_heads (class_of self.now) }
-        ensures one { result ≤ 1 }
-    {
-        match self {
-            Class::Drr(_) => 1,
-            _ => 0,
-        }
+// How many packets of one queue a scheduler holds as heads at most: one if it is a DRRSched.
+fn most_heads(scheduler: &Scheduler) -> u32
+    ensures heads { result ≡ most_heads (scheduler_view scheduler.now) }
+    ensures one { result ≤ 1 }
+{
+    match scheduler {
+        Scheduler::Drr(_) => 1,
+        _ => 0,
     }
 }

@@ -1,14 +1,17 @@
 -- How many numbers a class has for its inputs.
 use Rattle.std.proofs.Common.{◌≡◌, ℕ, ◌+◌, ◌≤◌, List, [], ◌∷◌, map, length, Option, Some, None, refl, ap, arith}
-use Rattle.std.specs.Option.{option_map}
+use Rattle.std.specs.Option.{option_map, option_and_then}
 use Rattle.std.proofs.lemmas.List.{length-map}
-use Rattle.clk_packet.specs.Limits.{most_sender, most_capacity, most_quantum, most_tickets, most_rate, most_burst}
+use Rattle.clk_packet.specs.Limits.{most_sender, most_capacity}
 use Rattle.clk_packet.specs.Numbers.{number_in}
 use Rattle.clk_packet.specs.declared.packet.Kind.TheVariants.{TailDrop, FrontDrop}
 use Rattle.clk_syntax.specs.declared.naming.class.ClassName.{ClassName}
 use Rattle.clk_syntax.specs.declared.naming.class.ClassName.TheVariants as named
-use Rattle.clk_syntax.specs.Limits.{default_capacity, default_quantum}
-use Rattle.clk_syntax.specs.Classes.{Class, sender, queue, prio, round_robin, shaper, drr, stride, device, and_then, class_named, class_with, numbers_in, numbers_to, shaper_of}
+use Rattle.clk_syntax.specs.Limits.{default_capacity}
+use Rattle.clk_packet.specs.declared.scheduler.SchedulerName.{SchedulerName}
+use Rattle.clk_packet.specs.Scheduler.{Scheduler, most_argument, scheduler_with}
+use Rattle.clk_packet.proofs.Callers.Schedulers.{IsGiven, given}
+use Rattle.clk_syntax.specs.Classes.{Class, sender, queue, scheduler, device, and_then, class_named, class_with, numbers_in, numbers_to}
 use Rattle.clk_syntax.specs.Source.{Declared, letters}
 use Rattle.clk_syntax.specs.Declarations.{class_if, class_in}
 
@@ -21,16 +24,6 @@ numbers-length most (word ∷ words) numbers e = by_case (number_in 1 most word)
     by_case (Some n) None known e = absurd (cc)
     by_case (Some n) (Some ns) known e = let same : n ∷ ns ≡ numbers = cc in omega (arith, ap length same, known ns refl)
 
-numbers-width : (f : List ℕ → Class) (most : ℕ) (words : List (List ℕ)) (class : Class) → ((ns : List ℕ) → numbers_in (f ns) ≡ ns) → option_map f (numbers_to most words) ≡ Some class
-    → length (numbers_in class) ≤ length words + 1
-numbers-width f most words class kept e = by_case (numbers_to most words) (λ ns h. numbers-length most words ns h) e
-  where
-    by_case : (numbers : Option (List ℕ)) → ((ns : List ℕ) → numbers ≡ Some ns → length ns ≡ length words) → option_map f numbers ≡ Some class → length (numbers_in class) ≤ length words + 1
-    by_case None known e = absurd (cc)
-    by_case (Some ns) known e =
-        let same : f ns ≡ class = cc in
-        omega (arith, ap (λ c. length (numbers_in c)) same, ap length (kept ns), known ns refl)
-
 no-width : (f : ℕ → Class) (number : Option ℕ) (class : Class) → ((n : ℕ) → numbers_in (f n) ≡ []) → option_map f number ≡ Some class → length (numbers_in class) ≤ 1
 no-width f None class none e = absurd (cc)
 no-width f (Some n) class none e = let same : f n ≡ class = cc in omega (arith, ap (λ c. length (numbers_in c)) same, ap length (none n))
@@ -38,10 +31,20 @@ no-width f (Some n) class none e = let same : f n ≡ class = cc in omega (arith
 one-width : (known class : Class) → length (numbers_in known) ≤ 1 → Some known ≡ Some class → length (numbers_in class) ≤ 1
 one-width known class small e = let same : known ≡ class = cc in omega (arith, ap (λ c. length (numbers_in c)) same)
 
-shaper-width : (rate burst : Option ℕ) (class : Class) → shaper_of rate burst ≡ Some class → length (numbers_in class) ≤ 1
-shaper-width None burst class e = absurd (cc)
-shaper-width (Some rate) None class e = absurd (cc)
-shaper-width (Some rate) (Some burst) class e = one-width (shaper rate burst) class (omega arith) e
+-- a scheduler has one argument more than it is given, at most
+scheduler-width : (name : SchedulerName) (words : List (List ℕ)) (class : Class) → class_with (named.Scheduler name) words ≡ Some class → length (numbers_in class) ≤ length words + 1
+scheduler-width name words class e = by_numbers (numbers_to (most_argument name) words) (λ ns h. numbers-length (most_argument name) words ns h) e
+  where
+    by_scheduler : (ns : List ℕ) (o : Option Scheduler) → length ns ≡ length words → ((s : Scheduler) → o ≡ Some s → IsGiven name ns s) → option_map scheduler o ≡ Some class → length (numbers_in class) ≤ length words + 1
+    by_scheduler ns None many is e = absurd (cc)
+    by_scheduler ns (Some s) many is e =
+        let same : scheduler s ≡ class = cc in
+        let few = (is s refl).few in
+        omega (arith, ap (λ c. length (numbers_in c)) same, few, many)
+
+    by_numbers : (o : Option (List ℕ)) → ((ns : List ℕ) → o ≡ Some ns → length ns ≡ length words) → option_map scheduler (option_and_then (scheduler_with name) o) ≡ Some class → length (numbers_in class) ≤ length words + 1
+    by_numbers None many e = absurd (cc)
+    by_numbers (Some ns) many e = by_scheduler ns (scheduler_with name ns) (many ns refl) (λ s is. given name ns s is) e
 
 width : (name : ClassName) (arguments : List (List ℕ)) (class : Class) → class_with name arguments ≡ Some class → length (numbers_in class) ≤ length arguments + 1
 width named.Sender [] class e = absurd (cc)
@@ -53,18 +56,7 @@ width named.Queue (n ∷ m ∷ more) class e = absurd (cc)
 width named.FrontDropQueue [] class e = let small = one-width (queue FrontDrop default_capacity) class (omega arith) e in omega arith
 width named.FrontDropQueue (n ∷ []) class e = let small = no-width (queue FrontDrop) (number_in 1 most_capacity n) class (λ m. refl) e in omega arith
 width named.FrontDropQueue (n ∷ m ∷ more) class e = absurd (cc)
-width named.PrioSched [] class e = let small = one-width prio class (omega arith) e in omega arith
-width named.PrioSched (n ∷ more) class e = absurd (cc)
-width named.RoundRobinSched [] class e = let small = one-width round_robin class (omega arith) e in omega arith
-width named.RoundRobinSched (n ∷ more) class e = absurd (cc)
-width named.DrrSched [] class e = let small = one-width (drr (default_quantum ∷ [])) class (omega arith) e in omega arith
-width named.DrrSched (word ∷ more) class e = numbers-width drr most_quantum (word ∷ more) class (λ ns. refl) e
-width named.StrideSched [] class e = absurd (cc)
-width named.StrideSched (word ∷ more) class e = numbers-width stride most_tickets (word ∷ more) class (λ ns. refl) e
-width named.Shaper [] class e = absurd (cc)
-width named.Shaper (rate ∷ []) class e = let small = shaper-width (number_in 1 most_rate rate) (number_in 1 most_burst rate) class e in omega arith
-width named.Shaper (rate ∷ burst ∷ []) class e = let small = shaper-width (number_in 1 most_rate rate) (number_in 1 most_burst burst) class e in omega arith
-width named.Shaper (rate ∷ burst ∷ n ∷ more) class e = absurd (cc)
+width (named.Scheduler name) words class e = scheduler-width name words class e
 width named.ToDevice [] class e = absurd (cc)
 width named.ToDevice (word ∷ []) class e = let small = one-width (device word) class (omega arith) e in omega arith
 width named.ToDevice (word ∷ n ∷ more) class e = absurd (cc)

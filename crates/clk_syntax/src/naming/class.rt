@@ -1,17 +1,15 @@
 //! The classes of elements.
 
-ghost use Rattle.std.specs.Prelude.{◌≡◌, ℕ, ◌<◌, ◌^◌, List, map, length, IfOk, IsOkUnless};
+ghost use Rattle.std.specs.Prelude.{◌≡◌, ◌<◌, ◌^◌, List, map, length, IfOk, IsOkUnless};
 ghost use Rattle.std.specs.Option.{option_map};
 ghost use Rattle.clk_packet.specs.Numbers.{number_in};
 ghost use Rattle.clk_syntax.specs.Classes.{class_named, class_with, class_view, numbers_to, numbers_in, queue_name, role_of};
 ghost use Rattle.clk_syntax.specs.Source.{letters};
 ghost use Rattle.clk_syntax.specs.Within.{IsWithin, AreWithin};
 
-use crate::limits::{DEFAULT_CAPACITY, DEFAULT_QUANTUM};
+use crate::limits::DEFAULT_CAPACITY;
 use crate::texts::token::Token;
-use clk_packet::{
-    Fault, Kind, MAX_BURST, MAX_CAPACITY, MAX_QUANTUM, MAX_RATE, MAX_SENDER, MAX_TICKETS, number_in,
-};
+use clk_packet::{Fault, Kind, MAX_CAPACITY, MAX_SENDER, Scheduler, SchedulerName, number_in};
 use std::alloc::Global;
 
 /// The name of a class.
@@ -20,11 +18,7 @@ pub enum ClassName {
     Sender,
     Queue,
     FrontDropQueue,
-    PrioSched,
-    RoundRobinSched,
-    DrrSched,
-    StrideSched,
-    Shaper,
+    Scheduler(SchedulerName),
     ToDevice,
 }
 
@@ -35,14 +29,8 @@ pub enum Class {
     Sender(u16),
     /// A queue of this kind, and how many packets it holds at most.
     Queue(Kind, u32),
-    PrioSched,
-    RoundRobinSched,
-    /// The quantum of each input in bytes, or one for all inputs.
-    DrrSched(Vec<u32>),
-    /// The tickets of each input.
-    StrideSched(Vec<u32>),
-    /// The rate in packets a tick, and the burst in packets.
-    Shaper(u32, u32),
+    /// A scheduler. A DRRSched has the quantum of each input, or one for all inputs.
+    Scheduler(Scheduler),
     /// A device, with the word that names it.
     ToDevice(Vec<u8>),
 }
@@ -76,25 +64,11 @@ impl ClassName {
         if word == b"FrontDropQueue".as_slice() {
             return Some(ClassName::FrontDropQueue);
         }
-        if word == b"PrioSched".as_slice() {
-            return Some(ClassName::PrioSched);
-        }
-        if word == b"RoundRobinSched".as_slice() {
-            return Some(ClassName::RoundRobinSched);
-        }
-        if word == b"DRRSched".as_slice() {
-            return Some(ClassName::DrrSched);
-        }
-        if word == b"StrideSched".as_slice() {
-            return Some(ClassName::StrideSched);
-        }
-        if word == b"Shaper".as_slice() {
-            return Some(ClassName::Shaper);
-        }
         if word == b"ToDevice".as_slice() {
             return Some(ClassName::ToDevice);
         }
-        None
+        let name = SchedulerName::named(word)?;
+        Some(ClassName::Scheduler(name))
     }
 }
 
@@ -154,11 +128,7 @@ impl Class {
             ClassName::Sender => Ok(Class::sender(text, arguments)),
             ClassName::Queue => Ok(Class::queue(text, Kind::TailDrop, arguments)),
             ClassName::FrontDropQueue => Ok(Class::queue(text, Kind::FrontDrop, arguments)),
-            ClassName::PrioSched => Ok(Class::prio(arguments)),
-            ClassName::RoundRobinSched => Ok(Class::round_robin(arguments)),
-            ClassName::DrrSched => Class::drr(alloc, text, arguments),
-            ClassName::StrideSched => Class::stride(alloc, text, arguments),
-            ClassName::Shaper => Ok(Class::shaper(text, arguments)),
+            ClassName::Scheduler(name) => Class::scheduler(alloc, text, name, arguments),
             ClassName::ToDevice => Class::device(alloc, text, arguments),
         }
     }
@@ -171,11 +141,7 @@ impl Class {
         match self {
             Class::Sender(number) => Ok(Class::Sender(*number)),
             Class::Queue(kind, capacity) => Ok(Class::Queue(*kind, *capacity)),
-            Class::PrioSched => Ok(Class::PrioSched),
-            Class::RoundRobinSched => Ok(Class::RoundRobinSched),
-            Class::DrrSched(quanta) => Ok(Class::DrrSched(quanta.to_vec(alloc)?)),
-            Class::StrideSched(tickets) => Ok(Class::StrideSched(tickets.to_vec(alloc)?)),
-            Class::Shaper(rate, burst) => Ok(Class::Shaper(*rate, *burst)),
+            Class::Scheduler(scheduler) => Ok(Class::Scheduler(scheduler.copy(alloc)?)),
             Class::ToDevice(word) => Ok(Class::ToDevice(word.to_vec(alloc)?)),
         }
     }
@@ -207,66 +173,23 @@ impl Class {
         }
     }
 
-    fn prio(arguments: &[Token]) -> Option<Class>
-        ensures { (text : List ℕ) → option_map class_view result ≡ class_with ClassName.PrioSched (map (letters text) arguments.now) }
-    {
-        match arguments {
-            [] => Some(Class::PrioSched),
-            _ => None,
-        }
-    }
-
-    fn round_robin(arguments: &[Token]) -> Option<Class>
-        ensures { (text : List ℕ) → option_map class_view result ≡ class_with ClassName.RoundRobinSched (map (letters text) arguments.now) }
-    {
-        match arguments {
-            [] => Some(Class::RoundRobinSched),
-            _ => None,
-        }
-    }
-
-    fn drr(alloc: Global, text: &[u8], arguments: &[Token]) -> Result<Option<Class>, Fault>
+    fn scheduler(
+        alloc: Global,
+        text: &[u8],
+        name: SchedulerName,
+        arguments: &[Token],
+    ) -> Result<Option<Class>, Fault>
         requires { AreWithin (length text.now) arguments.now }
-        ensures class { IfOk result (λ class. option_map class_view class ≡ class_with ClassName.DrrSched (map (letters text.now) arguments.now)) }
+        ensures class { IfOk result (λ class. option_map class_view class ≡ class_with (ClassName.Scheduler name) (map (letters text.now) arguments.now)) }
         ensures fault { IsOkUnless result Fault.Memory }
     {
-        if arguments.is_empty() {
-            let mut quanta = Vec::new(alloc);
-            quanta.push(DEFAULT_QUANTUM)?;
-            return Ok(Some(Class::DrrSched(quanta)));
-        }
-        match numbers_at(alloc, text, arguments, MAX_QUANTUM)? {
-            Some(quanta) => Ok(Some(Class::DrrSched(quanta))),
-            None => Ok(None),
-        }
-    }
-
-    fn stride(alloc: Global, text: &[u8], arguments: &[Token]) -> Result<Option<Class>, Fault>
-        requires { AreWithin (length text.now) arguments.now }
-        ensures class { IfOk result (λ class. option_map class_view class ≡ class_with ClassName.StrideSched (map (letters text.now) arguments.now)) }
-        ensures fault { IsOkUnless result Fault.Memory }
-    {
-        if arguments.is_empty() {
+        let Some(numbers) = numbers_at(alloc, text, arguments, name.most_argument())? else {
             return Ok(None);
-        }
-        match numbers_at(alloc, text, arguments, MAX_TICKETS)? {
-            Some(tickets) => Ok(Some(Class::StrideSched(tickets))),
+        };
+        match Scheduler::with(name, numbers)? {
+            Some(scheduler) => Ok(Some(Class::Scheduler(scheduler))),
             None => Ok(None),
         }
-    }
-
-    fn shaper(text: &[u8], arguments: &[Token]) -> Option<Class>
-        requires { AreWithin (length text.now) arguments.now }
-        ensures { option_map class_view result ≡ class_with ClassName.Shaper (map (letters text.now) arguments.now) }
-    {
-        let (rate, burst) = match arguments {
-            [rate] => (rate, rate),
-            [rate, burst] => (rate, burst),
-            _ => return None,
-        };
-        let rate = number_at(text, rate, 1, MAX_RATE)?;
-        let burst = number_at(text, burst, 1, MAX_BURST)?;
-        Some(Class::Shaper(rate, burst))
     }
 
     fn device(alloc: Global, text: &[u8], arguments: &[Token]) -> Result<Option<Class>, Fault>
@@ -291,13 +214,10 @@ impl Class {
         match self {
             Class::Sender(_) => Role::Source,
             Class::Queue(_, _) => Role::Queue,
-            Class::PrioSched | Class::RoundRobinSched => Role::Scheduler,
-            Class::DrrSched(quanta) => match quanta.len() {
-                0 | 1 => Role::Scheduler,
-                inputs => Role::SchedulerOf(inputs as u32),
+            Class::Scheduler(scheduler) => match scheduler.inputs() {
+                None => Role::Scheduler,
+                Some(inputs) => Role::SchedulerOf(inputs),
             },
-            Class::StrideSched(tickets) => Role::SchedulerOf(tickets.len() as u32),
-            Class::Shaper(_, _) => Role::SchedulerOf(1),
             Class::ToDevice(_) => Role::Device,
         }
     }

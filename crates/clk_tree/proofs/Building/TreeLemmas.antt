@@ -9,8 +9,8 @@ use Rattle.std.proofs.lemmas.Bool.Decides.{nat_tests}
 use Rattle.clk_packet.specs.declared.fault.Fault.{Fault}
 use Rattle.clk_packet.specs.declared.fault.Fault.TheVariants.{Memory}
 use Rattle.clk_packet.specs.Limits.{most_inputs, most_levels}
-use Rattle.clk_sched.specs.Tree as tree
-use Rattle.clk_sched.specs.Tree.{Row, end, leaf, node, Tree, queue, scheduler, root, height}
+use Rattle.clk_packet.specs.Scheduler.{Scheduler}
+use Rattle.clk_sched.specs.Tree.{end, Tree, queue, scheduler, root, height}
 use Rattle.clk_sched.specs.Built.{built, row}
 use Rattle.clk_syntax.specs.Classes.{class_view}
 use Rattle.clk_tree.specs.declared.plan.element.Element.{Element}
@@ -19,7 +19,7 @@ use Rattle.clk_tree.specs.Elements.{planned}
 use Rattle.clk_tree.specs.PlanTree.{is_queue, queue_count, number_if, queue_number, scheduler_over, sources_at, IsNode, IsRowOf}
 use Rattle.clk_tree.specs.inside.PlanTree.{is_queue_at, IsOver, IsBuilt, IsScheduled}
 
-built-ok : (class : tree.Class) (children : List Tree) → length children ≤ most_inputs → height (row children) + 1 ≤ most_levels
+built-ok : (class : Scheduler) (children : List Tree) → length children ≤ most_inputs → height (row children) + 1 ≤ most_levels
     → built class children ≡ Ok (scheduler class (row children))
 unfolding built
 built-ok class children few low = grind (arith, nat_tests)
@@ -65,7 +65,7 @@ pub record IsMadeOf (plan : List Planned) (s levels : ℕ) (made : Tree) : Type 
   pub tree : IsRowOf plan (s ∷ []) (root made)
   pub height : height (root made) ≤ levels
 
-made-of : (plan : List Planned) (s levels : ℕ) (e : Planned) (children : List Tree) (class : tree.Class) → slice_get plan s ≡ Some e → scheduler_over e.class (length e.sources) ≡ Some class
+made-of : (plan : List Planned) (s levels : ℕ) (e : Planned) (children : List Tree) (class : Scheduler) → slice_get plan s ≡ Some e → scheduler_over e.class (length e.sources) ≡ Some class
     → IsRowOf plan e.sources (row children) → height (row children) + 1 ≤ levels → IsMadeOf plan s levels (scheduler class (row children))
 made-of plan s levels e children class at is rows low = record {
   tree = subst (λ o. IsNode class o × IsRowOf plan (sources_at o) (row children) × ⊤) (sym at) (is, rows, _);
@@ -87,7 +87,7 @@ pub over-made : (plan : List Planned) (s levels : ℕ) (e : Planned) (children :
 over-made plan s levels e children result most h count rows low (inl refused) = subst (IsMade plan s levels) (sym refused) (no-memory plan s levels)
 over-made plan s levels e children result most h count rows low (inr is) = by_class (scheduler_over e.class (length children)) refl is
   where
-    by_class : (o : Option tree.Class) → scheduler_over e.class (length children) ≡ o → MatchOption o ⊥ (λ class. result ≡ built class children) → IsMade plan s levels result
+    by_class : (o : Option Scheduler) → scheduler_over e.class (length children) ≡ o → MatchOption o ⊥ (λ class. result ≡ built class children) → IsMade plan s levels result
     by_class None same made = absurd made
     by_class (Some class) same made =
         let one = h.some in let few = h.over.within in

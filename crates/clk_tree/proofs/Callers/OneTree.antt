@@ -1,29 +1,26 @@
 -- A plan has one tree for each device.
 use Rattle.std.proofs.Common.{◌≡◌, ℕ, List, [], ◌∷◌, length, suc, if◌then◌else◌, Option, Some, None, slice_get, refl, sym, ap, ap₂, ◌∙◌, arith}
+use Rattle.clk_packet.specs.Scheduler.{Scheduler}
 use Rattle.clk_sched.specs.Tree as sched
 use Rattle.clk_sched.specs.Tree.{Row, end, leaf, node, Tree, root}
-use Rattle.clk_syntax.specs.Classes.{Class, sender, queue, prio, round_robin, drr, stride, shaper, device}
+use Rattle.clk_syntax.specs.Classes.{Class, sender, queue, scheduler, device}
 use Rattle.clk_tree.specs.Plan.{Planned}
 use Rattle.clk_tree.specs.PlanTree.{is_queue, number_if, scheduler_over, sources_at, sources_of_device, IsNode, IsRowOf, IsTreeOf}
 use Rattle.clk_tree.specs.Shares.{AreTreesOf}
 
 -- a queue is no scheduler
-no-scheduler : (n q inputs : ℕ) (over : sched.Class) (class : Class) → (if is_queue class then Some n else None) ≡ Some q → scheduler_over class inputs ≡ Some over → ⊥
+no-scheduler : (n q inputs : ℕ) (over : Scheduler) (class : Class) → (if is_queue class then Some n else None) ≡ Some q → scheduler_over class inputs ≡ Some over → ⊥
 no-scheduler n q inputs over (sender m) is over_inputs = absurd (cc)
 no-scheduler n q inputs over (queue kind capacity) is over_inputs = absurd (cc)
-no-scheduler n q inputs over prio is over_inputs = absurd (cc)
-no-scheduler n q inputs over round_robin is over_inputs = absurd (cc)
-no-scheduler n q inputs over (drr quanta) is over_inputs = absurd (cc)
-no-scheduler n q inputs over (stride tickets) is over_inputs = absurd (cc)
-no-scheduler n q inputs over (shaper rate burst) is over_inputs = absurd (cc)
+no-scheduler n q inputs over (scheduler s) is over_inputs = absurd (cc)
 no-scheduler n q inputs over (device word) is over_inputs = absurd (cc)
 
-not-both : (n q : ℕ) (over : sched.Class) (o : Option Planned) → number_if n o ≡ Some q → IsNode over o → ⊥
+not-both : (n q : ℕ) (over : Scheduler) (o : Option Planned) → number_if n o ≡ Some q → IsNode over o → ⊥
 not-both n q over None is over_inputs = over_inputs
 not-both n q over (Some e) is over_inputs = no-scheduler n q (length e.sources) over e.class is over_inputs
 
 -- an element is a scheduler of one class
-one-class : (a b : sched.Class) (o : Option Planned) → IsNode a o → IsNode b o → a ≡ b
+one-class : (a b : Scheduler) (o : Option Planned) → IsNode a o → IsNode b o → a ≡ b
 one-class a b None x y = absurd x
 one-class a b (Some e) x y = let same : Some a ≡ Some b = sym x ∙ y in cc
 

@@ -12,7 +12,10 @@ use Rattle.clk_packet.specs.declared.packet.Kind.TheVariants.{TailDrop, FrontDro
 use Rattle.clk_syntax.specs.declared.texts.token.Symbol.TheVariants.{Name, Number, OtherWord}
 use Rattle.clk_syntax.specs.Grammar.{is_word, bare}
 use Rattle.clk_syntax.specs.Tokens.{is_digit, is_word_byte}
-use Rattle.clk_syntax.specs.Classes.{Class, queue}
+use Rattle.clk_packet.specs.declared.scheduler.SchedulerName.{SchedulerName}
+use Rattle.clk_packet.specs.declared.scheduler.SchedulerName.TheVariants as spelled
+use Rattle.clk_packet.specs.Scheduler.{name_of, name_text}
+use Rattle.clk_syntax.specs.Classes.{Class, queue, scheduler}
 use Rattle.clk_syntax.proofs.Callers.Tokens.{bare-word}
 use Rattle.clk_tree.specs.Canonical.{class_text}
 use Rattle.clk_tree.proofs.Canonical.CanonicalSource.{IsWordText, IsNameText}
@@ -36,9 +39,14 @@ symbol-name [] h = refl
 symbol-name (byte ∷ more) h = ap (λ b. cond b (cond (all_ascii_digits (byte ∷ more)) Number OtherWord) Name) h.no_digit
 
 -- classes have names
+scheduler-name : (name : SchedulerName) → IsNameText (name_text name)
+scheduler-name spelled.Prio = record { word = record { some = refl; letters = refl }; no_digit = refl }
+scheduler-name name = record { word = record { some = refl; letters = refl }; no_digit = refl }
+
 pub class-name : (class : Class) → IsNameText (class_text class)
 class-name (queue TailDrop capacity) = record { word = record { some = refl; letters = refl }; no_digit = refl }
 class-name (queue FrontDrop capacity) = record { word = record { some = refl; letters = refl }; no_digit = refl }
+class-name (scheduler s) = scheduler-name (name_of s)
 class-name class = record { word = record { some = refl; letters = refl }; no_digit = refl }
 
 -- a number of digits: its word, its symbol and its value

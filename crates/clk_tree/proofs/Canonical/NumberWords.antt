@@ -11,7 +11,7 @@ use Rattle.clk_syntax.specs.Classes.{and_then, numbers_to}
 use Rattle.clk_syntax.specs.Tokens.{is_word_byte}
 use Rattle.clk_tree.proofs.Callers.Numbers.{decimal-digits, number-again}
 use Rattle.clk_tree.proofs.Canonical.CanonicalSource.{IsWordText}
-use Rattle.clk_tree.proofs.Sound.SoundClasses.{AreTo}
+use Rattle.clk_packet.proofs.Callers.Schedulers.{AreTo}
 
 pub below-all : (most n : ℕ) → most < 2 ^ 64 → n ≤ most → n < 2 ^ 64
 below-all most n small high = omega arith

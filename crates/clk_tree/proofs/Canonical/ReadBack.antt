@@ -1,13 +1,17 @@
 -- The line of each element of a plan is read as the class that it has.
-use Rattle.std.proofs.Common.{◌≡◌, ℕ, ◌+◌, ◌≤◌, List, [], ◌∷◌, length, Option, Some, None, option_map, refl, ap, ◌∙◌, arith}
+use Rattle.std.proofs.Common.{◌≡◌, ℕ, ◌+◌, List, [], ◌∷◌, length, Option, Some, None, option_map, option_and_then, refl, ap, ◌∙◌, arith}
 use Rattle.std.specs.Bool.{⊤}
-use Rattle.std.specs.Fmt.{decimal}
 use Rattle.std.specs.List.{AllByRecursion, cons_option}
-use Rattle.clk_packet.specs.Limits.{most_sender, most_capacity, most_quantum, most_tickets, most_rate, most_burst}
-use Rattle.clk_packet.specs.Numbers.{number_in}
+use Rattle.clk_packet.specs.Limits.{most_sender, most_capacity}
 use Rattle.clk_packet.specs.declared.packet.Kind.TheVariants.{TailDrop, FrontDrop}
 use Rattle.clk_syntax.specs.declared.node.Link.{Link}
-use Rattle.clk_syntax.specs.Classes.{Class, sender, queue, prio, round_robin, drr, stride, shaper, device, shaper_of, class_named, role_of}
+use Rattle.clk_packet.specs.declared.scheduler.SchedulerName.{SchedulerName}
+use Rattle.clk_packet.specs.declared.scheduler.SchedulerName.TheVariants as spelled
+use Rattle.clk_packet.specs.Scheduler as sched
+use Rattle.clk_packet.specs.Scheduler.{name_of, name_text, most_argument, scheduler_with}
+use Rattle.clk_packet.proofs.Callers.Schedulers.{most-small}
+use Rattle.clk_syntax.specs.declared.naming.class.ClassName.TheVariants as named
+use Rattle.clk_syntax.specs.Classes.{Class, sender, queue, scheduler, device, class_named, role_of}
 use Rattle.clk_syntax.specs.Source.{Element, Wire}
 use Rattle.clk_syntax.specs.Declarations.{class_if, class_of}
 use Rattle.clk_syntax.specs.Faults.{links_of, fault_of}
@@ -19,19 +23,19 @@ use Rattle.clk_tree.proofs.Canonical.NumberWords.{numbers-again}
 use Rattle.clk_tree.proofs.Sound.SoundClasses.{HasLimits, class-limits}
 use Rattle.clk_tree.proofs.Sound.SoundNodes.{known_as}
 
+-- the name of a scheduler is read as that name
+name-again : (name : SchedulerName) → class_named (name_text name) ≡ Some (named.Scheduler name)
+name-again spelled.Prio = refl
+name-again name = refl
+
 class-again : (class : Class) → HasLimits class → class_if (arguments_of class) (class_named (class_text class)) ≡ Some class
 class-again (sender n) has = ap (option_map sender) (number-again 0 most_sender n (omega arith) (omega arith) has)
 class-again (queue TailDrop capacity) has = ap (option_map (queue TailDrop)) (number-again 1 most_capacity capacity (omega arith) has.0 has.1)
 class-again (queue FrontDrop capacity) has = ap (option_map (queue FrontDrop)) (number-again 1 most_capacity capacity (omega arith) has.0 has.1)
-class-again prio has = refl
-class-again round_robin has = refl
-class-again (drr []) has = let none : 1 ≤ 0 = has.0 in absurd (omega arith)
-class-again (drr (quantum ∷ more)) has = ap (option_map drr) (numbers-again most_quantum (quantum ∷ more) (omega arith) has.1)
-class-again (stride []) has = let none : 1 ≤ 0 = has.0 in absurd (omega arith)
-class-again (stride (tickets ∷ more)) has = ap (option_map stride) (numbers-again most_tickets (tickets ∷ more) (omega arith) has.1)
-class-again (shaper rate burst) has =
-    ap (λ r. shaper_of r (number_in 1 most_burst (decimal burst))) (number-again 1 most_rate rate (omega arith) has.0.0 has.0.1)
-    ∙ ap (shaper_of (Some rate)) (number-again 1 most_burst burst (omega arith) has.1.0 has.1.1)
+class-again (scheduler s) has =
+    ap (class_if (arguments_of (scheduler s))) (name-again (name_of s))
+    ∙ ap (λ o. option_map scheduler (option_and_then (scheduler_with (name_of s)) o)) (numbers-again (most_argument (name_of s)) (sched.arguments_of s) (most-small (name_of s)) has.arguments)
+    ∙ ap (option_map scheduler) has.again
 class-again (device word) has = refl
 
 -- what holds of each element of a plan, by the element of the text and its class

@@ -1,11 +1,11 @@
 -- The elements of the plan of a text can be written as lines.
-use Rattle.std.proofs.Common.{◌≡◌, ℕ, ◌+◌, ◌<◌, ◌≤◌, zero, suc, inl, inr, Bool, true, false, if◌then◌else◌, List, [], ◌∷◌, length, map, filter, Option, Some, None, slice_get, refl, sym, ap, subst, ◌∙◌, arith}
+use Rattle.std.proofs.Common.{◌≡◌, ℕ, ◌+◌, ◌<◌, ◌≤◌, zero, suc, inl, inr, Bool, true, false, if◌then◌else◌, List, [], ◌∷◌, length, map, filter, Option, Some, None, option_map, option_and_then, slice_get, refl, sym, ap, subst, ◌∙◌, arith}
 use Rattle.std.specs.List.{AllByRecursion, range_with_len}
 use Rattle.std.specs.Option.{option_map}
 use Rattle.std.proofs.lemmas.Bool.{cases_Bool}
 use Rattle.std.proofs.lemmas.List.FromFn.{length-range_with_len, length-map-range_with_len}
 use Rattle.std.proofs.lemmas.Option.{slice_get_within, same_Some}
-use Rattle.clk_packet.specs.Limits.{most_sender, most_capacity, most_elements, most_quantum, most_tickets, most_rate, most_burst}
+use Rattle.clk_packet.specs.Limits.{most_sender, most_capacity, most_elements}
 use Rattle.clk_packet.specs.Numbers.{number_in}
 use Rattle.clk_packet.specs.declared.packet.Kind.TheVariants.{TailDrop, FrontDrop}
 use Rattle.clk_syntax.specs.declared.naming.class.ClassName.{ClassName}
@@ -15,7 +15,10 @@ use Rattle.clk_syntax.specs.declared.naming.class.Role.TheVariants as role
 use Rattle.clk_syntax.specs.declared.node.Node.{Node}
 use Rattle.clk_syntax.specs.declared.node.Link.{Link}
 use Rattle.clk_syntax.specs.Limits.{most_port}
-use Rattle.clk_syntax.specs.Classes.{Class, sender, queue, prio, round_robin, drr, stride, shaper, device, shaper_of, class_named, class_with, numbers_to, role_of}
+use Rattle.clk_packet.specs.Scheduler as sched
+use Rattle.clk_packet.specs.Scheduler.{name_of, most_argument, scheduler_with}
+use Rattle.clk_packet.proofs.Callers.Schedulers.{most-small}
+use Rattle.clk_syntax.specs.Classes.{Class, sender, queue, scheduler, device, class_named, class_with, numbers_to, role_of}
 use Rattle.clk_syntax.specs.Source.{Element, Wire}
 use Rattle.clk_syntax.specs.Declarations.{class_if, class_of}
 use Rattle.clk_syntax.specs.Ports.{role_at, is_queue, inputs_of}
@@ -40,14 +43,6 @@ counted-other : {A : Type 0} (f : A → Class) (o : Option A) (word : List ℕ) 
 counted-other f None word other e = cc
 counted-other f (Some x) word other e = other x (same_Some (f x) (device word) e)
 
-shaper-other : (rate burst : Option ℕ) (word : List ℕ) → ¬ (shaper_of rate burst ≡ Some (device word))
-shaper-other None burst word e = cc
-shaper-other (Some rate) None word e = cc
-shaper-other (Some rate) (Some burst) word e = cc
-
-numbers-other : (most : ℕ) (words : List (List ℕ)) (word : List ℕ) (f : List ℕ → Class) → ((ns : List ℕ) → ¬ (f ns ≡ device word)) → ¬ (option_map f (numbers_to most words) ≡ Some (device word))
-numbers-other most words word f other e = counted-other f (numbers_to most words) word other e
-
 device-argument : (name : ClassName) (arguments : List (List ℕ)) (word : List ℕ) → class_with name arguments ≡ Some (device word) → arguments ≡ word ∷ []
 device-argument named.Sender [] word e = absurd (cc)
 device-argument named.Sender (n ∷ []) word e = absurd (counted-other sender (number_in 0 most_sender n) word (λ m same. cc) e)
@@ -58,18 +53,7 @@ device-argument named.Queue (n ∷ m ∷ more) word e = absurd (cc)
 device-argument named.FrontDropQueue [] word e = absurd (cc)
 device-argument named.FrontDropQueue (n ∷ []) word e = absurd (counted-other (queue FrontDrop) (number_in 1 most_capacity n) word (λ m same. cc) e)
 device-argument named.FrontDropQueue (n ∷ m ∷ more) word e = absurd (cc)
-device-argument named.PrioSched [] word e = absurd (cc)
-device-argument named.PrioSched (n ∷ more) word e = absurd (cc)
-device-argument named.RoundRobinSched [] word e = absurd (cc)
-device-argument named.RoundRobinSched (n ∷ more) word e = absurd (cc)
-device-argument named.DrrSched [] word e = absurd (cc)
-device-argument named.DrrSched (n ∷ more) word e = absurd (counted-other drr (numbers_to most_quantum (n ∷ more)) word (λ ns same. cc) e)
-device-argument named.StrideSched [] word e = absurd (cc)
-device-argument named.StrideSched (n ∷ more) word e = absurd (counted-other stride (numbers_to most_tickets (n ∷ more)) word (λ ns same. cc) e)
-device-argument named.Shaper [] word e = absurd (cc)
-device-argument named.Shaper (rate ∷ []) word e = absurd (shaper-other (number_in 1 most_rate rate) (number_in 1 most_burst rate) word e)
-device-argument named.Shaper (rate ∷ burst ∷ []) word e = absurd (shaper-other (number_in 1 most_rate rate) (number_in 1 most_burst burst) word e)
-device-argument named.Shaper (rate ∷ burst ∷ n ∷ more) word e = absurd (cc)
+device-argument (named.Scheduler name) words word e = absurd (counted-other scheduler (option_and_then (scheduler_with name) (numbers_to (most_argument name) words)) word (λ s same. cc) e)
 device-argument named.ToDevice [] word e = absurd (cc)
 device-argument named.ToDevice (first ∷ []) word e = let same : first ≡ word = cc in ap (λ w. w ∷ []) same
 device-argument named.ToDevice (first ∷ n ∷ more) word e = absurd (cc)
@@ -82,11 +66,7 @@ device-word arguments (Some name) word all e = let only = subst (AllByRecursion 
 argument-words : (class : Class) → HasLimits class → ((word : List ℕ) → class ≡ device word → IsWordText word) → AllByRecursion IsWordText (arguments_of class)
 argument-words (sender n) has from = (decimal-word n (below-all most_sender n (omega arith) has), tt)
 argument-words (queue kind capacity) has from = (decimal-word capacity (below-all most_capacity capacity (omega arith) has.1), tt)
-argument-words prio has from = tt
-argument-words round_robin has from = tt
-argument-words (drr quanta) has from = decimal-words most_quantum quanta (omega arith) has.1
-argument-words (stride tickets) has from = decimal-words most_tickets tickets (omega arith) has.1
-argument-words (shaper rate burst) has from = (decimal-word rate (below-all most_rate rate (omega arith) has.0.1), (decimal-word burst (below-all most_burst burst (omega arith) has.1.1), tt))
+argument-words (scheduler s) has from = decimal-words (most_argument (name_of s)) (sched.arguments_of s) (most-small (name_of s)) has.arguments
 argument-words (device word) has from = (from word refl, tt)
 
 -- the words of an element of a plan

@@ -3,7 +3,7 @@ use Rattle.std.proofs.Common.{◌≡◌, ℕ, ◌<◌, zero, suc, true, false, L
 use Rattle.std.specs.List.{AllByRecursion}
 use Rattle.std.proofs.lemmas.Bool.{cases_eq, false≢true, false_from_ne_true, not_from_false, not-true}
 use Rattle.std.proofs.lemmas.Option.{same_Some}
-use Rattle.clk_sched.specs.Tree as tree
+use Rattle.clk_packet.specs.Scheduler.{Scheduler}
 use Rattle.clk_packet.specs.Lists.{stands_in, In}
 use Rattle.clk_sched.specs.Tree.{Row, end, leaf, node, Tree, root, leaves}
 use Rattle.clk_syntax.specs.Classes.{Class, role_of}
@@ -61,7 +61,7 @@ module _ (plan : List Planned) (fed : AreFed plan) (top : ℕ) (device : Planned
   pulled x e at source output = fed.pulled x e at source (not-true (is_device e.class) (ap has_output (sym at) ∙ output))
 
   -- a path leads from each element of the tree to the device
-  below-node : (over : tree.Class) (n s : ℕ) (o : Option Planned) → slice_get plan s ≡ o → IsNode over o → Leads plan n (place_fed plan s) top → AllByRecursion (λ t. Leads plan (suc n) (place_fed plan t) top) (sources_at o)
+  below-node : (over : Scheduler) (n s : ℕ) (o : Option Planned) → slice_get plan s ≡ o → IsNode over o → Leads plan n (place_fed plan s) top → AllByRecursion (λ t. Leads plan (suc n) (place_fed plan t) top) (sources_at o)
   below-node over n s None at is leads = absurd is
   below-node over n s (Some e) at is leads = each e.sources (fed.leads s e at (node-queue e.class over (length e.sources) is))
     where

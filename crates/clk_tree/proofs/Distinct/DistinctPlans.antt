@@ -10,6 +10,7 @@ use Rattle.clk_packet.specs.declared.fault.Fault.TheVariants.{BadPort, PortTwice
 use Rattle.clk_packet.specs.Limits.{most_elements}
 use Rattle.clk_sched.specs.Session as session
 use Rattle.clk_packet.specs.Lists.{are_distinct, In}
+use Rattle.clk_packet.specs.Scheduler as sched
 use Rattle.clk_sched.specs.Tree.{Tree, root, leaves_distinct}
 use Rattle.clk_syntax.specs.declared.naming.class.Role.{Role}
 use Rattle.clk_syntax.specs.declared.naming.class.Role.TheVariants as role
@@ -184,9 +185,11 @@ planned-here count links b (k ∷ more) (suc i) e at =
 -- its sources, where it is no queue
 role-other : (c : Class) → is_queue c ≡ false → ports.is_queue (Some (role_of c)) ≡ false
 role-other (class.queue kind capacity) e = absurd (false≢true (sym e))
-role-other (class.drr []) e = refl
-role-other (class.drr (q ∷ [])) e = refl
-role-other (class.drr (q ∷ p ∷ more)) e = refl
+role-other (class.scheduler s) e = by_inputs (sched.inputs_of s)
+  where
+    by_inputs : (o : Option ℕ) → ports.is_queue (Some (class.role_over o)) ≡ false
+    by_inputs None = refl
+    by_inputs (Some n) = refl
 role-other c e = refl
 
 sources-mapped : (count : ℕ) (links : List Link) (i : ℕ) (r : Role) → ports.is_queue (Some r) ≡ false → sources_of count links i r ≡ map (source_at links i) (range_with_len 0 (inputs_of i r links))

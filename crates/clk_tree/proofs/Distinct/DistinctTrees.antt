@@ -6,9 +6,9 @@ use Rattle.std.proofs.lemmas.Bool.{false≢true}
 use Rattle.std.proofs.lemmas.List.Elements.{filter_map-append}
 use Rattle.std.proofs.lemmas.Option.{slice_get_within}
 use Rattle.clk_sched.specs.Session.{elements}
-use Rattle.clk_sched.specs.Tree as tree
+use Rattle.clk_packet.specs.Scheduler.{Scheduler}
 use Rattle.clk_packet.specs.Lists.{are_distinct, In}
-use Rattle.clk_sched.specs.Tree.{Row, end, leaf, node, Tree, queue, scheduler, root, leaves, leaves_distinct}
+use Rattle.clk_sched.specs.Tree.{Row, end, leaf, node, Tree, root, leaves, leaves_distinct}
 use Rattle.clk_syntax.specs.Classes as class
 use Rattle.clk_syntax.specs.Classes.{Class}
 use Rattle.clk_tree.specs.Plan.{Planned}
@@ -35,11 +35,11 @@ pub queue-device : (c : Class) → is_queue c ≡ true → is_device c ≡ false
 queue-device (class.device word) e = absurd (false≢true e)
 queue-device c e = refl
 
-node-device : (c : Class) (over : tree.Class) (inputs : ℕ) → scheduler_over c inputs ≡ Some over → is_device c ≡ false
+node-device : (c : Class) (over : Scheduler) (inputs : ℕ) → scheduler_over c inputs ≡ Some over → is_device c ≡ false
 node-device (class.device word) over inputs e = absurd (cc)
 node-device c over inputs e = refl
 
-pub node-queue : (c : Class) (over : tree.Class) (inputs : ℕ) → scheduler_over c inputs ≡ Some over → is_queue c ≡ false
+pub node-queue : (c : Class) (over : Scheduler) (inputs : ℕ) → scheduler_over c inputs ≡ Some over → is_queue c ≡ false
 node-queue (class.queue kind capacity) over inputs e = absurd (cc)
 node-queue c over inputs e = refl
 
@@ -51,12 +51,12 @@ leaf-stands n q (Some p) e = queue-device p.class (by_test (is_queue p.class) e)
     by_test true e = refl
     by_test false e = absurd (cc)
 
-pub node-stands : (over : tree.Class) (o : Option Planned) → IsNode over o → Stands o
+pub node-stands : (over : Scheduler) (o : Option Planned) → IsNode over o → Stands o
 node-stands over None h = absurd h
 node-stands over (Some e) h = node-device e.class over (length e.sources) h
 
 -- a scheduler has no number
-node-none : (over : tree.Class) (n : ℕ) (o : Option Planned) → IsNode over o → number_if n o ≡ None
+node-none : (over : Scheduler) (n : ℕ) (o : Option Planned) → IsNode over o → number_if n o ≡ None
 node-none over n None h = refl
 node-none over n (Some e) h = ap (λ b. if b then Some n else None) (node-queue e.class over (length e.sources) h)
 
@@ -173,11 +173,11 @@ device-queue c e = refl
 -- the tree of the device that stands at the top
 module _ (plan : List Planned) (parent : ℕ → ℕ) (top : ℕ) (root_of : Planned) (h : HasParents plan parent) (top_at : slice_get plan top ≡ Some root_of) (top_is : is_device root_of.class ≡ true) where
   -- the sources of a scheduler lead to it, and are distinct
-  inner-leads : (over : tree.Class) (s : ℕ) (o : Option Planned) → slice_get plan s ≡ o → IsNode over o → AllByRecursion (λ t. parent t ≡ s) (sources_at o)
+  inner-leads : (over : Scheduler) (s : ℕ) (o : Option Planned) → slice_get plan s ≡ o → IsNode over o → AllByRecursion (λ t. parent t ≡ s) (sources_at o)
   inner-leads over s None at is = absurd is
   inner-leads over s (Some e) at is = h.leads s e at (node-queue e.class over (length e.sources) is)
 
-  inner-once : (over : tree.Class) (s : ℕ) (o : Option Planned) → slice_get plan s ≡ o → IsNode over o → Distinct (sources_at o)
+  inner-once : (over : Scheduler) (s : ℕ) (o : Option Planned) → slice_get plan s ≡ o → IsNode over o → Distinct (sources_at o)
   inner-once over s None at is = absurd is
   inner-once over s (Some e) at is = test-distinct e.sources (h.once s e at (node-queue e.class over (length e.sources) is))
 
@@ -185,7 +185,7 @@ module _ (plan : List Planned) (parent : ℕ → ℕ) (top : ℕ) (root_of : Pla
   stands-below s stands same = false≢true (sym (subst Stands top_at (subst (λ d. Stands (slice_get plan d)) same stands)) ∙ top_is)
 
   -- what stands in the tree of a scheduler
-  inner-below : (over : tree.Class) (n s : ℕ) → IsNode over (slice_get plan s) → IsAt parent top n (parent s) → AreBelow parent top (suc n) (sources_at (slice_get plan s))
+  inner-below : (over : Scheduler) (n s : ℕ) → IsNode over (slice_get plan s) → IsAt parent top n (parent s) → AreBelow parent top (suc n) (sources_at (slice_get plan s))
   inner-below over n s is at =
       below-all parent top (suc n) s (sources_at (slice_get plan s)) (stands-below s (node-stands over (slice_get plan s) is), at) (inner-leads over s (slice_get plan s) refl is)
 
@@ -205,7 +205,7 @@ module _ (plan : List Planned) (parent : ℕ → ℕ) (top : ℕ) (root_of : Pla
     under = subst (IsUnder parent top (suc n) s) same (under-self parent top (suc n) s (stands-below s is, at));
   }
 
-  inner-under : (over : tree.Class) (n s x : ℕ) → IsNode over (slice_get plan s) → IsUnderOne (suc n) (sources_at (slice_get plan s)) x → IsUnder parent top (suc n) s x
+  inner-under : (over : Scheduler) (n s x : ℕ) → IsNode over (slice_get plan s) → IsUnderOne (suc n) (sources_at (slice_get plan s)) x → IsUnder parent top (suc n) s x
   inner-under over n s x is u =
       under-more parent top (suc n) s u.source x (in-all (λ t. parent t ≡ s) u.source (sources_at (slice_get plan s)) (inner-leads over s (slice_get plan s) refl is) u.among) u.under
 

@@ -1,35 +1,31 @@
 -- The arguments of a class that a text names are within their limits.
-use Rattle.std.proofs.Common.{◌≡◌, ℕ, ◌≤◌, ◌&&◌, nat_le, Bool, true, false, if◌then◌else◌, List, [], ◌∷◌, length, replicate, Option, Some, None, option_map, zero, suc, refl, ap, subst, arith, max}
+use Rattle.std.proofs.Common.{◌≡◌, ℕ, ◌≤◌, ◌&&◌, nat_le, Bool, true, false, if◌then◌else◌, List, [], ◌∷◌, length, Option, Some, None, option_map, option_and_then, IfSome, suc, refl, ap, subst, arith}
 use Rattle.std.specs.Bool.{⊤}
-use Rattle.std.specs.List.{AllByRecursion}
 use Rattle.std.specs.Str.{all_ascii_digits}
 use Rattle.std.specs.Str.Parse.{digits_value}
 use Rattle.std.proofs.lemmas.Bool.{leb-true}
-use Rattle.std.proofs.lemmas.List.{length-replicate}
-use Rattle.clk_packet.specs.Limits.{most_sender, most_capacity, most_inputs, most_quantum, most_tickets, most_rate, most_burst}
+use Rattle.clk_packet.specs.Limits.{most_sender, most_capacity, most_inputs}
 use Rattle.clk_packet.specs.Numbers.{has_bytes, number_in}
 use Rattle.clk_packet.specs.declared.packet.Kind.TheVariants.{TailDrop, FrontDrop}
 use Rattle.clk_syntax.specs.declared.naming.class.ClassName.{ClassName}
 use Rattle.clk_syntax.specs.declared.naming.class.ClassName.TheVariants as named
 use Rattle.clk_syntax.specs.declared.node.Link.{Link}
-use Rattle.clk_syntax.specs.Limits.{default_capacity, default_quantum}
-use Rattle.clk_syntax.specs.Classes.{Class, sender, queue, prio, round_robin, drr, stride, shaper, device, and_then, class_named, class_with, numbers_to, shaper_of, role_of}
+use Rattle.clk_syntax.specs.Limits.{default_capacity}
+use Rattle.clk_packet.specs.declared.scheduler.SchedulerName.{SchedulerName}
+use Rattle.clk_packet.specs.Scheduler.{Scheduler, most_argument, scheduler_with, inputs_of}
+use Rattle.clk_packet.proofs.Callers.Schedulers as sched
+use Rattle.clk_packet.proofs.Callers.Schedulers.{AreTo, IsGiven, given, inputs-some, fits-over}
+use Rattle.clk_syntax.specs.Classes.{Class, sender, queue, scheduler, device, and_then, class_named, class_with, numbers_to, role_of, role_over}
 use Rattle.clk_syntax.specs.Source.{Element}
 use Rattle.clk_syntax.specs.Declarations.{class_if, class_of}
-use Rattle.clk_syntax.specs.Ports.{is_scheduler, inputs_of, inputs_used}
-use Rattle.clk_tree.specs.PlanTree.{scheduler_over}
-use Rattle.clk_tree.specs.inside.PlanTree.{FitsInputs, IsOver}
-
--- numbers from 1 to a greatest
-abbrev pub AreTo : ℕ → List ℕ → Type 0
-AreTo most numbers = AllByRecursion (λ n. (1 ≤ n) × (n ≤ most)) numbers
+use Rattle.clk_syntax.specs.Ports as ports
+use Rattle.clk_syntax.specs.Ports.{is_scheduler}
+use Rattle.clk_tree.specs.inside.PlanTree.{IsOver}
 
 abbrev pub HasLimits : Class → Type 0
 HasLimits (sender n) = n ≤ most_sender
 HasLimits (queue kind capacity) = (1 ≤ capacity) × (capacity ≤ most_capacity)
-HasLimits (drr quanta) = (1 ≤ length quanta) × AreTo most_quantum quanta
-HasLimits (stride tickets) = (1 ≤ length tickets) × AreTo most_tickets tickets
-HasLimits (shaper rate burst) = ((1 ≤ rate) × (rate ≤ most_rate)) × ((1 ≤ burst) × (burst ≤ most_burst))
+HasLimits (scheduler s) = sched.HasLimits s
 HasLimits class = ⊤
 
 number-limits : (least most : ℕ) (digits : List ℕ) (n : ℕ) → number_in least most digits ≡ Some n → (least ≤ n) × (n ≤ most)
@@ -60,19 +56,6 @@ numbers-limits most (word ∷ words) numbers e = by_case (number_in 1 most word)
         let rest = more ns refl in
         subst (AreOf most (word ∷ words)) same (record { len = ap suc rest.len; each = (one n refl, rest.each) })
 
-numbered : (f : List ℕ → Class) (most : ℕ) (word : List ℕ) (words : List (List ℕ)) (class : Class) → ((ns : List ℕ) → (1 ≤ length ns) × AreTo most ns → HasLimits (f ns))
-    → option_map f (numbers_to most (word ∷ words)) ≡ Some class → HasLimits class
-numbered f most word words class has e = by_case (numbers_to most (word ∷ words)) (numbers-limits most (word ∷ words)) e
-  where
-    by_case : (numbers : Option (List ℕ)) → ((ns : List ℕ) → numbers ≡ Some ns → AreOf most (word ∷ words) ns) → option_map f numbers ≡ Some class → HasLimits class
-    by_case None are e = absurd (cc)
-    by_case (Some ns) are e =
-        let same : f ns ≡ class = cc in
-        let of = are ns refl in
-        let len = of.len in
-        let some : 1 ≤ length ns = omega arith in
-        subst HasLimits same (has ns (some, of.each))
-
 counted : (f : ℕ → Class) (number : Option ℕ) (class : Class) → ((n : ℕ) → number ≡ Some n → HasLimits (f n)) → option_map f number ≡ Some class → HasLimits class
 counted f None class has e = absurd (cc)
 counted f (Some n) class has e = let same : f n ≡ class = cc in subst HasLimits same (has n refl)
@@ -80,11 +63,16 @@ counted f (Some n) class has e = let same : f n ≡ class = cc in subst HasLimit
 one : (known class : Class) → HasLimits known → Some known ≡ Some class → HasLimits class
 one known class has e = let same : known ≡ class = cc in subst HasLimits same has
 
-shaped : (rate burst : Option ℕ) (class : Class) → ((n : ℕ) → rate ≡ Some n → (1 ≤ n) × (n ≤ most_rate)) → ((n : ℕ) → burst ≡ Some n → (1 ≤ n) × (n ≤ most_burst))
-    → shaper_of rate burst ≡ Some class → HasLimits class
-shaped None burst class r b e = absurd (cc)
-shaped (Some rate) None class r b e = absurd (cc)
-shaped (Some rate) (Some burst) class r b e = one (shaper rate burst) class (r rate refl, b burst refl) e
+scheduled : (name : SchedulerName) (words : List (List ℕ)) (class : Class) → class_with (named.Scheduler name) words ≡ Some class → HasLimits class
+scheduled name words class e = by_numbers (numbers_to (most_argument name) words) (λ ns is. (numbers-limits (most_argument name) words ns is).each) e
+  where
+    by_scheduler : (ns : List ℕ) (o : Option Scheduler) → AreTo (most_argument name) ns → ((s : Scheduler) → o ≡ Some s → IsGiven name ns s) → option_map scheduler o ≡ Some class → HasLimits class
+    by_scheduler ns None all is e = absurd (cc)
+    by_scheduler ns (Some s) all is e = let same : scheduler s ≡ class = cc in subst HasLimits same ((is s refl).limits all)
+
+    by_numbers : (o : Option (List ℕ)) → ((ns : List ℕ) → o ≡ Some ns → AreTo (most_argument name) ns) → option_map scheduler (option_and_then (scheduler_with name) o) ≡ Some class → HasLimits class
+    by_numbers None all e = absurd (cc)
+    by_numbers (Some ns) all e = by_scheduler ns (scheduler_with name ns) (all ns refl) (λ s is. given name ns s is) e
 
 limits : (name : ClassName) (arguments : List (List ℕ)) (class : Class) → class_with name arguments ≡ Some class → HasLimits class
 limits named.Sender [] class e = absurd (cc)
@@ -96,18 +84,7 @@ limits named.Queue (n ∷ m ∷ more) class e = absurd (cc)
 limits named.FrontDropQueue [] class e = one (queue FrontDrop default_capacity) class (omega arith, omega arith) e
 limits named.FrontDropQueue (n ∷ []) class e = counted (queue FrontDrop) (number_in 1 most_capacity n) class (number-limits 1 most_capacity n) e
 limits named.FrontDropQueue (n ∷ m ∷ more) class e = absurd (cc)
-limits named.PrioSched [] class e = one prio class tt e
-limits named.PrioSched (n ∷ more) class e = absurd (cc)
-limits named.RoundRobinSched [] class e = one round_robin class tt e
-limits named.RoundRobinSched (n ∷ more) class e = absurd (cc)
-limits named.DrrSched [] class e = one (drr (default_quantum ∷ [])) class (omega arith, ((omega arith, omega arith), tt)) e
-limits named.DrrSched (word ∷ more) class e = numbered drr most_quantum word more class (λ ns h. h) e
-limits named.StrideSched [] class e = absurd (cc)
-limits named.StrideSched (word ∷ more) class e = numbered stride most_tickets word more class (λ ns h. h) e
-limits named.Shaper [] class e = absurd (cc)
-limits named.Shaper (rate ∷ []) class e = shaped (number_in 1 most_rate rate) (number_in 1 most_burst rate) class (number-limits 1 most_rate rate) (number-limits 1 most_burst rate) e
-limits named.Shaper (rate ∷ burst ∷ []) class e = shaped (number_in 1 most_rate rate) (number_in 1 most_burst burst) class (number-limits 1 most_rate rate) (number-limits 1 most_burst burst) e
-limits named.Shaper (rate ∷ burst ∷ n ∷ more) class e = absurd (cc)
+limits (named.Scheduler name) words class e = scheduled name words class e
 limits named.ToDevice [] class e = absurd (cc)
 limits named.ToDevice (word ∷ []) class e = one (device word) class tt e
 limits named.ToDevice (word ∷ n ∷ more) class e = absurd (cc)
@@ -120,23 +97,17 @@ class-limits x class e = by_case (class_named x.class.letters) e
     by_case (Some name) e = limits name x.arguments class e
 
 -- A scheduler within its limits can stand over as many inputs as it has.
-all-same : (most n count : ℕ) → (1 ≤ n) × (n ≤ most) → AreTo most (replicate count n)
-all-same most n zero fits = tt
-all-same most n (suc count) fits = (fits, all-same most n count fits)
+over : (s : Scheduler) (inputs : ℕ) → sched.HasLimits s → IfSome (inputs_of s) (λ n. n ≡ inputs) → 1 ≤ inputs → inputs ≤ most_inputs → IsOver (scheduler s) inputs
+over s inputs has for some few = record { some = some; within = few; fits = fits-over s inputs has for }
 
-over : (class : Class) (inputs : ℕ) → 1 ≤ inputs → inputs ≤ most_inputs → FitsInputs inputs (scheduler_over class inputs) → IsOver class inputs
-over class inputs some few fits = record { some = some; within = few; fits = fits }
-
-pub over-inputs : (class : Class) (i : ℕ) (links : List Link) → HasLimits class → is_scheduler (Some (role_of class)) ≡ true → inputs_of i (role_of class) links ≤ most_inputs
-    → IsOver class (inputs_of i (role_of class) links)
+pub over-inputs : (class : Class) (i : ℕ) (links : List Link) → HasLimits class → is_scheduler (Some (role_of class)) ≡ true → ports.inputs_of i (role_of class) links ≤ most_inputs
+    → IsOver class (ports.inputs_of i (role_of class) links)
 over-inputs (sender n) i links has is few = absurd (cc)
 over-inputs (queue kind capacity) i links has is few = absurd (cc)
-over-inputs prio i links has is few = over prio (max 1 (inputs_used i links)) (omega arith) few tt
-over-inputs round_robin i links has is few = over round_robin (max 1 (inputs_used i links)) (omega arith) few tt
-over-inputs (drr []) i links has is few = let none : 1 ≤ 0 = has.0 in absurd (omega arith)
-over-inputs (drr (quantum ∷ [])) i links has is few =
-    over (drr (quantum ∷ [])) (max 1 (inputs_used i links)) (omega arith) few (length-replicate (max 1 (inputs_used i links)) quantum, all-same most_quantum quantum (max 1 (inputs_used i links)) has.1.0)
-over-inputs (drr (first ∷ second ∷ more)) i links has is few = over (drr (first ∷ second ∷ more)) (length (first ∷ second ∷ more)) has.0 few (refl, has.1)
-over-inputs (stride tickets) i links has is few = over (stride tickets) (length tickets) has.0 few (refl, has.1)
-over-inputs (shaper rate burst) i links has is few = over (shaper rate burst) 1 (omega arith) few (refl, has.0, has.1)
+over-inputs (scheduler s) i links has is few = by_inputs (inputs_of s) (inputs-some s has) (over s (ports.inputs_of i (role_of (scheduler s)) links) has) few
+  where
+    by_inputs : (o : Option ℕ) → IfSome o (λ n. 1 ≤ n) → (IfSome o (λ n. n ≡ ports.inputs_of i (role_over o) links) → 1 ≤ ports.inputs_of i (role_over o) links → ports.inputs_of i (role_over o) links ≤ most_inputs → IsOver (scheduler s) (ports.inputs_of i (role_over o) links))
+        → ports.inputs_of i (role_over o) links ≤ most_inputs → IsOver (scheduler s) (ports.inputs_of i (role_over o) links)
+    by_inputs None some stands few = stands tt (omega arith) few
+    by_inputs (Some n) some stands few = stands refl some few
 over-inputs (device word) i links has is few = absurd (cc)

@@ -5,7 +5,8 @@ use Rattle.std.specs.List.{cons_option}
 use Rattle.clk_syntax.specs.declared.naming.class.Role.{Role}
 use Rattle.clk_syntax.specs.declared.naming.class.Role.TheVariants as role
 use Rattle.clk_syntax.specs.declared.node.Link.{Link}
-use Rattle.clk_syntax.specs.Classes.{Class, drr, role_of}
+use Rattle.clk_packet.specs.Scheduler.{inputs_of}
+use Rattle.clk_syntax.specs.Classes.{Class, scheduler, role_of, role_over}
 use Rattle.clk_syntax.specs.Source.{Element}
 use Rattle.clk_syntax.specs.Declarations.{class_of}
 use Rattle.clk_syntax.specs.Ports.{role_at, is_queue, is_device, has_device}
@@ -82,15 +83,19 @@ node-at count links (e ∷ elements) i j p at = by_case (class_of e) j at (λ m.
 
 -- what a role says of a class
 pub queue-class : (class : Class) → tree.is_queue class ≡ is_queue (Some (role_of class))
-queue-class (drr []) = refl
-queue-class (drr (q ∷ [])) = refl
-queue-class (drr (q ∷ r ∷ more)) = refl
+queue-class (scheduler s) = by_inputs (inputs_of s)
+  where
+    by_inputs : (o : Option ℕ) → false ≡ is_queue (Some (role_over o))
+    by_inputs None = refl
+    by_inputs (Some n) = refl
 queue-class class = refl
 
 pub device-class : (class : Class) → tree.is_device class ≡ is_device (Some (role_of class))
-device-class (drr []) = refl
-device-class (drr (q ∷ [])) = refl
-device-class (drr (q ∷ r ∷ more)) = refl
+device-class (scheduler s) = by_inputs (inputs_of s)
+  where
+    by_inputs : (o : Option ℕ) → false ≡ is_device (Some (role_over o))
+    by_inputs None = refl
+    by_inputs (Some n) = refl
 device-class class = refl
 
 -- a device among the elements that the checks see is one of the plan

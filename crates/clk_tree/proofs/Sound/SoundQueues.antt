@@ -9,7 +9,8 @@ use Rattle.clk_syntax.specs.declared.naming.class.Role.{Role}
 use Rattle.clk_syntax.specs.declared.naming.class.Role.TheVariants as role
 use Rattle.clk_syntax.specs.declared.node.Node.{Node}
 use Rattle.clk_syntax.specs.declared.node.Link.{Link}
-use Rattle.clk_syntax.specs.Classes.{Class, sender, drr, role_of}
+use Rattle.clk_packet.specs.Scheduler as sched
+use Rattle.clk_syntax.specs.Classes.{Class, sender, scheduler, role_of, role_over}
 use Rattle.clk_syntax.specs.Source.{Element, Wire}
 use Rattle.clk_syntax.specs.Ports.{role_at, is_source, is_queue, is_scheduler, uses_output, inputs_of, target}
 use Rattle.clk_syntax.specs.Faults.{nodes_of, links_of, fault_of}
@@ -77,9 +78,11 @@ queue-role (Some role.Device) e = absurd (cc)
 
 sender-class : (class : Class) → is_source (Some (role_of class)) ≡ true → (n : ℕ) × (class ≡ sender n)
 sender-class (sender n) e = (n, refl)
-sender-class (drr []) e = absurd (cc)
-sender-class (drr (q ∷ [])) e = absurd (cc)
-sender-class (drr (q ∷ r ∷ more)) e = absurd (cc)
+sender-class (scheduler s) e = absurd (by_inputs (sched.inputs_of s) e)
+  where
+    by_inputs : (o : Option ℕ) → is_source (Some (role_over o)) ≡ true → ⊥
+    by_inputs None e = cc
+    by_inputs (Some n) e = cc
 sender-class class e = absurd (cc)
 
 -- at a place of a plan stands a Sender
@@ -184,7 +187,7 @@ no-pull nodes links i s at h =
     let same : h.is ≡ role.Source = same_Some h.is role.Source (sym h.at ∙ at) in
     elim h.pulls [
       | inl other ↦ no-queue (sym other ∙ same)
-      | inr scheduler ↦ false≢true (ap (λ r. is_scheduler (Some r)) (sym same) ∙ scheduler)
+      | inr pulls ↦ false≢true (ap (λ r. is_scheduler (Some r)) (sym same) ∙ pulls)
     ]
   where
     no-queue : role.Queue ≡ role.Source → ⊥

@@ -3,15 +3,15 @@ use Rattle.std.specs.Prelude.{◌≡◌, ◌≤◌, ◌⊎◌, ℕ, List, length
 use Rattle.std.specs.List.{AllByRecursion}
 use Rattle.clk_packet.specs.declared.fault.Fault.{Fault}
 use Rattle.clk_packet.specs.Limits.{most_inputs}
-use Rattle.clk_sched.specs.Tree as tree
-use Rattle.clk_sched.specs.Tree.{Tree, HasArguments}
+use Rattle.clk_packet.specs.Scheduler.{Scheduler, HasArguments}
+use Rattle.clk_sched.specs.Tree.{Tree}
 use Rattle.clk_sched.specs.Built.{built}
 use Rattle.clk_syntax.specs.Classes.{Class}
 use Rattle.clk_tree.specs.Plan.{Planned}
 use Rattle.clk_tree.specs.PlanTree.{is_queue, scheduler_over}
 
 -- The arguments of a scheduler's class fit so many inputs.
-abbrev pub FitsInputs : ℕ → Option tree.Class → Type 0
+abbrev pub FitsInputs : ℕ → Option Scheduler → Type 0
 FitsInputs inputs None = ⊥
 FitsInputs inputs (Some class) = HasArguments class inputs
 

@@ -1,13 +1,10 @@
 //! The elements of a plan.
 
-ghost use Rattle.std.specs.Prelude.{◌≡◌, ◌⊎◌, length, Err, IfOk, IsOkUnless};
+ghost use Rattle.std.specs.Prelude.{◌≡◌, ◌⊎◌, length, Err};
 ghost use Rattle.clk_packet.specs.declared.fault.Fault.TheVariants.{Memory};
-ghost use Rattle.clk_sched.specs.Tree as tree;
-ghost use Rattle.clk_sched.specs.Tree.{HasArguments};
-ghost use Rattle.clk_sched.specs.Built.{built};
 ghost use Rattle.clk_syntax.specs.Classes.{class_view};
 ghost use Rattle.clk_tree.specs.PlanParts.{is_sender};
-ghost use Rattle.clk_tree.specs.PlanTree.{is_queue, is_device, drr_over};
+ghost use Rattle.clk_tree.specs.PlanTree.{is_queue, is_device};
 ghost use Rattle.clk_tree.specs.inside.PlanTree.{IsOver, IsBuilt};
 
 use clk_packet::Fault;
@@ -64,37 +61,11 @@ impl Element {
         ensures { (result ≡ Err Memory) ⊎ IsBuilt (class_view self.now.class) children.items result }
     {
         match &self.class {
-            Class::PrioSched => Tree::prio(children),
-            Class::RoundRobinSched => Tree::round_robin(children),
-            Class::DrrSched(quanta) => {
-                let quanta = quanta_over(alloc, quanta, children.len())?;
-                Tree::drr(quanta, children)
+            Class::Scheduler(scheduler) => {
+                let over = scheduler.over(alloc, children.len())?;
+                Tree::scheduler(over, children)
             }
-            Class::StrideSched(tickets) => Tree::stride(tickets.clone()?, children),
-            Class::Shaper(rate, burst) => shaper_over(alloc, *rate, *burst, children),
             _ => unreachable!(),
         }
-    }
-}
-
-/// The quantum of each of so many inputs, if one quantum is for all of them or there is one for each. Fault 1 if an allocation fails.
-fn quanta_over(alloc: Global, quanta: &[u32], inputs: usize) -> Result<Vec<u32>, Fault>
-    ensures quanta { IfOk result (λ over. tree.drr over.items ≡ drr_over quanta.now inputs) }
-    ensures fault { IsOkUnless result Memory }
-{
-    match quanta {
-        [quantum] => Ok(vec![in alloc; *quantum; inputs]?),
-        _ => Ok(quanta.to_vec(alloc)?),
-    }
-}
-
-/// A Shaper over one tree. Fails as `over` does.
-fn shaper_over(alloc: Global, rate: u32, burst: u32, mut children: Vec<Tree>) -> Result<Tree, Fault>
-    requires one { HasArguments (tree.shaper rate burst) (length children.items) }
-    ensures { (result ≡ Err Memory) ⊎ (result ≡ built (tree.shaper rate burst) children.items) }
-{
-    match children.pop() {
-        Some(child) => Tree::shaper(alloc, rate, burst, child),
-        None => unreachable!(),
     }
 }

@@ -19,31 +19,31 @@ pub fn canonical_text(alloc: Global, elements: &[Element]) -> Result<Vec<u8>, Fa
     ensures fault { IsOkUnless result Memory }
 {
     let mut text = Vec::new(alloc);
-    push_elements(&mut text, elements)?;
+    push_elements(alloc, &mut text, elements)?;
     push_all_connections(&mut text, elements)?;
     Ok(text)
 }
 
 /// Adds the line of each element. Fault 1 if an allocation fails.
-fn push_elements(text: &mut Vec<u8>, elements: &[Element]) -> Result<(), Fault>
+fn push_elements(alloc: Global, text: &mut Vec<u8>, elements: &[Element]) -> Result<(), Fault>
     ensures lines { OnOk result (text.new.items ≡ text.old.items ++ flat_map element_text (map planned elements.now)) }
     ensures fault { IsOkUnless result Memory }
 {
     for element in elements {
-        push_element(text, element)?;
+        push_element(alloc, text, element)?;
     }
     Ok(())
 }
 
 /// Adds the line of an element. Fault 1 if an allocation fails.
-fn push_element(text: &mut Vec<u8>, element: &Element) -> Result<(), Fault>
+fn push_element(alloc: Global, text: &mut Vec<u8>, element: &Element) -> Result<(), Fault>
     ensures line { OnOk result (text.new.items ≡ text.old.items ++ element_text (planned element.now)) }
     ensures fault { IsOkUnless result Memory }
 {
     text.extend_from_slice(&element.name)?;
     text.extend_from_slice(b" :: ")?;
     text.extend_from_slice(class_text(&element.class))?;
-    push_arguments(text, &element.class)?;
+    push_arguments(alloc, text, &element.class)?;
     text.extend_from_slice(b";\n")?;
     Ok(())
 }
@@ -56,27 +56,20 @@ fn class_text(class: &Class) -> &'static [u8]
         Class::Sender(_) => b"Sender",
         Class::Queue(Kind::TailDrop, _) => b"Queue",
         Class::Queue(Kind::FrontDrop, _) => b"FrontDropQueue",
-        Class::PrioSched => b"PrioSched",
-        Class::RoundRobinSched => b"RoundRobinSched",
-        Class::DrrSched(_) => b"DRRSched",
-        Class::StrideSched(_) => b"StrideSched",
-        Class::Shaper(_, _) => b"Shaper",
+        Class::Scheduler(scheduler) => scheduler.name().text(),
         Class::ToDevice(_) => b"ToDevice",
     }
 }
 
 /// Adds the arguments of a class, all of them. Fault 1 if an allocation fails.
-fn push_arguments(text: &mut Vec<u8>, class: &Class) -> Result<(), Fault>
+fn push_arguments(alloc: Global, text: &mut Vec<u8>, class: &Class) -> Result<(), Fault>
     ensures arguments { OnOk result (text.new.items ≡ text.old.items ++ arguments_text (arguments_of (class_view class.now))) }
     ensures fault { IsOkUnless result Memory }
 {
     match class {
         Class::Sender(number) => push_numbers(text, &[u32::from(*number)]),
         Class::Queue(_, capacity) => push_numbers(text, &[*capacity]),
-        Class::PrioSched | Class::RoundRobinSched => Ok(()),
-        Class::DrrSched(quanta) => push_numbers(text, quanta),
-        Class::StrideSched(tickets) => push_numbers(text, tickets),
-        Class::Shaper(rate, burst) => push_numbers(text, &[*rate, *burst]),
+        Class::Scheduler(scheduler) => push_numbers(text, &scheduler.arguments(alloc)?),
         Class::ToDevice(word) => push_word(text, word),
     }
 }

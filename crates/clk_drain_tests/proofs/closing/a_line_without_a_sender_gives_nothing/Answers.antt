@@ -1,6 +1,6 @@
 use Rattle.std.proofs.Common.{rules, [], ◌∷◌, sym, ap, ◌∙◌, subst}
 use Rattle.clk_packet.specs.Lists.{are_distinct, AreRising}
-use Rattle.clk_sched.specs.Tree.{prio}
+use Rattle.clk_packet.specs.Scheduler.{prio}
 use Rattle.clk_drain.specs.Line.{leaves_of}
 use Rattle.clk_drain_tests.proofs.Built.{leaves-built}
 use Rattle.clk_drain_tests.proofs.closing.a_line_without_a_sender_gives_nothing.Goals as goal

@@ -1,6 +1,6 @@
 use Rattle.std.proofs.Common.{rules, [], ◌∷◌, sym, ap, ◌∙◌, subst}
 use Rattle.clk_packet.specs.Lists.{are_distinct, AreRising}
-use Rattle.clk_sched.specs.Tree.{drr}
+use Rattle.clk_packet.specs.Scheduler.{drr}
 use Rattle.clk_drain.specs.Line.{leaves_of}
 use Rattle.clk_drain_tests.proofs.Built.{leaves-built}
 use Rattle.clk_drain_tests.proofs.closing.held_heads.Goals as goal

@@ -8,7 +8,7 @@ use Rattle.clk_sched.specs.declared.session.stride.Passes.{Passes}
 use Rattle.clk_sched.specs.declared.session.stride.Rank.{Rank}
 use Rattle.clk_sched.specs.declared.session.inputs.Inputs.{Inputs}
 use Rattle.clk_sched.specs.declared.session.nodes.Nodes.{Nodes}
-use Rattle.clk_sched.specs.declared.session.inputs.Input.TheVariants.{Queue, Scheduler}
+use Rattle.clk_sched.specs.declared.session.inputs.Input.TheVariants.{Queue, Node}
 use Rattle.clk_sched.specs.declared.session.state.State.TheVariants.{RoundRobin, Drr, Stride}
 use Rattle.clk_sched.specs.Answers.{at_queue}
 use Rattle.clk_sched.specs.inside.Places.{edges_in, input_at, queue_asked}
@@ -52,29 +52,29 @@ nodes::Nodes::ask-returns-in-Queue-clause-asks g t c =
     let input : input_at table c.args.node c.args.input ≡ Some (Queue c.in-Queue.leaf) = input-is table c.args.node c.args.input c.index.result.now c.index-2.result.now place c.requires.within c.index-2.ensures ∙ ap Some c.in-Queue.is in
     asks-queue c.args.self.now c.args.node c.args.input c.in-Queue.leaf c.ask.result input
 
-pub nodes::Nodes::ask-returns-in-Scheduler-clause-keeps : goal.nodes::Nodes::ask-returns-in-Scheduler-clause-keeps
-nodes::Nodes::ask-returns-in-Scheduler-clause-keeps g t c =
+pub nodes::Nodes::ask-returns-in-Node-clause-keeps : goal.nodes::Nodes::ask-returns-in-Node-clause-keeps
+nodes::Nodes::ask-returns-in-Node-clause-keeps g t c =
     let table = c.args.self.now.inputs.items in
     let place = entry table c.args.node c.index.result.now (c.requires.can_pull.there) c.index.ensures in
-    let input : input_at table c.args.node c.args.input ≡ Some (Scheduler c.in-Scheduler.child) = input-is table c.args.node c.args.input c.index.result.now c.index-2.result.now place c.requires.within c.index-2.ensures ∙ ap Some c.in-Scheduler.is in
-    let edges = edges-scheduler table c.args.node c.args.input c.in-Scheduler.child input in
+    let input : input_at table c.args.node c.args.input ≡ Some (Node c.in-Node.child) = input-is table c.args.node c.args.input c.index.result.now c.index-2.result.now place c.requires.within c.index-2.ensures ∙ ap Some c.in-Node.is in
+    let edges = edges-scheduler table c.args.node c.args.input c.in-Node.child input in
     keeps-more c.args.self.now c.pull.new.self _ _ c.pull.ensures.keeps (omega (arith, edges))
 
-pub nodes::Nodes::ask-returns-in-Scheduler-clause-answers : goal.nodes::Nodes::ask-returns-in-Scheduler-clause-answers
-nodes::Nodes::ask-returns-in-Scheduler-clause-answers g t c =
+pub nodes::Nodes::ask-returns-in-Node-clause-answers : goal.nodes::Nodes::ask-returns-in-Node-clause-answers
+nodes::Nodes::ask-returns-in-Node-clause-answers g t c =
     let table = c.args.self.now.inputs.items in
     let place = entry table c.args.node c.index.result.now (c.requires.can_pull.there) c.index.ensures in
-    let input : input_at table c.args.node c.args.input ≡ Some (Scheduler c.in-Scheduler.child) = input-is table c.args.node c.args.input c.index.result.now c.index-2.result.now place c.requires.within c.index-2.ensures ∙ ap Some c.in-Scheduler.is in
+    let input : input_at table c.args.node c.args.input ≡ Some (Node c.in-Node.child) = input-is table c.args.node c.args.input c.index.result.now c.index-2.result.now place c.requires.within c.index-2.ensures ∙ ap Some c.in-Node.is in
     λ v node at fresh got.
     answers-then g.Q.Ask.gives (queue_asked table) (added c.args.self.now c.pull.new.self) (v ∷ []) c.args.q.now c.pull.new.q c.pull.new.q c.pull.ensures.answers
-    (subst (λ o. at_queue g.Q.Ask.gives o v.got c.pull.new.q (λ s. s ≡ c.pull.new.q)) (sym (queue-visited table c.args.node c.args.input (Scheduler c.in-Scheduler.child) v input node at fresh)) refl)
+    (subst (λ o. at_queue g.Q.Ask.gives o v.got c.pull.new.q (λ s. s ≡ c.pull.new.q)) (sym (queue-visited table c.args.node c.args.input (Node c.in-Node.child) v input node at fresh)) refl)
 
-pub nodes::Nodes::ask-returns-in-Scheduler-clause-asks : goal.nodes::Nodes::ask-returns-in-Scheduler-clause-asks
-nodes::Nodes::ask-returns-in-Scheduler-clause-asks g t c =
+pub nodes::Nodes::ask-returns-in-Node-clause-asks : goal.nodes::Nodes::ask-returns-in-Node-clause-asks
+nodes::Nodes::ask-returns-in-Node-clause-asks g t c =
     let table = c.args.self.now.inputs.items in
     let place = entry table c.args.node c.index.result.now (c.requires.can_pull.there) c.index.ensures in
-    let input : input_at table c.args.node c.args.input ≡ Some (Scheduler c.in-Scheduler.child) = input-is table c.args.node c.args.input c.index.result.now c.index-2.result.now place c.requires.within c.index-2.ensures ∙ ap Some c.in-Scheduler.is in
-    asks-child c.args.self.now c.pull.new.self c.args.node c.args.input c.in-Scheduler.child c.pull.result input c.pull.ensures.pulls
+    let input : input_at table c.args.node c.args.input ≡ Some (Node c.in-Node.child) = input-is table c.args.node c.args.input c.index.result.now c.index-2.result.now place c.requires.within c.index-2.ensures ∙ ap Some c.in-Node.is in
+    asks-child c.args.self.now c.pull.new.self c.args.node c.args.input c.in-Node.child c.pull.result input c.pull.ensures.pulls
 
 pub nodes::Nodes::ask_in_order-loop-place-init : goal.nodes::Nodes::ask_in_order-loop-place-init
 nodes::Nodes::ask_in_order-loop-place-init g t c =

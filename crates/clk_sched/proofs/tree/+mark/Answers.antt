@@ -10,8 +10,8 @@ use Rattle.clk_sched.proofs.tree.+mark.Goals as goal
 
 pub Tree::mark-mark-requires : goal.Tree::mark-mark-requires
 Tree::mark-mark-requires t c =
-    let is : _ = ap elements_of (sym c.self.view_is ∙ ap kept c.in-Scheduler.is) in
-    let inputs : elements (row c.deref.result.now) ≡ elements (row c.in-Scheduler.inputs.items) = ap (λ ts. elements (row ts)) c.deref.ensures.value in
+    let is : _ = ap elements_of (sym c.self.view_is ∙ ap kept c.in-Inner.is) in
+    let inputs : elements (row c.deref.result.now) ≡ elements (row c.in-Inner.inputs.items) = ap (λ ts. elements (row ts)) c.deref.ensures.value in
     (omega (arith, is, inputs, c.decreases), tt)
 
 pub Tree::mark-returns-in-Leaf : goal.Tree::mark-returns-in-Leaf

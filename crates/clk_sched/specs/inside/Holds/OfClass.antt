@@ -3,7 +3,7 @@ use Rattle.std.specs.Prelude.{◌≡◌, ℕ, ◌<◌, ◌≤◌, List, length, 
 use Rattle.clk_sched.specs.declared.session.state.State.{State}
 use Rattle.clk_sched.specs.declared.session.state.State.TheVariants.{Prio, RoundRobin, Drr, Stride, Shaper}
 use Rattle.clk_sched.specs.declared.session.stride.Passes.{Passes}
-use Rattle.clk_sched.specs.Tree.{Class, prio, round_robin, drr, stride, shaper}
+use Rattle.clk_packet.specs.Scheduler.{Scheduler, prio, round_robin, drr, stride, shaper}
 use Rattle.clk_sched.specs.Turns.{Turn, visits_before}
 use Rattle.clk_sched.specs.Laws.RoundRobin.{beginning}
 use Rattle.clk_sched.specs.inside.Holds.Deficit.{HoldsDeficits}
@@ -51,7 +51,7 @@ IsShaper (Shaper b) = ⊤
 IsShaper s = ⊥
 
 -- what a scheduler of a class with so many inputs holds after these turns, the latest first: nothing of another class
-abbrev pub Holds : Class → ℕ → List Turn → State → Type 0
+abbrev pub Holds : Scheduler → ℕ → List Turn → State → Type 0
 Holds prio inputs turns Prio = ⊤
 Holds round_robin inputs turns (RoundRobin b) = b.input ≡ beginning inputs turns
 Holds (drr quanta) inputs turns (Drr d) = HoldsDeficits quanta inputs (visits_before turns) d.value

@@ -55,8 +55,8 @@ due_from-returns-in-Queue-clause-due g t c =
     subst (λ i. AreDue n b (i ∷ []) c.due_if.result) (sym c.in-Queue.is)
     (queue-due n b c.in-Queue.leaf c.due_if.result (λ moment l. c.due_if.ensures.due moment l ∙ c.is_backlogged.ensures) c.due_if.ensures.now)
 
-pub due_from-returns-in-Scheduler-clause-due : goal.due_from-returns-in-Scheduler-clause-due
-due_from-returns-in-Scheduler-clause-due g t c =
+pub due_from-returns-in-Node-clause-due : goal.due_from-returns-in-Node-clause-due
+due_from-returns-in-Node-clause-due g t c =
     let n = c.args.self.now in
     let b = g.B.Backlog.backlogged c.args.queues.now in
-    subst (λ i. AreDue n b (i ∷ []) c.due_at.result) (sym c.in-Scheduler.is) (scheduler-due n b c.in-Scheduler.below c.due_at.result c.due_at.ensures.due)
+    subst (λ i. AreDue n b (i ∷ []) c.due_at.result) (sym c.in-Node.is) (scheduler-due n b c.in-Node.below c.due_at.result c.due_at.ensures.due)

@@ -1,7 +1,7 @@
 use Rattle.std.proofs.Common.{◌≡◌, ◌-◌, None, sym, ap, ◌∙◌, subst, arith}
 use Rattle.clk_sched.specs.declared.session.nodes.Nodes.{Nodes}
 use Rattle.clk_sched.specs.inside.Turning.{with_idle_at, WasPulled}
-use Rattle.clk_sched.proofs.Turns.IdleTurns.{round_robin-read, round_robin-begins, round_robin-room, round_robin-passed}
+use Rattle.clk_sched.proofs.Turns.IdleRoundRobin.{round_robin-read, round_robin-begins, round_robin-room, round_robin-passed}
 use Rattle.clk_sched.proofs.session.round_robin.Beginning.pass_all.Goals as goal
 
 pub returns : goal.returns
