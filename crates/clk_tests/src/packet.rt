@@ -1,6 +1,7 @@
 //! Sources, sinks and lists of packets.
 
 mod fronts;
+mod schedulers;
 mod texts;
 mod traces;
 
