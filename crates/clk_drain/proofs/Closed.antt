@@ -1,19 +1,26 @@
 -- What closing a session over its lines comes to.
-use Rattle.std.proofs.Common.{◌≡◌, ℕ, ◌+◌, ◌-◌, ◌||◌, Bool, true, false, List, [], ◌∷◌, length, map, max, refl, sym, ap, ◌∙◌, subst}
+use Rattle.std.proofs.Common.{◌≡◌, ℕ, ◌+◌, ◌-◌, ◌||◌, Bool, true, false, List, [], ◌∷◌, length, map, max, Result, Ok, Err, IfOk, Vec, refl, sym, ap, ◌∙◌, subst}
+use Rattle.std.specs.declared.alloc.Global.{Global}
 use Rattle.std.specs.List.{AllByRecursion}
+use Rattle.clk_packet.specs.declared.fault.Fault.{Fault}
 use Rattle.clk_packet.specs.declared.packet.Packet.{Packet}
 use Rattle.clk_packet.specs.declared.tally.Tally.{Tally}
 use Rattle.clk_packet.specs.Lists.{are_distinct}
 use Rattle.clk_sched.specs.Tree.{Tree, leaves_distinct}
 use Rattle.clk_sched.specs.Conservation.{ConservesPackets, ConservesCounts, MakesNothing}
+use Rattle.clk_sched.specs.declared.visit.Visit.{Visit}
+use Rattle.clk_sched.specs.declared.session.packed.PackedLog.{PackedLog}
+use Rattle.clk_sched.specs.Packed.{logged}
 use Rattle.clk_sched.specs.Results.{emitted}
 use Rattle.clk_sched.specs.Keeps.{keeps_visits, keeps_emitted, TellsEmitted}
 use Rattle.clk_sched.specs.Session.{Progress, SessionLists, counted_moment, IsDrained}
 use Rattle.clk_sched.specs.Drain.{GivesAll}
 use Rattle.clk_drain.specs.Line.{LineLists, seats_in, senders_at, HaveOwnSenders}
-use Rattle.clk_drain.specs.Closing.{left_over, queue_of_line, device_of, tallies_in, AreInOrder, HasSent, IsDrainedTo}
+use Rattle.clk_drain.specs.Closing.{left_over, queue_of_line, device_of, tallies_in, AreInOrder, HasSent, IsDrainedOver, IsDrainedTo}
 use Rattle.clk_drain.specs.Outcome.{Device, IsSettledOutcome}
 use Rattle.clk_drain.specs.Parts.{IsWithin}
+use Rattle.clk_drain.specs.declared.drained.Drained.{Drained}
+use Rattle.clk_drain.specs.inside.Closing.{IsDrainedAs}
 use Rattle.clk_drain.specs.inside.Parts.{IsDrainOf, IsSettledLine}
 use Rattle.clk_drain.proofs.Left.{IsLeft, left-is}
 use Rattle.clk_drain.proofs.Still.{still-accepted, still-evicted, still-seats, still-queues, still-tallies}
@@ -68,3 +75,13 @@ drained-over session new lines gathered after moment left out tallies conserves 
       made = h.drained.made;
       goes_on = subst (λ (x : Progress × ℕ). GivesAll session x.0 (max (counted_moment session) moment) h.drained.made x.1) (λ i. (record { tree = h.drained.gives.drained.tree i; log = new.log }, left-is session lines gathered left h.leaves_some i)) h.drained.gives;
     }
+
+-- A drain whose log is unpacked is what it was.
+pub drained-unpacked : (session : Progress) (keeps : Bool) (lines : List LineLists) (moment : ℕ) (packed : Drained PackedLog) (result : Result (Drained (Vec Visit Global)) Fault) → keeps ≡ true → IsDrainedAs session keeps lines moment packed
+    → IfOk result (λ d. d.emitted.items ≡ packed.emitted.items) → IfOk result (λ d. d.log.items ≡ logged packed.log) → IfOk result (λ d. d.tallies.items ≡ packed.tallies.items)
+    → IfOk result (IsDrainedOver session lines moment)
+drained-unpacked session keeps lines moment packed (Err fault) visits drained emitted log tallies = tt
+drained-unpacked session keeps lines moment packed (Ok d) visits drained emitted log tallies =
+    subst (λ log. IsDrainedTo session lines moment log d.emitted.items d.tallies.items) (sym (log ∙ drained.kept visits))
+    (subst (λ emitted. IsDrainedTo session lines moment drained.log emitted d.tallies.items) (sym emitted)
+    (subst (IsDrainedTo session lines moment drained.log packed.emitted.items) (sym tallies) drained.is))
