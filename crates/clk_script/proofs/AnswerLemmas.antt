@@ -15,8 +15,8 @@ use Rattle.clk_sched.specs.declared.session.departures.Departure.{Departure}
 use Rattle.clk_sched.specs.Results.{emitted}
 use Rattle.clk_script.specs.declared.script.Command.{Command}
 use Rattle.clk_script.specs.declared.script.Command.TheVariants.{Send, Pull}
-use Rattle.clk_script.specs.declared.rows.Row.{Row}
-use Rattle.clk_script.specs.declared.rows.Row.TheVariants as row
+use Rattle.clk_script.specs.declared.rows.ScriptRow.{ScriptRow}
+use Rattle.clk_script.specs.declared.rows.ScriptRow.TheVariants as row
 use Rattle.clk_script.specs.declared.script_router.ScriptRouter.{ScriptRouter}
 use Rattle.clk_script.specs.Script.{Names, most_lines, most_moment}
 use Rattle.clk_router.specs.Course.{sender_at}
@@ -29,23 +29,23 @@ use Rattle.clk_script.proofs.RowLemmas.{rows-written}
 use Rattle.clk_script.proofs.ScriptRouterLemmas.{alike-its}
 
 -- the commands of rows that are to be carried out are readable
-row-readable : (names : Names) (r : Row) → IsToDo names r → IsReadable (command_asked r)
+row-readable : (names : Names) (r : ScriptRow) → IsToDo names r → IsReadable (command_asked r)
 row-readable names (row.Send fate place p) h = p.has_length
 row-readable names (row.Pull gave device moment) h = h.1
 
-each-readable : (names : Names) (rows : List Row) → AllByRecursion (IsToDo names) rows → AllByRecursion IsReadable (asked_by rows)
+each-readable : (names : Names) (rows : List ScriptRow) → AllByRecursion (IsToDo names) rows → AllByRecursion IsReadable (asked_by rows)
 each-readable names [] h = tt
 each-readable names (r ∷ rows) h = (row-readable names r h.0, each-readable names rows h.1)
 
 -- rows after others, which are of events after others
-rows-appended : (events more : List Event) (rows others : List Row) → AllZip IsRowOf events rows → AllZip IsRowOf more others → AllZip IsRowOf (events ++ more) (rows ++ others)
+rows-appended : (events more : List Event) (rows others : List ScriptRow) → AllZip IsRowOf events rows → AllZip IsRowOf more others → AllZip IsRowOf (events ++ more) (rows ++ others)
 rows-appended [] more [] others h k = k
 rows-appended [] more (r ∷ rows) others h k = absurd h
 rows-appended (e ∷ events) more [] others h k = absurd h
 rows-appended (e ∷ events) more (r ∷ rows) others h k = (h.0, rows-appended events more rows others h.1 k)
 
 -- No row was carried out, one was, and some were after others.
-pub AnswersRows-none : (router : ScriptRouter) (asked done : List Row) → asked ≡ [] → done ≡ [] → AnswersRows router router asked done
+pub AnswersRows-none : (router : ScriptRouter) (asked done : List ScriptRow) → asked ≡ [] → done ≡ [] → AnswersRows router router asked done
 AnswersRows-none router asked done none nothing =
     λ setup events at.
     record {
@@ -58,7 +58,7 @@ AnswersRows-none router asked done none nothing =
       leads = subst (λ l. IsAt setup l router) (sym (append-nil events)) at;
     }
 
-pub AnswersRows-sent : (old new : ScriptRouter) (asked done : Row) (place : ℕ) (p : Packet) (outcome : Offered) → command_asked asked ≡ Send p.sender p.length → done ≡ row_at place (offered p outcome) → new.given ≡ old.given
+pub AnswersRows-sent : (old new : ScriptRouter) (asked done : ScriptRow) (place : ℕ) (p : Packet) (outcome : Offered) → command_asked asked ≡ Send p.sender p.length → done ≡ row_at place (offered p outcome) → new.given ≡ old.given
     → new.router.keeps ≡ old.router.keeps → sender_at old.router.setup place ≡ Some p.sender
     → ((setup : Setup) (events : List Event) → IsAt setup events old → IsAt setup (events ++ offered p outcome ∷ []) new) → AnswersRows old new (asked ∷ []) (done ∷ [])
 AnswersRows-sent old new asked done place p outcome asks is given keeps its leads =
@@ -73,7 +73,7 @@ AnswersRows-sent old new asked done place p outcome asks is given keeps its lead
       leads = leads setup events at;
     }
 
-pub AnswersRows-pulled : (old new : ScriptRouter) (asked done : Row) (device moment : ℕ) (got : Option Packet) → command_asked asked ≡ Pull device moment → done ≡ row.Pull (is_some got) device moment → new.given.items ≡ given_kept old got
+pub AnswersRows-pulled : (old new : ScriptRouter) (asked done : ScriptRow) (device moment : ℕ) (got : Option Packet) → command_asked asked ≡ Pull device moment → done ≡ row.Pull (is_some got) device moment → new.given.items ≡ given_kept old got
     → new.router.keeps ≡ old.router.keeps → (device < length old.router.setup.trees) × (moment ≤ most_moment)
     → ((setup : Setup) (events : List Event) → IsAt setup events old → LeadsOnByPull setup new device moment got events) → AnswersRows old new (asked ∷ []) (done ∷ [])
 AnswersRows-pulled old new asked done device moment got asks is given keeps can leads =
@@ -92,7 +92,7 @@ AnswersRows-pulled old new asked done device moment got asks is given keeps can 
       leads = led.leads;
     }
 
-pub AnswersRows-then : (a b c : ScriptRouter) (asked done later rows : List Row) → AnswersRows a b asked done → AnswersRows b c later rows → AnswersRows a c (asked ++ later) (done ++ rows)
+pub AnswersRows-then : (a b c : ScriptRouter) (asked done later rows : List ScriptRow) → AnswersRows a b asked done → AnswersRows b c later rows → AnswersRows a c (asked ++ later) (done ++ rows)
 AnswersRows-then a b c asked done later rows first next =
     λ setup events at.
     let one = first setup events at in
@@ -115,7 +115,7 @@ pub names-its : (setup : Setup) (events : List Event) (router : ScriptRouter) �
 names-its setup events router at = ap names_of at.setup_is
 
 -- A router over which some rows were carried out can carry out more, and what a script may name over it is as before.
-pub IsReady-answered : (setup : Setup) (old new : ScriptRouter) (asked done : List Row) → Starts setup old → AllByRecursion (IsToDo (names_in old)) asked → length asked ≤ most_lines → AnswersRows old new asked done
+pub IsReady-answered : (setup : Setup) (old new : ScriptRouter) (asked done : List ScriptRow) → Starts setup old → AllByRecursion (IsToDo (names_in old)) asked → length asked ≤ most_lines → AnswersRows old new asked done
     → IsReady new × (names_in new ≡ names_in old)
 IsReady-answered setup old new asked done starts to_do few answers =
     let carried = answers setup [] starts.leads in
@@ -141,23 +141,23 @@ all-at P (x ∷ xs) zero d within h = h.0
 all-at P (x ∷ xs) (suc i) d within h = all-at P xs i d (omega arith) h.1
 
 -- The rows before a place are carried out, and the others are as they were.
-pub record IsCarriedTo (old new : ScriptRouter) (asked rows : List Row) (i : ℕ) : Type 0 where
+pub record IsCarriedTo (old new : ScriptRouter) (asked rows : List ScriptRow) (i : ℕ) : Type 0 where
   pub within : i ≤ length rows
   pub count : length rows ≡ length asked
   pub left : drop i rows ≡ drop i asked
   pub answers : AnswersRows old new (take i asked) (take i rows)
 
-pub IsCarriedTo-none : (router : ScriptRouter) (rows : List Row) → IsCarriedTo router router rows rows 0
+pub IsCarriedTo-none : (router : ScriptRouter) (rows : List ScriptRow) → IsCarriedTo router router rows rows 0
 IsCarriedTo-none router rows = record { within = omega arith; count = refl; left = refl; answers = AnswersRows-none router [] [] refl refl }
 
 -- the row at the place is the one that was asked for
-still-asked : (asked rows : List Row) (i : ℕ) (row : Row) → i < length rows → length rows ≡ length asked → drop i rows ≡ drop i asked → row ≡ get_or rows i row → get_or asked i row ≡ row
+still-asked : (asked rows : List ScriptRow) (i : ℕ) (row : ScriptRow) → i < length rows → length rows ≡ length asked → drop i rows ≡ drop i asked → row ≡ get_or rows i row → get_or asked i row ≡ row
 still-asked asked rows i row within count left is =
     let first : get_or rows i row ∷ drop (i + 1) rows ≡ get_or asked i row ∷ drop (i + 1) asked = sym (drop_more rows i row within) ∙ left ∙ drop_more asked i row (omega (arith, within, count)) in
     let same : get_or rows i row ≡ get_or asked i row = cc first in
     sym (is ∙ same)
 
-pub IsCarriedTo-ready : (setup : Setup) (old new : ScriptRouter) (asked rows : List Row) (i : ℕ) (row : Row) → Starts setup old → AllByRecursion (IsToDo (names_in old)) asked → length asked ≤ most_lines
+pub IsCarriedTo-ready : (setup : Setup) (old new : ScriptRouter) (asked rows : List ScriptRow) (i : ℕ) (row : ScriptRow) → Starts setup old → AllByRecursion (IsToDo (names_in old)) asked → length asked ≤ most_lines
     → IsCarriedTo old new asked rows i → i < length rows → row ≡ get_or rows i row → IsReady new × IsToDo (names_in new) row
 IsCarriedTo-ready setup old new asked rows i row starts to_do few carried within is =
     let front = all-front (IsToDo (names_in old)) (take i asked) (drop i asked) (subst (AllByRecursion (IsToDo (names_in old))) (sym (take-append-drop i asked)) to_do) in
@@ -167,7 +167,7 @@ IsCarriedTo-ready setup old new asked rows i row starts to_do few carried within
     let here = subst (IsToDo (names_in old)) (still-asked asked rows i row within carried.count carried.left is) (all-at (IsToDo (names_in old)) asked i row inside to_do) in
     (ready.0, subst (λ names. IsToDo names row) (sym ready.1) here)
 
-pub IsCarriedTo-more : (old mid new : ScriptRouter) (asked rows : List Row) (i : ℕ) (row done : Row) → IsCarriedTo old mid asked rows i → i < length rows → row ≡ get_or rows i row → AnswersRows mid new (row ∷ []) (done ∷ [])
+pub IsCarriedTo-more : (old mid new : ScriptRouter) (asked rows : List ScriptRow) (i : ℕ) (row done : ScriptRow) → IsCarriedTo old mid asked rows i → i < length rows → row ≡ get_or rows i row → AnswersRows mid new (row ∷ []) (done ∷ [])
     → IsCarriedTo old new asked (set rows i done) (i + 1)
 IsCarriedTo-more old mid new asked rows i row done carried within is answers =
     record {
@@ -183,13 +183,13 @@ IsCarriedTo-more old mid new asked rows i row done carried within is answers =
     inside : i < length asked
     inside = let count = carried.count in omega (arith, within, count)
 
-pub all-answered : (old new : ScriptRouter) (asked rows : List Row) (i : ℕ) → IsCarriedTo old new asked rows i → length rows ≤ i → AnswersRows old new asked rows
+pub all-answered : (old new : ScriptRouter) (asked rows : List ScriptRow) (i : ℕ) → IsCarriedTo old new asked rows i → length rows ≤ i → AnswersRows old new asked rows
 all-answered old new asked rows i carried all =
     let count = carried.count in
     subst (λ l. AnswersRows old new l rows) (take_all i asked (omega (arith, count, all))) (subst (λ l. AnswersRows old new (take i asked) l) (take_all i rows all) carried.answers)
 
 -- A router over which all commands of a script were carried out, from what was kept of it, and what was kept when it ended.
-module _ (setup : Setup) (old mid : ScriptRouter) (asked done : List Row) (starts : Starts setup old) (answers : AnswersRows old mid asked done) where
+module _ (setup : Setup) (old mid : ScriptRouter) (asked done : List ScriptRow) (starts : Starts setup old) (answers : AnswersRows old mid asked done) where
   carried : CarriesOut setup old mid asked done []
   carried = answers setup [] starts.leads
 
@@ -212,7 +212,7 @@ module _ (setup : Setup) (old mid : ScriptRouter) (asked done : List Row) (start
         ∙ (λ i. ending_text (at.setup_is i) (Some 0) (at.events_are i))
 
   -- What it comes to, without a closing and with one.
-  module _ (new : ScriptRouter) (tells : flat_map account_line (map (account_after new.router.events) new.router.setup.senders) ≡ ending_text new.router.setup (Some 0) new.router.events) (rows : Vec Row Global)
+  module _ (new : ScriptRouter) (tells : flat_map account_line (map (account_after new.router.events) new.router.setup.senders) ≡ ending_text new.router.setup (Some 0) new.router.events) (rows : Vec ScriptRow Global)
       (are : rows.items ≡ done) where
     all_lines : (later : List Event) → IsAt setup (carried.more ++ later) new → new.given ≡ mid.given
         → rows_text (has_several new.router.setup) rows.items (given_of new) new.evicted.items ≡ flat_map (event_text (has_several setup)) carried.more
@@ -265,7 +265,7 @@ module _ (setup : Setup) (old mid : ScriptRouter) (asked done : List Row) (start
         }
 
 -- Whatever was carried out and closed, a router has its devices, and keeps what it did.
-module _ (setup : Setup) (old mid : ScriptRouter) (asked done : List Row) (starts : Starts setup old) (answers : AnswersRows old mid asked done) where
+module _ (setup : Setup) (old mid : ScriptRouter) (asked done : List ScriptRow) (starts : Starts setup old) (answers : AnswersRows old mid asked done) where
   carried_to : CarriesOut setup old mid asked done []
   carried_to = answers setup [] starts.leads
 

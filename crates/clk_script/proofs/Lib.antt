@@ -21,4 +21,6 @@ mod OneTree
 mod Apart
 mod ScriptLemmas
 mod RefusalLemmas
+mod HeldLemmas
+mod CarriedLemmas
 mod ReplayLemmas

@@ -2,7 +2,7 @@
 use Rattle.std.proofs.Common.{◌≡◌, ℕ, ◌<◌, true, suc, List, [], ◌∷◌, length, drop, codes, Some, None, refl, ap, ◌∙◌, arith}
 use Rattle.std.specs.List.{AllByRecursion, filter, slice_split}
 use Rattle.std.proofs.lemmas.Bool.{false≢true}
-use Rattle.clk_script.specs.declared.script.Line.TheVariants as line
+use Rattle.clk_script.specs.declared.script.ScriptLine.TheVariants as line
 use Rattle.clk_packet.specs.Limits.{most_sender, most_length}
 use Rattle.clk_script.specs.declared.script.Command.TheVariants.{Send, Pull}
 use Rattle.clk_packet.specs.Numbers.{has_bytes, number_in}

@@ -10,7 +10,7 @@ use Rattle.std.proofs.lemmas.List.Elements.{All-nil, All-cons, All-append}
 use Rattle.std.proofs.lemmas.List.Splits.{slice_split_at, slice_split_none, length-slice_split}
 use Rattle.clk_packet.specs.Limits.{most_sender, most_length}
 use Rattle.clk_script.specs.declared.script.Command.TheVariants.{Send, Pull}
-use Rattle.clk_script.specs.declared.script.Line.TheVariants as line
+use Rattle.clk_script.specs.declared.script.ScriptLine.TheVariants as line
 use Rattle.clk_packet.specs.Numbers.{BeginsWithNumber, has_bytes}
 use Rattle.clk_packet.proofs.Callers.Numbers.{AreDigits, number-digits}
 use Rattle.clk_script.specs.Script.{is_blank, fields, line_of_fields, line_of, lines_of, most_moment}

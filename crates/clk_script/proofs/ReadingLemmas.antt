@@ -10,10 +10,10 @@ use Rattle.std.proofs.lemmas.List.Elements.{filter_map-append}
 use Rattle.std.proofs.lemmas.List.Splits.{length-slice_split}
 use Rattle.clk_packet.specs.declared.fault.Fault.{Fault}
 use Rattle.clk_packet.proofs.Callers.Lists.{all-append}
-use Rattle.clk_script.specs.declared.script.Line.{Line}
-use Rattle.clk_script.specs.declared.script.Line.TheVariants as line
+use Rattle.clk_script.specs.declared.script.ScriptLine.{ScriptLine}
+use Rattle.clk_script.specs.declared.script.ScriptLine.TheVariants as line
 use Rattle.clk_script.specs.declared.script.Command.{Command}
-use Rattle.clk_script.specs.declared.rows.Row.{Row}
+use Rattle.clk_script.specs.declared.rows.ScriptRow.{ScriptRow}
 use Rattle.clk_script.specs.declared.reading.Reading.{Reading}
 use Rattle.clk_script.specs.Script.{Names, line_of, lines_of, command_in, drain_in, is_drain, fault_at, first_fault, most_lines, most_moment}
 use Rattle.clk_script.specs.inside.ScriptRouter.{IsReadableLine}
@@ -58,7 +58,7 @@ lines_of-both front rest (inr (last, e)) =
     rw e (ap lines_of (append_assoc last (10 ∷ []) rest) ∙ ap (map line_of) (lines-both last rest) ∙ map-append line_of (lines (last ++ 10 ∷ [])) (lines rest))
 
 -- One more line is read with nothing wrong, and a reading goes on to what it holds.
-drained-more : (o : Option ℕ) (l : Line) → (is_some o || is_drain l) ≡ is_some (option_or o (drain_in l))
+drained-more : (o : Option ℕ) (l : ScriptLine) → (is_some o || is_drain l) ≡ is_some (option_or o (drain_in l))
 drained-more (Some moment) l = refl
 drained-more None line.Blank = refl
 drained-more None line.Malformed = refl
@@ -72,7 +72,7 @@ closing-more None d (drain ∷ drains) e = absurd (cc)
 closing-more (Some moment) d [] e = absurd (cc)
 closing-more (Some moment) d (drain ∷ drains) e = e
 
-moment-more : (o : Option ℕ) (l : Line) → IfSome o (λ m. m ≤ most_moment) → IsReadableLine l → IfSome (option_or o (drain_in l)) (λ m. m ≤ most_moment)
+moment-more : (o : Option ℕ) (l : ScriptLine) → IfSome o (λ m. m ≤ most_moment) → IsReadableLine l → IfSome (option_or o (drain_in l)) (λ m. m ≤ most_moment)
 moment-more (Some moment) l h readable = h
 moment-more None line.Blank h readable = tt
 moment-more None line.Malformed h readable = tt
@@ -83,7 +83,7 @@ asked-most : (o : Option Command) → length (cons_option o []) ≤ 1
 asked-most None = omega arith
 asked-most (Some command) = omega arith
 
-AreRead-more : (names : Names) (read : List Line) (r new : Reading) (l : Line) → AreRead names read r → IsReadableLine l → fault_at names (is_some r.script.closing) (r.lines + 1) l ≡ None → new.lines ≡ r.lines + 1 → new.lines ≤ most_lines
+AreRead-more : (names : Names) (read : List ScriptLine) (r new : Reading) (l : ScriptLine) → AreRead names read r → IsReadableLine l → fault_at names (is_some r.script.closing) (r.lines + 1) l ≡ None → new.lines ≡ r.lines + 1 → new.lines ≤ most_lines
     → new.script.closing ≡ option_or r.script.closing (drain_in l) → asked_by new.script.rows.items ≡ asked_by r.script.rows.items ++ asked_in l → AllByRecursion (IsToDo names) new.script.rows.items → AreRead names (read ++ l ∷ []) new
 AreRead-more names read r new l h readable sound count within closes asked to_do =
     let few : length new.script.rows.items ≤ new.lines =
@@ -117,13 +117,13 @@ option_or-none None = refl
 option_or-none (Some moment) = refl
 
 -- A line that isn't a drain leaves the closing as it is, and a drain sets it, since none came before.
-pub undrained-command : (o : Option ℕ) (l : Line) (row : Row) → asked_by (rows_of (Some row)) ≡ asked_in l → o ≡ option_or o (drain_in l)
+pub undrained-command : (o : Option ℕ) (l : ScriptLine) (row : ScriptRow) → asked_by (rows_of (Some row)) ≡ asked_in l → o ≡ option_or o (drain_in l)
 undrained-command o line.Blank row e = absurd (cc)
 undrained-command o line.Malformed row e = absurd (cc)
 undrained-command o (line.Command command) row e = option_or-none o
 undrained-command o (line.Drain moment) row e = absurd (cc)
 
-pub undrained-other : (o : Option ℕ) (l : Line) → ((moment : ℕ) → l ≢ line.Drain moment) → o ≡ option_or o (drain_in l)
+pub undrained-other : (o : Option ℕ) (l : ScriptLine) → ((moment : ℕ) → l ≢ line.Drain moment) → o ≡ option_or o (drain_in l)
 undrained-other o line.Blank other = option_or-none o
 undrained-other o line.Malformed other = option_or-none o
 undrained-other o (line.Command command) other = option_or-none o
@@ -138,7 +138,7 @@ drained-first names (Some earlier) number moment e = absurd (by_number (nat_lt m
     by_number false f h = let no = rw f at h in cc
 
 -- The line's row, if it has one, is added.
-pub reading-row : (names : Names) (read : List Line) (r new : Reading) (l : Line) (row : Option Row) (drained : Bool) → AreRead names read r → r.fault ≡ None → IsReadableLine l → drained ≡ is_some r.script.closing
+pub reading-row : (names : Names) (read : List ScriptLine) (r new : Reading) (l : ScriptLine) (row : Option ScriptRow) (drained : Bool) → AreRead names read r → r.fault ≡ None → IsReadableLine l → drained ≡ is_some r.script.closing
     → (fault_at names drained (r.lines + 1) l ≡ None) × (asked_by (rows_of row) ≡ asked_in l) × AllByRecursion (IsToDo names) (rows_of row) × (r.lines + 1 ≤ most_lines)
     → new.fault ≡ r.fault → new.lines ≡ r.lines + 1 → new.script.rows.items ≡ r.script.rows.items ++ rows_of row → new.script.closing ≡ option_or r.script.closing (drain_in l) → IsReading names (read ++ l ∷ []) new
 reading-row names read r new l row drained h sound readable before fits same count rows closes =
@@ -148,7 +148,7 @@ reading-row names read r new l row drained h sound readable before fits same cou
     (subst (AllByRecursion (IsToDo names)) (sym rows) (all-append (IsToDo names) r.script.rows.items (rows_of row) h.runs.to_do fits.2)))
 
 -- Once something is wrong it stays so, and else all lines are read.
-pub reading-wrong : (names : Names) (read others : List Line) (r : Reading) → is_some r.fault ≡ true → IsReading names read r → IsReading names (read ++ others) r
+pub reading-wrong : (names : Names) (read others : List ScriptLine) (r : Reading) → is_some r.fault ≡ true → IsReading names read r → IsReading names (read ++ others) r
 reading-wrong names read others r some h = by_fault r.fault some h
   where
     by_fault : (o : Option Fault) → is_some o ≡ true → MatchOption o (AreRead names read r) (IsWrong names read) → MatchOption o (AreRead names (read ++ others) r) (IsWrong names (read ++ others))
@@ -159,15 +159,15 @@ pub none-wrong : (o : Option Fault) → is_some o ≡ false → o ≡ None
 none-wrong None e = refl
 none-wrong (Some fault) e = absurd (cc)
 
-pub reading-sound : (names : Names) (read : List Line) (r : Reading) → r.fault ≡ None → IsReading names read r → AreRead names read r
+pub reading-sound : (names : Names) (read : List ScriptLine) (r : Reading) → r.fault ≡ None → IsReading names read r → AreRead names read r
 reading-sound names read r none h = subst (λ o. MatchOption o (AreRead names read r) (IsWrong names read)) none h
 
 -- lines before, those of a front, the next, and what is left
-pub lines-whole : (lines read : List Line) (l : Line) (text rest after : List ℕ) → lines_of rest ≡ l ∷ lines_of after → read ++ lines_of rest ≡ lines_of text → ((lines ++ read) ++ l ∷ []) ++ lines_of after ≡ lines ++ lines_of text
+pub lines-whole : (lines read : List ScriptLine) (l : ScriptLine) (text rest after : List ℕ) → lines_of rest ≡ l ∷ lines_of after → read ++ lines_of rest ≡ lines_of text → ((lines ++ read) ++ l ∷ []) ++ lines_of after ≡ lines ++ lines_of text
 lines-whole before read l text rest after e h =
     append_assoc (before ++ read) (l ∷ []) (lines_of after) ∙ ap (λ ls. (before ++ read) ++ ls) (sym e) ∙ append_assoc before read (lines_of rest) ∙ ap (λ ls. before ++ ls) h
 
-pub lines-left : (read : List Line) (l : Line) (text rest after : List ℕ) → lines_of rest ≡ l ∷ lines_of after → read ++ lines_of rest ≡ lines_of text → (read ++ l ∷ []) ++ lines_of after ≡ lines_of text
+pub lines-left : (read : List ScriptLine) (l : ScriptLine) (text rest after : List ℕ) → lines_of rest ≡ l ∷ lines_of after → read ++ lines_of rest ≡ lines_of text → (read ++ l ∷ []) ++ lines_of after ≡ lines_of text
 lines-left read l text rest after e h = append_assoc read (l ∷ []) (lines_of after) ∙ ap (λ ls. read ++ ls) (sym e) ∙ h
 
 -- Where nothing is wrong, the whole lines of what came are read.

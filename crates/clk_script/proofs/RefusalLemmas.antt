@@ -17,8 +17,8 @@ use Rattle.clk_tree.specs.Shares.{AreTreesOf}
 use Rattle.clk_tree.specs.declared.plan.parts.SenderSpec.{SenderSpec}
 use Rattle.clk_script.specs.declared.script.Command.{Command}
 use Rattle.clk_script.specs.declared.script.Command.TheVariants.{Send, Pull}
-use Rattle.clk_script.specs.declared.script.Line.{Line}
-use Rattle.clk_script.specs.declared.script.Line.TheVariants as line
+use Rattle.clk_script.specs.declared.script.ScriptLine.{ScriptLine}
+use Rattle.clk_script.specs.declared.script.ScriptLine.TheVariants as line
 use Rattle.clk_script.specs.Script.{Names, most_lines, command_fault, line_fault, fault_at, is_drain, first_fault, lines_of, script_fault, commands_of, closing_moment, most_script_bytes}
 use Rattle.clk_packet.specs.Bytes.{read_failures, write_failures, OfBytes}
 use Rattle.clk_router.specs.Course.{Course, IsOpened}
@@ -95,7 +95,7 @@ of_command names number (Send sender size) = by_test (list_any (λ s. s == sende
     by_test true e = rw e tt
     by_test false e = rw e tt
 
-of_line : (names : Names) (drained : Bool) (number : ℕ) (l : Line) → IfSome (line_fault names drained number l) IsOfScript
+of_line : (names : Names) (drained : Bool) (number : ℕ) (l : ScriptLine) → IfSome (line_fault names drained number l) IsOfScript
 of_line names drained number line.Blank = tt
 of_line names drained number line.Malformed = tt
 of_line names true number (line.Command command) = tt
@@ -103,14 +103,14 @@ of_line names false number (line.Command command) = of_command names number comm
 of_line names true number (line.Drain moment) = tt
 of_line names false number (line.Drain moment) = tt
 
-of_at : (names : Names) (drained : Bool) (number : ℕ) (l : Line) → IfSome (fault_at names drained number l) IsOfScript
+of_at : (names : Names) (drained : Bool) (number : ℕ) (l : ScriptLine) → IfSome (fault_at names drained number l) IsOfScript
 of_at names drained number l = by_test (nat_lt most_lines number) refl
   where
     by_test : (b : Bool) → nat_lt most_lines number ≡ b → IfSome (fault_at names drained number l) IsOfScript
     by_test true e = rw e tt
     by_test false e = rw e (of_line names drained number l)
 
-of_first : (names : Names) (drained : Bool) (number : ℕ) (ls : List Line) → IfSome (first_fault names drained number ls) IsOfScript
+of_first : (names : Names) (drained : Bool) (number : ℕ) (ls : List ScriptLine) → IfSome (first_fault names drained number ls) IsOfScript
 of_first names drained number [] = tt
 of_first names drained number (l ∷ ls) = by_fault (fault_at names drained number l) refl (of_at names drained number l) (of_first names (drained || is_drain l) (number + 1) ls)
   where
@@ -120,7 +120,7 @@ of_first names drained number (l ∷ ls) = by_fault (fault_at names drained numb
     by_fault (Some fault) e here rest = rw e (rw e at here)
 
 -- and no failure of a reader is among them
-pub not-read : (T : Type 0) (names : Names) (drained : Bool) (number : ℕ) (ls : List Line) (fault : Fault) → first_fault names drained number ls ≡ Some fault → (n : ℕ) → read_failures {T = T} (Err fault) n ≡ n
+pub not-read : (T : Type 0) (names : Names) (drained : Bool) (number : ℕ) (ls : List ScriptLine) (fault : Fault) → first_fault names drained number ls ≡ Some fault → (n : ℕ) → read_failures {T = T} (Err fault) n ≡ n
 not-read T names drained number ls fault e n = by_kind fault (rw e at (of_first names drained number ls))
   where
     by_kind : (fault : Fault) → IsOfScript fault → read_failures {T = T} (Err fault) n ≡ n

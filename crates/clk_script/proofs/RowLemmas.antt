@@ -11,7 +11,7 @@ use Rattle.clk_packet.specs.declared.packet.Offered.TheVariants.{Accepted, Refus
 use Rattle.clk_sched.specs.declared.session.departures.Departure.{Departure}
 use Rattle.clk_sched.specs.Log.{visits_of, result_of}
 use Rattle.clk_sched.specs.Results.{emitted}
-use Rattle.clk_script.specs.declared.rows.Row.{Row}
+use Rattle.clk_script.specs.declared.rows.ScriptRow.{ScriptRow}
 use Rattle.clk_sched.specs.Tree.{Tree}
 use Rattle.clk_router.specs.Events.{Setup, Event, offered, pulled, happens_at, events_at, evicted_in, log_of, IsOfDevice, RunsTree, CanHappen, emitted_in}
 use Rattle.clk_router.proofs.Callers.Emitted.{its-given}
@@ -22,10 +22,10 @@ use Rattle.clk_script.specs.inside.Rows.{closings_text, row_at, IsRowOf, row_tex
 
 -- rows write the lines of their events, where what these gave and put out comes first
 module _ (several : Bool) (given fronts : List Packet) where
-  abbrev WriteTheirs : List Event → List Row → Type 0
+  abbrev WriteTheirs : List Event → List ScriptRow → Type 0
   WriteTheirs events rows = rows_text several rows (filter_map emitted_in events ++ given) (filter_map evicted_in events ++ fronts) ≡ flat_map (event_text several) events
 
-  first-line : (place : ℕ) (e : Event) (events : List Event) (rows : List Row) → WriteTheirs events rows → WriteTheirs (e ∷ events) (row_at place e ∷ rows)
+  first-line : (place : ℕ) (e : Event) (events : List Event) (rows : List ScriptRow) → WriteTheirs events rows → WriteTheirs (e ∷ events) (row_at place e ∷ rows)
   first-line place (offered p Accepted) events rows rest = ap (λ l. offer_text p Accepted ++ l) rest
   first-line place (offered p (Refused q)) events rows rest = ap (λ l. offer_text p (Refused q) ++ l) rest
   first-line place (offered p (Evicted front)) events rows rest = ap (λ l. offer_text p (Evicted front) ++ l) rest
@@ -35,12 +35,12 @@ module _ (several : Bool) (given fronts : List Packet) where
       by_result None e = rw e (ap (λ l. pull_text several device moment None ++ l) rest)
       by_result (Some p) e = rw e (ap (λ l. pull_text several device moment (Some p) ++ l) rest)
 
-  rows-lines : (events : List Event) (rows : List Row) → AllZip IsRowOf events rows → WriteTheirs events rows
+  rows-lines : (events : List Event) (rows : List ScriptRow) → AllZip IsRowOf events rows → WriteTheirs events rows
   rows-lines [] [] are = refl
   rows-lines [] (r ∷ rows) are = absurd are
   rows-lines (e ∷ events) [] are = absurd are
   rows-lines (e ∷ events) (r ∷ rows) are =
-      subst (λ (q : Row). WriteTheirs (e ∷ events) (q ∷ rows)) (sym are.0.1) (first-line are.0.0 e events rows (rows-lines events rows are.1))
+      subst (λ (q : ScriptRow). WriteTheirs (e ∷ events) (q ∷ rows)) (sym are.0.1) (first-line are.0.0 e events rows (rows-lines events rows are.1))
 
 -- what came out at the first device is what its pulls gave
 first-emitted : (trees : List Tree) (events : List Event) → 1 ≤ length trees → MatchOption (slice_get trees 0) ⊤ (λ t. RunsTree t events) → emitted (log_of events) ≡ filter_map emitted_in events
@@ -62,7 +62,7 @@ given-alone setup (pulled d moment visits ∷ events) all =
     rw its (ap (cons_option (result_of (visits_of 0 visits))) (given-alone setup events all.1))
 
 -- What the rows of events write, where a router has gone on since, and what the pulls gave was kept where there are several devices.
-pub rows-written : (setup : Setup) (events later : List Event) (rows : List Row) (kept fronts : List Packet) → AllZip IsRowOf events rows → 1 ≤ length setup.trees → CanHappen setup (events ++ later)
+pub rows-written : (setup : Setup) (events later : List Event) (rows : List ScriptRow) (kept fronts : List Packet) → AllZip IsRowOf events rows → 1 ≤ length setup.trees → CanHappen setup (events ++ later)
     → fronts ≡ filter_map evicted_in (events ++ later) → (has_several setup ≡ true → kept ≡ filter_map emitted_in events)
     → rows_text (has_several setup) rows (if has_several setup then kept else emitted (log_of (events_at setup 0 (events ++ later)))) fronts ≡ flat_map (event_text (has_several setup)) events
 rows-written setup events later rows kept fronts are some can out is = by_several (has_several setup) refl
@@ -81,7 +81,7 @@ rows-written setup events later rows kept fronts are some can out is = by_severa
         ap₂ (rows_text false rows) given these ∙ rows-lines false (filter_map emitted_in later) (filter_map evicted_in later) events rows are
 
 -- the line of the row at a place, and those after it
-pub rows-left : (several : Bool) (rows : List Row) (i : ℕ) (r : Row) (given fronts : List Packet) → i < length rows → r ≡ get_or rows i r
+pub rows-left : (several : Bool) (rows : List ScriptRow) (i : ℕ) (r : ScriptRow) (given fronts : List Packet) → i < length rows → r ≡ get_or rows i r
     → rows_text several (drop i rows) given fronts ≡ row_text several r given fronts ++ rows_text several (drop (i + 1) rows) (given_after r given) (fronts_after r fronts)
 rows-left several rows i r given fronts within is =
     ap (λ l. rows_text several l given fronts) (drop_more rows i r within)

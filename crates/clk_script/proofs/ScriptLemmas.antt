@@ -9,8 +9,8 @@ use Rattle.clk_packet.specs.declared.fault.Fault.{Fault}
 use Rattle.clk_packet.specs.Limits.{most_sender, most_length}
 use Rattle.clk_script.specs.declared.script.Command.{Command}
 use Rattle.clk_script.specs.declared.script.Command.TheVariants.{Send, Pull}
-use Rattle.clk_script.specs.declared.script.Line.{Line}
-use Rattle.clk_script.specs.declared.script.Line.TheVariants as line
+use Rattle.clk_script.specs.declared.script.ScriptLine.{ScriptLine}
+use Rattle.clk_script.specs.declared.script.ScriptLine.TheVariants as line
 use Rattle.clk_packet.specs.Numbers.{has_bytes, number_in}
 use Rattle.clk_script.specs.Script.{Names, most_script_bytes, send_of, pull_of, drain_of, sender_and_length, moment_and_device, only_moment, line_of_fields, line_of, fields, line_fault, fault_at, is_drain, first_fault, lines_of, script_fault, command_in, commands_of, drain_in, most_lines, most_moment, most_device}
 use Rattle.clk_script.specs.inside.ScriptRouter.{IsReadableLine, IsSound}
@@ -80,7 +80,7 @@ reads_fields (word ∷ arguments) = by_word (bytes_eq word (codes "send")) (byte
     by_word false false false = tt
 
 -- a first line is readable
-pub readable-first : (script : List ℕ) (l : Line) (more : List Line) → lines_of script ≡ l ∷ more → IsReadableLine l
+pub readable-first : (script : List ℕ) (l : ScriptLine) (more : List ScriptLine) → lines_of script ≡ l ∷ more → IsReadableLine l
 readable-first script l more e = by_texts (lines script) e
   where
     by_texts : (texts : List (List ℕ)) → map line_of texts ≡ l ∷ more → IsReadableLine l
@@ -90,14 +90,14 @@ readable-first script l more e = by_texts (lines script) e
         subst IsReadableLine first (reads_fields (fields text))
 
 -- the moment of a drain that was read
-pub readable-drain : (l : Line) (moment : ℕ) → IsReadableLine l → drain_in l ≡ Some moment → moment ≤ most_moment
+pub readable-drain : (l : ScriptLine) (moment : ℕ) → IsReadableLine l → drain_in l ≡ Some moment → moment ≤ most_moment
 readable-drain line.Blank moment h e = absurd (cc e)
 readable-drain line.Malformed moment h e = absurd (cc e)
 readable-drain (line.Command command) moment h e = absurd (cc e)
 readable-drain (line.Drain m) moment h e = let same : m ≡ moment = cc in subst (λ n. n ≤ most_moment) same h
 
 -- a line with no fault can be carried out
-line_sound : (names : Names) (drained : Bool) (number : ℕ) (l : Line) → IsReadableLine l → line_fault names drained number l ≡ None → IfSome (command_in l) (IsSound names)
+line_sound : (names : Names) (drained : Bool) (number : ℕ) (l : ScriptLine) → IsReadableLine l → line_fault names drained number l ≡ None → IfSome (command_in l) (IsSound names)
 line_sound names drained number line.Blank s e = tt
 line_sound names drained number line.Malformed s e = tt
 line_sound names drained number (line.Drain moment) s e = tt
@@ -113,7 +113,7 @@ line_sound names false number (line.Command (Send sender size)) s e = by_test (l
     by_test true f = (f, s)
     by_test false f = let no = rw f at e in absurd (cc)
 
-at_sound : (names : Names) (drained : Bool) (n : ℕ) (l : Line) → IsReadableLine l → fault_at names drained n l ≡ None → IfSome (command_in l) (IsSound names)
+at_sound : (names : Names) (drained : Bool) (n : ℕ) (l : ScriptLine) → IsReadableLine l → fault_at names drained n l ≡ None → IfSome (command_in l) (IsSound names)
 at_sound names drained n l s e = by_test (nat_lt most_lines n) refl
   where
     by_test : (b : Bool) → nat_lt most_lines n ≡ b → IfSome (command_in l) (IsSound names)

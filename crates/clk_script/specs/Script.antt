@@ -11,8 +11,8 @@ use Rattle.clk_packet.specs.declared.fault.Fault.TheVariants.{TooLarge, BadScrip
 use Rattle.clk_script.specs.declared.limits.TheConstants.{MAX_SCRIPT_BYTES, MAX_LINES, MAX_MOMENT, MAX_DEVICE}
 use Rattle.clk_script.specs.declared.script.Command.{Command}
 use Rattle.clk_script.specs.declared.script.Command.TheVariants.{Send, Pull}
-use Rattle.clk_script.specs.declared.script.Line.{Line}
-use Rattle.clk_script.specs.declared.script.Line.TheVariants as line
+use Rattle.clk_script.specs.declared.script.ScriptLine.{ScriptLine}
+use Rattle.clk_script.specs.declared.script.ScriptLine.TheVariants as line
 
 -- how many bytes a script may have at most
 abbrev pub most_script_bytes : ℕ
@@ -39,29 +39,29 @@ abbrev pub fields : List ℕ → List (List ℕ)
 fields text = filter has_bytes (slice_split is_blank text)
 
 -- a `send` of this sender and length, if both are in range
-abbrev pub send_of : Option ℕ → Option ℕ → Line
+abbrev pub send_of : Option ℕ → Option ℕ → ScriptLine
 send_of None length = line.Malformed
 send_of (Some sender) None = line.Malformed
 send_of (Some sender) (Some length) = line.Command (Send sender length)
 
 -- a `pull` of this moment and device, if both are in range
-abbrev pub pull_of : Option ℕ → Option ℕ → Line
+abbrev pub pull_of : Option ℕ → Option ℕ → ScriptLine
 pull_of None device = line.Malformed
 pull_of (Some moment) None = line.Malformed
 pull_of (Some moment) (Some device) = line.Command (Pull device moment)
 
 -- a `drain` from this moment, if it is in range
-abbrev pub drain_of : Option ℕ → Line
+abbrev pub drain_of : Option ℕ → ScriptLine
 drain_of None = line.Malformed
 drain_of (Some moment) = line.Drain moment
 
 -- the line of the word `send` and these fields: a sender and a length
-abbrev pub sender_and_length : List (List ℕ) → Line
+abbrev pub sender_and_length : List (List ℕ) → ScriptLine
 sender_and_length (sender ∷ length ∷ []) = send_of (number_in 0 most_sender sender) (number_in 1 most_length length)
 sender_and_length arguments = line.Malformed
 
 -- the line of the word `pull` and these fields: a moment, and a device, which is device 0 if none is named
-abbrev pub moment_and_device : List (List ℕ) → Line
+abbrev pub moment_and_device : List (List ℕ) → ScriptLine
 moment_and_device (moment ∷ []) = pull_of (number_in 0 most_moment moment) (Some 0)
 moment_and_device (moment ∷ device ∷ []) = pull_of (number_in 0 most_moment moment) (number_in 0 most_device device)
 moment_and_device arguments = line.Malformed
@@ -72,7 +72,7 @@ only_moment (moment ∷ []) = number_in 0 most_moment moment
 only_moment arguments = None
 
 -- The line of these fields: `send S L`, `pull M`, `pull M D`, `drain M`, a blank line, or none of these.
-abbrev pub line_of_fields : List (List ℕ) → Line
+abbrev pub line_of_fields : List (List ℕ) → ScriptLine
 line_of_fields [] = line.Blank
 line_of_fields (word ∷ arguments) =
     if bytes_eq word (codes "send") then sender_and_length arguments
@@ -81,7 +81,7 @@ line_of_fields (word ∷ arguments) =
     else line.Malformed
 
 -- the line of a text
-abbrev pub line_of : List ℕ → Line
+abbrev pub line_of : List ℕ → ScriptLine
 line_of text = line_of_fields (fields text)
 
 -- what the commands of a script may name: these senders, and the first `devices` devices
@@ -95,30 +95,30 @@ command_fault names number (Send sender length) = if list_any (λ s. s == sender
 command_fault names number (Pull device moment) = if nat_lt device names.devices then None else Some (BadScript number)
 
 -- the fault of the line with this number, if it has one: after a drain only blank lines may follow
-abbrev pub line_fault : Names → Bool → ℕ → Line → Option Fault
+abbrev pub line_fault : Names → Bool → ℕ → ScriptLine → Option Fault
 line_fault names drained number line.Blank = None
 line_fault names drained number line.Malformed = Some (BadScript number)
 line_fault names drained number (line.Command command) = if drained then Some (BadScript number) else command_fault names number command
 line_fault names drained number (line.Drain moment) = if drained then Some (BadScript number) else None
 
 -- The fault of the line with this number, if it has one: it is one line too many, whatever it says, or has a fault of its own.
-abbrev pub fault_at : Names → Bool → ℕ → Line → Option Fault
+abbrev pub fault_at : Names → Bool → ℕ → ScriptLine → Option Fault
 fault_at names drained number l = if nat_lt most_lines number then Some TooLarge else line_fault names drained number l
 
 -- whether a line is a drain
-abbrev pub is_drain : Line → Bool
+abbrev pub is_drain : ScriptLine → Bool
 is_drain (line.Drain moment) = true
 is_drain l = false
 
 -- The fault of the first of these lines that has one. The lines are counted from `number` on, and `drained` says whether a drain came
 -- before them.
-abbrev pub first_fault : Names → Bool → ℕ → List Line → Option Fault
+abbrev pub first_fault : Names → Bool → ℕ → List ScriptLine → Option Fault
 first_fault names drained number [] = None
 first_fault names drained number (l ∷ more) =
     option_or (fault_at names drained number l) (first_fault names (drained || is_drain l) (number + 1) more)
 
 -- the lines of a script: a line ends with a line feed, which the last may lack, and loses one carriage return right before it
-abbrev pub lines_of : List ℕ → List Line
+abbrev pub lines_of : List ℕ → List ScriptLine
 lines_of script = map line_of (lines script)
 
 -- The fault of a script, if it has one: it has too many bytes, or else the fault of the first line that has one.
@@ -126,7 +126,7 @@ abbrev pub script_fault : Names → List ℕ → Option Fault
 script_fault names script = if nat_lt most_script_bytes (length script) then Some TooLarge else first_fault names false 1 (lines_of script)
 
 -- the command of a line, if it is one
-abbrev pub command_in : Line → Option Command
+abbrev pub command_in : ScriptLine → Option Command
 command_in (line.Command command) = Some command
 command_in l = None
 
@@ -135,7 +135,7 @@ abbrev pub commands_of : List ℕ → List Command
 commands_of script = filter_map command_in (lines_of script)
 
 -- the moment of a line, if it is a drain
-abbrev pub drain_in : Line → Option ℕ
+abbrev pub drain_in : ScriptLine → Option ℕ
 drain_in (line.Drain moment) = Some moment
 drain_in l = None
 

@@ -11,7 +11,7 @@ ghost use Rattle.clk_script.specs.inside.Rows.{asked_by, Answers, IsToDo, CanBeR
 
 use crate::reading::Script;
 use crate::report::accounts_tell;
-use crate::rows::{Fate, Row};
+use crate::rows::{Fate, ScriptRow};
 use crate::script_router::ScriptRouter;
 use clk_packet::Fault;
 use clk_sched::Departure;
@@ -21,7 +21,7 @@ use std::alloc::Global;
 #[derive(Drop)]
 pub struct Answer {
     /// Its commands, in order, each with its result.
-    pub rows: Vec<Row>,
+    pub rows: Vec<ScriptRow>,
     /// The moment of the script's drain in ticks, if it has one.
     pub drain: Option<u64>,
     /// If the script has a drain: the packets that each device emitted in it. Then the report follows.
@@ -64,7 +64,7 @@ pub fn answer_script(
 }
 
 /// Carries out the commands of these rows, and puts the result of each command into its row. Fault 1 if an allocation fails.
-fn carry_out(script_router: &mut ScriptRouter, rows: &mut [Row]) -> Result<(), Fault>
+fn carry_out(script_router: &mut ScriptRouter, rows: &mut [ScriptRow]) -> Result<(), Fault>
     requires fresh { (setup : Setup) × Starts setup script_router.old }
     requires to_do { AllByRecursion (IsToDo (names_in script_router.old)) rows.old }
     requires few { length rows.old ≤ most_lines }
@@ -80,24 +80,24 @@ fn carry_out(script_router: &mut ScriptRouter, rows: &mut [Row]) -> Result<(), F
 }
 
 /// Carries out the command of a row, and returns the row with the command's result. Fault 1 if an allocation fails.
-fn carry_out_one(script_router: &mut ScriptRouter, row: Row) -> Result<Row, Fault>
+fn carry_out_one(script_router: &mut ScriptRouter, row: ScriptRow) -> Result<ScriptRow, Fault>
     requires ready { IsReady script_router.old }
     requires to_do { IsToDo (names_in script_router.old) row }
     ensures done { IfOk result (λ done. AnswersRows script_router.old script_router.new (row ∷ []) (done ∷ [])) }
     ensures fault { IsOkUnless result Fault.Memory }
 {
     match row {
-        Row::Send { place, packet, .. } => {
+        ScriptRow::Send { place, packet, .. } => {
             let (packet, offered) = script_router.send(usize::from(place), packet.length)?;
-            Ok(Row::Send {
+            Ok(ScriptRow::Send {
                 fate: Fate::of(offered),
                 place,
                 packet,
             })
         }
-        Row::Pull { device, moment, .. } => {
+        ScriptRow::Pull { device, moment, .. } => {
             let got = script_router.pull(device, moment.ticks())?;
-            Ok(Row::Pull {
+            Ok(ScriptRow::Pull {
                 gave: got.is_some(),
                 device,
                 moment,

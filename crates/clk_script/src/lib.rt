@@ -29,6 +29,6 @@ pub use limits::{MAX_DEVICE, MAX_LINES, MAX_MOMENT, MAX_SCRIPT_BYTES};
 pub use replay::Replay;
 pub use report::{accounts_tell, write_accounts};
 pub use run::{run_script, run_script_logged};
-pub use script::{Command, Line};
+pub use script::{Command, ScriptLine};
 pub use text::{COMMAND_ROOM, command_line, drain_line};
 pub use writer::ScriptWriter;

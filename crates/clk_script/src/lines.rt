@@ -14,12 +14,12 @@ const ROOM: usize = 16_384;
 /// Lines that are held until there are enough to be written at once. Doesn't allocate.
 // A list of arrayvec sets all its room to zeros whenever it is emptied.
 #[derive(Drop)]
-pub struct Lines {
+pub struct LineBuffer {
     bytes: [u8; ROOM],
     len: usize,
 }
 
-impl Model for Lines {
+impl Model for LineBuffer {
     ghost use Rattle.std.specs.Prelude.{ℕ, ◌≤◌, List, take, length};
 
     ghost Value = { List ℕ };
@@ -29,12 +29,12 @@ impl Model for Lines {
     ghost invariant = { λ lines. lines.len ≤ length lines.bytes };
 }
 
-impl Lines {
+impl LineBuffer {
     /// Holds no line.
-    pub fn new() -> Lines
+    pub fn new() -> LineBuffer
         ensures { result ≡ [] }
     {
-        Lines {
+        LineBuffer {
             bytes: [0; ROOM],
             len: 0,
         }

@@ -8,12 +8,12 @@ ghost use Rattle.clk_script.specs.Script.{lines_of, command_fault, fault_at, mos
 ghost use Rattle.clk_script.specs.inside.ScriptRouter.{named_by, IsReadable, IsReadableLine};
 ghost use Rattle.clk_script.specs.inside.Rows.{command_asked, asked_by, asked_in, rows_of, IsToDo};
 ghost use Rattle.clk_script.specs.inside.Reading.{AreRead, ReadsOn, HasCome, EndsAs, IsScriptOf, IsNotRead};
-ghost use Rattle.clk_script.specs.declared.script.Line.{Line};
+ghost use Rattle.clk_script.specs.declared.script.ScriptLine.{ScriptLine};
 
 use crate::limits::{MAX_LINES, MAX_SCRIPT_BYTES};
 use crate::moment::Moment;
-use crate::rows::{Fate, Row};
-use crate::script::{Command, Line};
+use crate::rows::{Fate, ScriptRow};
+use crate::script::{Command, ScriptLine};
 use clk_packet::{Fault, Packet, Source};
 use clk_router::place_of;
 use memchr::{memchr, memrchr};
@@ -26,7 +26,7 @@ const CHUNK: usize = 65_536;
 #[derive(Drop)]
 pub struct Script {
     /// Its commands, in order.
-    pub rows: Vec<Row>,
+    pub rows: Vec<ScriptRow>,
     /// The moment of its drain in ticks, if it has one.
     pub closing: Option<u64>,
 }
@@ -180,13 +180,13 @@ impl Reading {
     fn read_lines(&mut self, numbers: &[u16], devices: usize, text: &[u8]) -> Result<(), Fault>
         requires rising { AreRising numbers.now }
         requires none { self.old.fault ≡ None }
-        requires read { (lines : List Line) × AreRead (named_by numbers.now devices) lines self.old }
+        requires read { (lines : List ScriptLine) × AreRead (named_by numbers.now devices) lines self.old }
         ensures read { OnOk result (ReadsOn (named_by numbers.now devices) self.old self.new (lines_of text.now)) }
         ensures fault { IsOkUnless result Fault.Memory }
     {
         let mut rest = text;
         while !rest.is_empty() {
-            let (line, after) = Line::next(rest);
+            let (line, after) = ScriptLine::next(rest);
             self.read_line(numbers, devices, line)?;
             if self.fault.is_some() {
                 return Ok(());
@@ -198,11 +198,11 @@ impl Reading {
 
     /// Reads the next line. Fault 1 if an allocation fails.
     #[inline(always)]
-    fn read_line(&mut self, numbers: &[u16], devices: usize, line: Line) -> Result<(), Fault>
+    fn read_line(&mut self, numbers: &[u16], devices: usize, line: ScriptLine) -> Result<(), Fault>
         requires rising { AreRising numbers.now }
         requires readable { IsReadableLine line }
         requires none { self.old.fault ≡ None }
-        requires read { (lines : List Line) × AreRead (named_by numbers.now devices) lines self.old }
+        requires read { (lines : List ScriptLine) × AreRead (named_by numbers.now devices) lines self.old }
         ensures read { OnOk result (ReadsOn (named_by numbers.now devices) self.old self.new (line ∷ [])) }
         ensures fault { IsOkUnless result Fault.Memory }
     {
@@ -219,7 +219,7 @@ impl Reading {
                 Ok(())
             }
             Ok(None) => {
-                if let Line::Drain { moment } = line {
+                if let ScriptLine::Drain { moment } = line {
                     self.script.closing = Some(moment);
                 }
                 Ok(())
@@ -245,8 +245,8 @@ fn row_in(
     devices: usize,
     number: u32,
     drained: bool,
-    line: Line,
-) -> Result<Option<Row>, Fault>
+    line: ScriptLine,
+) -> Result<Option<ScriptRow>, Fault>
     requires rising { AreRising numbers.now }
     requires readable { IsReadableLine line }
     ensures { MatchResult result
@@ -258,17 +258,22 @@ fn row_in(
         return Err(Fault::TooLarge);
     }
     match line {
-        Line::Blank => Ok(None),
-        Line::Malformed => Err(Fault::BadScript { line: number }),
+        ScriptLine::Blank => Ok(None),
+        ScriptLine::Malformed => Err(Fault::BadScript { line: number }),
         _ if drained => Err(Fault::BadScript { line: number }),
-        Line::Drain { .. } => Ok(None),
-        Line::Command(command) => Ok(Some(row_asked(numbers, devices, number, command)?)),
+        ScriptLine::Drain { .. } => Ok(None),
+        ScriptLine::Command(command) => Ok(Some(row_asked(numbers, devices, number, command)?)),
     }
 }
 
 /// The row of the command in a line, not carried out yet. Fault 15 if its sender has none of these numbers, and fault 16 if its device is
 /// none of the first `devices`.
-fn row_asked(numbers: &[u16], devices: usize, number: u32, command: Command) -> Result<Row, Fault>
+fn row_asked(
+    numbers: &[u16],
+    devices: usize,
+    number: u32,
+    command: Command,
+) -> Result<ScriptRow, Fault>
     requires rising { AreRising numbers.now }
     requires readable { IsReadable command }
     ensures { MatchResult result
@@ -277,14 +282,14 @@ fn row_asked(numbers: &[u16], devices: usize, number: u32, command: Command) -> 
         (λ fault. command_fault (named_by numbers.now devices) number command ≡ Some fault) }
 {
     match command {
-        Command::Pull { device, moment } if usize::from(device) < devices => Ok(Row::Pull {
+        Command::Pull { device, moment } if usize::from(device) < devices => Ok(ScriptRow::Pull {
             gave: false,
             device,
             moment: Moment::at(moment),
         }),
         Command::Pull { .. } => Err(Fault::BadScript { line: number }),
         Command::Send { sender, length } => match place_of(numbers, sender) {
-            Some(place) => Ok(Row::Send {
+            Some(place) => Ok(ScriptRow::Send {
                 fate: Fate::Refused,
                 place,
                 packet: Packet {

@@ -16,7 +16,7 @@ ghost use Rattle.std.specs.List.{AllByRecursion};
 
 use crate::answer::Answer;
 use crate::laws::devices_of_plans_go_alike;
-use crate::rows::Row;
+use crate::rows::ScriptRow;
 use clk_packet::{Fault, Sink};
 use clk_report::{visit_rows, visits_header};
 use clk_router::Router;
@@ -195,7 +195,7 @@ fn replay_rows<W: Sink>(
     again: &mut Router,
     device: u16,
     column: Option<u64>,
-    rows: &[Row],
+    rows: &[ScriptRow],
     held: &mut Vec<Visit>,
     writer: &mut W,
 ) -> Result<(), Fault>
@@ -220,7 +220,7 @@ fn replay_row<W: Sink>(
     again: &mut Router,
     device: u16,
     column: Option<u64>,
-    row: Row,
+    row: ScriptRow,
     held: &mut Vec<Visit>,
     writer: &mut W,
 ) -> Result<(), Fault>
@@ -235,7 +235,7 @@ fn replay_row<W: Sink>(
     let _ = again.senders();
     again.has_happened();
     match row {
-        Row::Send { place, packet, .. } => {
+        ScriptRow::Send { place, packet, .. } => {
             let place = usize::from(place);
             if again.device_of_sender(place) != device {
                 return Ok(());
@@ -245,7 +245,7 @@ fn replay_row<W: Sink>(
             again.has_happened();
             Ok(())
         }
-        Row::Pull {
+        ScriptRow::Pull {
             device: asked,
             moment,
             ..

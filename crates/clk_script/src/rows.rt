@@ -9,7 +9,7 @@ use clk_packet::{Offered, Packet};
 /// pull counts as one that gave none. Which packet a pull gave, and which was evicted, is kept elsewhere.
 // The fields are in an order in which a row takes 12 bytes.
 #[derive(Clone, Copy)]
-pub enum Row {
+pub enum ScriptRow {
     /// The sender at this place offers this packet, with this outcome.
     Send {
         fate: Fate,

@@ -15,7 +15,7 @@ pub enum Command {
 
 /// What a line of a script says.
 #[derive(Clone, Copy, Debug, PartialEq, Eq)]
-pub enum Line {
+pub enum ScriptLine {
     /// It has no fields.
     Blank,
     /// It isn't a line of a script.
@@ -25,51 +25,54 @@ pub enum Line {
     Drain { moment: u64 },
 }
 
-impl Line {
+impl ScriptLine {
     ghost use Rattle.std.specs.Prelude.{◌≡◌, ◌<◌, ◌∷◌, ◌++◌, codes, length, IfSome};
     ghost use Rattle.clk_script.specs.Script.{fields, line_of, lines_of, line_of_fields, only_moment};
 
     /// Reads the first line of a text that isn't empty. Returns it, and the text that follows it.
     #[inline(always)]
-    pub fn next(text: &[u8]) -> (Line, &[u8])
+    pub fn next(text: &[u8]) -> (ScriptLine, &[u8])
         requires { 0 < length text.now }
         ensures line { lines_of text.now ≡ result.0 ∷ lines_of result.1.now }
         ensures rest { length result.1.now < length text.now }
     {
         // Most lines are plain: one space between fields, and a line feed right after the last field. These are read number by number.
         if let [b'p', b'u', b'l', b'l', b' ', rest @ ..] = text {
-            if let Some((line, rest)) = Line::plain_pull(rest) {
+            if let Some((line, rest)) = ScriptLine::plain_pull(rest) {
                 return (line, rest);
             }
         }
         if let [b's', b'e', b'n', b'd', b' ', rest @ ..] = text {
-            if let Some((line, rest)) = Line::plain_send(rest) {
+            if let Some((line, rest)) = ScriptLine::plain_send(rest) {
                 return (line, rest);
             }
         }
         let (line, rest) = first_line(text);
-        (Line::read(line), rest)
+        (ScriptLine::read(line), rest)
     }
 
     /// Reads the rest of the line `pull M`, after its word and a space. Returns the line, and the text that follows it; or `None` if
     /// anything else than a line feed follows the number.
     #[inline(always)]
-    fn plain_pull(text: &[u8]) -> Option<(Line, &[u8])>
+    fn plain_pull(text: &[u8]) -> Option<(ScriptLine, &[u8])>
         ensures { IfSome result (λ r. (lines_of (codes "pull " ++ text.now) ≡ r.0 ∷ lines_of r.1.now) × (length r.1.now < length text.now)) }
     {
         let (moment, rest) = number_before(text, b'\n', 0, MAX_MOMENT)?;
-        Some((Line::Command(Command::Pull { device: 0, moment }), rest))
+        Some((
+            ScriptLine::Command(Command::Pull { device: 0, moment }),
+            rest,
+        ))
     }
 
     /// Reads the rest of the line `send S L`, after its word and a space. Returns the line, and the text that follows it; or `None` if
     /// anything else than one space and a line feed follows the numbers.
     #[inline(always)]
-    fn plain_send(text: &[u8]) -> Option<(Line, &[u8])>
+    fn plain_send(text: &[u8]) -> Option<(ScriptLine, &[u8])>
         ensures { IfSome result (λ r. (lines_of (codes "send " ++ text.now) ≡ r.0 ∷ lines_of r.1.now) × (length r.1.now < length text.now)) }
     {
         let (sender, rest) = number_before(text, b' ', 0, MAX_SENDER)?;
         let (length, rest) = number_before(rest, b'\n', 1, MAX_LENGTH)?;
-        let line = Line::Command(Command::Send {
+        let line = ScriptLine::Command(Command::Send {
             sender: sender as u16,
             length: length as u16,
         });
@@ -77,56 +80,56 @@ impl Line {
     }
 
     /// Reads a line, without its end.
-    fn read(text: &[u8]) -> Line
+    fn read(text: &[u8]) -> ScriptLine
         ensures { result ≡ line_of text.now }
     {
         let (word, rest) = first_field(text);
         if word.is_empty() {
-            return Line::Blank;
+            return ScriptLine::Blank;
         }
         if word == b"pull".as_slice() {
-            return Line::pull(rest);
+            return ScriptLine::pull(rest);
         }
         if word == b"send".as_slice() {
-            return Line::send(rest);
+            return ScriptLine::send(rest);
         }
         if word == b"drain".as_slice() {
-            return Line::drain(rest);
+            return ScriptLine::drain(rest);
         }
-        Line::Malformed
+        ScriptLine::Malformed
     }
 
     /// Reads the rest of the line `pull M` or `pull M D`, after its word.
-    fn pull(text: &[u8]) -> Line
+    fn pull(text: &[u8]) -> ScriptLine
         ensures { result ≡ line_of_fields (codes "pull" ∷ fields text.now) }
     {
         let Some((moment, rest)) = first_number(text, 0, MAX_MOMENT) else {
-            return Line::Malformed;
+            return ScriptLine::Malformed;
         };
         let (device, _) = first_field(rest);
         if device.is_empty() {
-            return Line::Command(Command::Pull { device: 0, moment });
+            return ScriptLine::Command(Command::Pull { device: 0, moment });
         }
         let Some((device, rest)) = first_number(rest, 0, MAX_DEVICE) else {
-            return Line::Malformed;
+            return ScriptLine::Malformed;
         };
         let (more, _) = first_field(rest);
         if !more.is_empty() {
-            return Line::Malformed;
+            return ScriptLine::Malformed;
         }
-        Line::Command(Command::Pull {
+        ScriptLine::Command(Command::Pull {
             device: device as u16,
             moment,
         })
     }
 
     /// Reads the rest of the line `drain M`, after its word.
-    fn drain(text: &[u8]) -> Line
+    fn drain(text: &[u8]) -> ScriptLine
         ensures { result ≡ line_of_fields (codes "drain" ∷ fields text.now) }
     {
-        match Line::only_moment(text) {
-            Some(moment) => Line::Drain { moment },
-            None => Line::Malformed,
+        match ScriptLine::only_moment(text) {
+            Some(moment) => ScriptLine::Drain { moment },
+            None => ScriptLine::Malformed,
         }
     }
 
@@ -140,20 +143,20 @@ impl Line {
     }
 
     /// Reads the rest of the line `send S L`, after its word.
-    fn send(text: &[u8]) -> Line
+    fn send(text: &[u8]) -> ScriptLine
         ensures { result ≡ line_of_fields (codes "send" ∷ fields text.now) }
     {
         let Some((sender, rest)) = first_number(text, 0, MAX_SENDER) else {
-            return Line::Malformed;
+            return ScriptLine::Malformed;
         };
         let Some((length, rest)) = first_number(rest, 1, MAX_LENGTH) else {
-            return Line::Malformed;
+            return ScriptLine::Malformed;
         };
         let (more, _) = first_field(rest);
         if !more.is_empty() {
-            return Line::Malformed;
+            return ScriptLine::Malformed;
         }
-        Line::Command(Command::Send {
+        ScriptLine::Command(Command::Send {
             sender: sender as u16,
             length: length as u16,
         })

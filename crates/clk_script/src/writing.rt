@@ -10,9 +10,9 @@ ghost use Rattle.clk_script.specs.inside.Rows.{offered_as, fronts_left, row_text
 ghost use Rattle.clk_script.specs.inside.ScriptRouter.{departure_text};
 
 use crate::answer::Answer;
-use crate::lines::Lines;
+use crate::lines::LineBuffer;
 use crate::report::write_accounts;
-use crate::rows::{Fate, Row};
+use crate::rows::{Fate, ScriptRow};
 use crate::script_router::ScriptRouter;
 use crate::text::{LINE, put_offer, put_pull};
 use clk_packet::{Fault, Offered, Packet, Sink};
@@ -32,7 +32,7 @@ pub fn write_answer<W: Sink>(answer: &Answer, writer: &mut W) -> Result<(), Faul
 {
     let done = &answer.script_router;
     let several = done.router.devices() > 1;
-    let mut lines = Lines::new();
+    let mut lines = LineBuffer::new();
     write_rows(
         &mut lines,
         several,
@@ -63,9 +63,9 @@ fn given_of(done: &ScriptRouter) -> &[Packet]
 
 /// Adds the lines of these rows. `emitted` has the packets that pulls gave, from the first row on, and `put_out` those that were evicted.
 fn write_rows<W: Sink>(
-    lines: &mut Lines,
+    lines: &mut LineBuffer,
     several: bool,
-    rows: &[Row],
+    rows: &[ScriptRow],
     emitted: &[Packet],
     put_out: &[Packet],
     writer: &mut W,
@@ -91,7 +91,7 @@ fn write_rows<W: Sink>(
 fn put_row<'a>(
     line: &mut [u8],
     several: bool,
-    row: Row,
+    row: ScriptRow,
     given: &'a [Packet],
     fronts: &'a [Packet],
 ) -> (usize, &'a [Packet], &'a [Packet])
@@ -102,11 +102,11 @@ fn put_row<'a>(
     ensures fronts { result.2.now ≡ fronts_after row fronts.now }
 {
     match row {
-        Row::Send { fate, packet, .. } => {
+        ScriptRow::Send { fate, packet, .. } => {
             let (start, fronts) = put_send(line, fate, packet, fronts);
             (start, given, fronts)
         }
-        Row::Pull {
+        ScriptRow::Pull {
             gave,
             device,
             moment,
@@ -163,7 +163,7 @@ fn first(packets: &[Packet]) -> (Option<Packet>, &[Packet])
 
 /// Adds the lines of the drains of devices, from this number on. `closings` has the packets that each device emitted in its drain.
 fn write_closings<W: Sink>(
-    lines: &mut Lines,
+    lines: &mut LineBuffer,
     several: bool,
     device: u16,
     closings: &[Vec<Departure>],
@@ -183,7 +183,7 @@ fn write_closings<W: Sink>(
 
 /// Adds a line for each packet that the device emitted in its drain.
 fn write_departures<W: Sink>(
-    lines: &mut Lines,
+    lines: &mut LineBuffer,
     several: bool,
     device: u16,
     departures: &[Departure],

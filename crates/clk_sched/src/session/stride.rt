@@ -16,6 +16,9 @@ use std::alloc::{AllocError, Global};
 /// The stride of one ticket.
 const GREATEST_STRIDE: u32 = 65_536;
 
+/// How many ranks move at a time, where one moves far.
+const AT_ONCE: usize = 8;
+
 /// An input with its pass, less what was subtracted from all passes.
 #[derive(Clone, Copy, Debug, Default, PartialEq, Eq)]
 pub struct Rank {
@@ -348,7 +351,7 @@ fn put_behind(row: &mut [Rank], from: usize, rank: Rank)
 }
 
 /// Takes out the rank at a place, and puts this one among those after it, which are in order, as `put_behind` does. Where it moves far,
-/// those that stand before it move eight at a time: the last of eight tells of all.
+/// those that stand before it move `AT_ONCE` at a time: the last of these tells of all.
 #[inline(never)]
 fn put_far_behind(row: &mut [Rank], from: usize, rank: Rank)
     requires within { from < length row.old }
@@ -356,9 +359,9 @@ fn put_far_behind(row: &mut [Rank], from: usize, rank: Rank)
     ensures { row.new ≡ take from row.old ++ put_rank rank (drop (from + 1) row.old) }
 {
     let mut place = from;
-    while place + 8 < row.len() && !rank.is_up_to(&row[place + 8]) {
-        row.copy_within(place + 1..place + 9, place);
-        place += 8;
+    while place + AT_ONCE < row.len() && !rank.is_up_to(&row[place + AT_ONCE]) {
+        row.copy_within(place + 1..place + AT_ONCE + 1, place);
+        place += AT_ONCE;
     }
     put_behind(row, place, rank);
 }

@@ -10,7 +10,7 @@ use Rattle.clk_tree.proofs.Callers.Numbers.{number-read}
 use Rattle.clk_router.specs.Events.{Setup, Event, offered, pulled, moment_in}
 use Rattle.clk_script.specs.declared.script.Command.{Command}
 use Rattle.clk_script.specs.declared.script.Command.TheVariants.{Send, Pull}
-use Rattle.clk_script.specs.declared.script.Line.{Line}
+use Rattle.clk_script.specs.declared.script.ScriptLine.{ScriptLine}
 use Rattle.clk_script.specs.Script.{Names, most_script_bytes, most_lines, most_moment, most_device, send_of, pull_of, drain_of, line_fault, is_drain, first_fault, lines_of, script_fault}
 use Rattle.clk_script.specs.Meaning.{names_of, command_of}
 use Rattle.clk_script.specs.Record.{record_text, drain_count, IsSmall, FitsNames, OnlyFittingRecordsMean}
@@ -60,7 +60,7 @@ drain-within names number moment small e = by_number (number_in 0 most_moment (d
     by_number (Some m) f h = (within 0 most_moment moment m small f).1
 
 -- where nothing is wrong with lines, nothing is wrong with the first, nor with the others
-first-fine : (names : Names) (drained : Bool) (number : ℕ) (l : Line) (more : List Line) → first_fault names drained number (l ∷ more) ≡ None
+first-fine : (names : Names) (drained : Bool) (number : ℕ) (l : ScriptLine) (more : List ScriptLine) → first_fault names drained number (l ∷ more) ≡ None
     → (number ≤ most_lines) × (line_fault names drained number l ≡ None) × (first_fault names (drained || is_drain l) (number + 1) more ≡ None)
 first-fine names drained number l more e = by_test (nat_lt most_lines number) refl
   where
@@ -73,7 +73,7 @@ first-fine names drained number l more e = by_test (nat_lt most_lines number) re
     by_test true g = let no = rw g at e in absurd (cc)
     by_test false g = by_fault (line_fault names drained number l) refl g
 
-few-lines : (names : Names) (drained : Bool) (number : ℕ) (all : List Line) → first_fault names drained number all ≡ None → number ≤ most_lines + 1 → number + length all ≤ most_lines + 1
+few-lines : (names : Names) (drained : Bool) (number : ℕ) (all : List ScriptLine) → first_fault names drained number all ≡ None → number ≤ most_lines + 1 → number + length all ≤ most_lines + 1
 few-lines names drained number [] e few = omega (arith, few)
 few-lines names drained number (l ∷ more) e few =
     let fine = first-fine names drained number l more e in

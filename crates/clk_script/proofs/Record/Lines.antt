@@ -6,20 +6,20 @@ use Rattle.clk_packet.specs.Numbers.{number_in}
 use Rattle.clk_tree.proofs.Callers.Numbers.{decimal-digits, number-again}
 use Rattle.clk_script.specs.declared.script.Command.{Command}
 use Rattle.clk_script.specs.declared.script.Command.TheVariants.{Send, Pull}
-use Rattle.clk_script.specs.declared.script.Line.{Line}
-use Rattle.clk_script.specs.declared.script.Line.TheVariants as line
+use Rattle.clk_script.specs.declared.script.ScriptLine.{ScriptLine}
+use Rattle.clk_script.specs.declared.script.ScriptLine.TheVariants as line
 use Rattle.clk_script.specs.Script.{send_of, pull_of, drain_of, lines_of, most_moment, most_device}
 use Rattle.clk_script.specs.Record.{command_text, drain_text, record_text, IsSmall}
 use Rattle.clk_script.proofs.PlainLines.{IsField, digits-field, line-spaced}
 
 -- what the line of a command is read as: the command, or a malformed line where a number is out of range
-abbrev pub line_said : Command → Line
+abbrev pub line_said : Command → ScriptLine
 line_said (Send sender size) = send_of (number_in 0 most_sender (decimal sender)) (number_in 1 most_length (decimal size))
 line_said (Pull zero moment) = pull_of (number_in 0 most_moment (decimal moment)) (Some 0)
 line_said (Pull (suc d) moment) = pull_of (number_in 0 most_moment (decimal moment)) (number_in 0 most_device (decimal (suc d)))
 
 -- what that of a drain is read as, if there is one
-abbrev pub drain_said : Option ℕ → List Line
+abbrev pub drain_said : Option ℕ → List ScriptLine
 drain_said None = []
 drain_said (Some moment) = drain_of (number_in 0 most_moment (decimal moment)) ∷ []
 
@@ -85,7 +85,7 @@ line-again (Pull (suc d) moment) can =
     rw (first, second) refl
 
 -- the line of a drain within the range of moments
-abbrev pub drain_lines : Option ℕ → List Line
+abbrev pub drain_lines : Option ℕ → List ScriptLine
 drain_lines None = []
 drain_lines (Some moment) = line.Drain moment ∷ []
 

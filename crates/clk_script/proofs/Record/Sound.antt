@@ -8,7 +8,7 @@ use Rattle.clk_packet.specs.Limits.{most_sender, most_length}
 use Rattle.clk_router.specs.Events.{Setup, Event, offered, pulled, moment_in, IsOfDevice}
 use Rattle.clk_script.specs.declared.script.Command.{Command}
 use Rattle.clk_script.specs.declared.script.Command.TheVariants.{Send, Pull}
-use Rattle.clk_script.specs.declared.script.Line.TheVariants as line
+use Rattle.clk_script.specs.declared.script.ScriptLine.TheVariants as line
 use Rattle.clk_script.specs.Script.{Names, most_script_bytes, most_lines, most_moment, most_device, command_fault, first_fault, lines_of, script_fault, command_in, commands_of, drain_in, closing_moment}
 use Rattle.clk_script.specs.Meaning.{names_of, command_of, course_text, IsClosed}
 use Rattle.clk_script.specs.inside.ScriptRouter.{IsSound}

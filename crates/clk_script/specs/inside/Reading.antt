@@ -3,35 +3,35 @@ use Rattle.std.specs.Prelude.{◌≡◌, ◌⊎◌, ℕ, ◌+◌, ◌≤◌, Lis
 use Rattle.std.specs.Option.{is_some}
 use Rattle.clk_packet.specs.declared.fault.Fault.{Fault}
 use Rattle.clk_packet.specs.declared.fault.Fault.TheVariants.{Memory, Read}
-use Rattle.clk_script.specs.declared.script.Line.{Line}
+use Rattle.clk_script.specs.declared.script.ScriptLine.{ScriptLine}
 use Rattle.clk_script.specs.declared.reading.Script.{Script}
 use Rattle.clk_script.specs.declared.reading.Reading.{Reading}
 use Rattle.clk_script.specs.Script.{Names, lines_of, first_fault, script_fault, most_script_bytes, most_lines}
 use Rattle.clk_script.specs.inside.Rows.{IsReadFrom, CanBeRun}
 
 -- These lines were read and have no fault. The script so far holds what they say, and can be run.
-pub record AreRead (names : Names) (lines : List Line) (r : Reading) : Type 0 where
-  pub fault : (more : List Line) → first_fault names (is_some r.script.closing) (r.lines + 1) more ≡ first_fault names false 1 (lines ++ more)
+pub record AreRead (names : Names) (lines : List ScriptLine) (r : Reading) : Type 0 where
+  pub fault : (more : List ScriptLine) → first_fault names (is_some r.script.closing) (r.lines + 1) more ≡ first_fault names false 1 (lines ++ more)
   pub holds : IsReadFrom lines r.script
   pub runs : CanBeRun names r.script
   pub few : length r.script.rows.items ≤ r.lines
   pub within : r.lines ≤ most_lines
 
 -- These lines have this fault, whatever follows them.
-abbrev pub IsWrong : Names → List Line → Fault → Type 0
-IsWrong names lines fault = (more : List Line) → first_fault names false 1 (lines ++ more) ≡ Some fault
+abbrev pub IsWrong : Names → List ScriptLine → Fault → Type 0
+IsWrong names lines fault = (more : List ScriptLine) → first_fault names false 1 (lines ++ more) ≡ Some fault
 
 -- A text has this fault, whatever follows it.
 abbrev pub IsWrongText : Names → List ℕ → Fault → Type 0
 IsWrongText names text fault = (later : List ℕ) → first_fault names false 1 (lines_of (text ++ later)) ≡ Some fault
 
 -- A script was read as far as these lines, or they have this fault.
-abbrev pub IsReading : Names → List Line → Reading → Type 0
+abbrev pub IsReading : Names → List ScriptLine → Reading → Type 0
 IsReading names lines r = MatchOption r.fault (AreRead names lines r) (IsWrong names lines)
 
 -- These lines were read too, whatever lines were read before.
-abbrev pub ReadsOn : Names → Reading → Reading → List Line → Type 0
-ReadsOn names old new more = (lines : List Line) → AreRead names lines old → IsReading names (lines ++ more) new
+abbrev pub ReadsOn : Names → Reading → Reading → List ScriptLine → Type 0
+ReadsOn names old new more = (lines : List ScriptLine) → AreRead names lines old → IsReading names (lines ++ more) new
 
 -- A text is empty, or ends with a line feed.
 abbrev pub EndsLine : List ℕ → Type 0

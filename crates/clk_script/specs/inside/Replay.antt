@@ -13,8 +13,8 @@ use Rattle.clk_tree.specs.Shares.{AreTreesOf}
 use Rattle.clk_router.specs.Course.{Course, after, device_at}
 use Rattle.clk_router.specs.Events.{Setup, Event, happens_at, events_at, log_of, logs_of, plan_setup, CanHappen}
 use Rattle.clk_script.specs.declared.answer.Answer.{Answer}
-use Rattle.clk_script.specs.declared.rows.Row.{Row}
-use Rattle.clk_script.specs.declared.rows.Row.TheVariants as row
+use Rattle.clk_script.specs.declared.rows.ScriptRow.{ScriptRow}
+use Rattle.clk_script.specs.declared.rows.ScriptRow.TheVariants as row
 use Rattle.clk_script.specs.declared.script.Command.{Command}
 use Rattle.clk_script.specs.declared.script.Command.TheVariants.{Pull}
 use Rattle.clk_script.specs.Meaning.{command_of, MeansOverWith, Writes}
@@ -33,12 +33,12 @@ pub record IsAnswerOver (plan : List Planned) (known : Option (List ℕ)) (answe
   pub few_closings : IfSome answer.closing (λ closings. length closings.items ≤ MAX_DEVICES)
 
 -- whether a row asks for something at a device
-abbrev pub is_row_at : Setup → ℕ → Row → Bool
+abbrev pub is_row_at : Setup → ℕ → ScriptRow → Bool
 is_row_at setup d (row.Send fate place p) = is_number d (device_at setup place)
 is_row_at setup d (row.Pull gave device moment) = device == d
 
 -- the commands of the rows that ask for something at a device
-abbrev pub asked_at : Setup → ℕ → List Row → List Command
+abbrev pub asked_at : Setup → ℕ → List ScriptRow → List Command
 asked_at setup d rows = asked_by (filter (is_row_at setup d) rows)
 
 -- so many pulls of a device, one tick apart, the first at a moment

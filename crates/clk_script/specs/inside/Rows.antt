@@ -11,11 +11,11 @@ use Rattle.clk_sched.specs.Log.{visits_of, result_of}
 use Rattle.clk_report.specs.Devices.{lists_of}
 use Rattle.clk_script.specs.declared.script.Command.{Command}
 use Rattle.clk_script.specs.declared.script.Command.TheVariants.{Send, Pull}
-use Rattle.clk_script.specs.declared.script.Line.{Line}
+use Rattle.clk_script.specs.declared.script.ScriptLine.{ScriptLine}
 use Rattle.clk_script.specs.declared.rows.Fate.{Fate}
 use Rattle.clk_script.specs.declared.rows.Fate.TheVariants as fate
-use Rattle.clk_script.specs.declared.rows.Row.{Row}
-use Rattle.clk_script.specs.declared.rows.Row.TheVariants as row
+use Rattle.clk_script.specs.declared.rows.ScriptRow.{ScriptRow}
+use Rattle.clk_script.specs.declared.rows.ScriptRow.TheVariants as row
 use Rattle.clk_script.specs.declared.reading.Script.{Script}
 use Rattle.clk_script.specs.declared.answer.Answer.{Answer}
 use Rattle.clk_script.specs.declared.script_router.ScriptRouter.{ScriptRouter}
@@ -28,24 +28,24 @@ use Rattle.clk_script.specs.AccountLines.{account_line}
 use Rattle.clk_script.specs.inside.ScriptRouter.{IsAt, departure_text, LeadsOnByClosing}
 
 -- the command of a row, whether it was carried out or not
-abbrev pub command_asked : Row → Command
+abbrev pub command_asked : ScriptRow → Command
 command_asked (row.Send fate place p) = Send p.sender p.length
 command_asked (row.Pull gave device moment) = Pull device moment
 
 -- the row of a line as a list: one, or none
-abbrev pub rows_of : Option Row → List Row
+abbrev pub rows_of : Option ScriptRow → List ScriptRow
 rows_of row = cons_option row []
 
 -- the commands of these rows
-abbrev pub asked_by : List Row → List Command
+abbrev pub asked_by : List ScriptRow → List Command
 asked_by rows = map command_asked rows
 
 -- the command of a line as a list: one, or none
-abbrev pub asked_in : Line → List Command
+abbrev pub asked_in : ScriptLine → List Command
 asked_in l = cons_option (command_in l) []
 
 -- a row that can be carried out: its sender stands at its place, or its device exists and its moment is in range
-abbrev pub IsToDo : Names → Row → Type 0
+abbrev pub IsToDo : Names → ScriptRow → Type 0
 IsToDo names (row.Send fate place p) = slice_get names.senders place ≡ Some p.sender
 IsToDo names (row.Pull gave device moment) = (device < names.devices) × (moment ≤ most_moment)
 
@@ -56,16 +56,16 @@ fate_of (Refused p) = fate.Refused
 fate_of (Evicted front) = fate.Evicting
 
 -- the row of an event; its sender, if it has one, stands at this place
-abbrev pub row_at : ℕ → Event → Row
+abbrev pub row_at : ℕ → Event → ScriptRow
 row_at place (offered p outcome) = row.Send (fate_of outcome) place p
 row_at place (pulled device moment visits) = row.Pull (is_some (result_of (visits_of 0 visits))) device moment
 
 -- a row of an event, wherever its sender stands
-abbrev pub IsRowOf : Event → Row → Type 0
+abbrev pub IsRowOf : Event → ScriptRow → Type 0
 IsRowOf e r = (place : ℕ) × (r ≡ row_at place e)
 
 -- The script holds what these lines say.
-pub record IsReadFrom (lines : List Line) (script : Script) : Type 0 where
+pub record IsReadFrom (lines : List ScriptLine) (script : Script) : Type 0 where
   pub rows : asked_by script.rows.items ≡ filter_map command_in lines
   pub closing : script.closing ≡ slice_get (filter_map drain_in lines) 0
 
@@ -77,7 +77,7 @@ pub record CanBeRun (names : Names) (script : Script) : Type 0 where
 
 -- More events led on from these. They are those of the commands that were asked for, and each has its row, which can be carried out again.
 -- If there are several devices, the packets that pulls gave were added to those that were kept.
-pub record CarriesOut (setup : Setup) (old new : ScriptRouter) (asked done : List Row) (events : List Event) : Type 0 where
+pub record CarriesOut (setup : Setup) (old new : ScriptRouter) (asked done : List ScriptRow) (events : List Event) : Type 0 where
   pub more : List Event
   pub theirs : asked_by asked ≡ map command_of more
   pub rows : AllZip IsRowOf more done
@@ -87,7 +87,7 @@ pub record CarriesOut (setup : Setup) (old new : ScriptRouter) (asked done : Lis
   pub leads : IsAt setup (events ++ more) new
 
 -- Carrying out these rows led on from any events that led to the old script_router.
-abbrev pub AnswersRows : ScriptRouter → ScriptRouter → List Row → List Row → Type 0
+abbrev pub AnswersRows : ScriptRouter → ScriptRouter → List ScriptRow → List ScriptRow → Type 0
 AnswersRows old new asked done = (setup : Setup) (events : List Event) → IsAt setup events old → CarriesOut setup old new asked done events
 
 -- the outcome of a packet that was accepted, with the packet that was evicted for it, if one was
@@ -102,12 +102,12 @@ offered_as p fate.Refused front = Refused p
 offered_as p fate.Evicting front = evicted_as front
 
 -- the line of a row, if these packets are given and these are evicted from it on
-abbrev pub row_text : Bool → Row → List Packet → List Packet → List ℕ
+abbrev pub row_text : Bool → ScriptRow → List Packet → List Packet → List ℕ
 row_text several (row.Send fate place p) given fronts = offer_text p (offered_as p fate (slice_get fronts 0))
 row_text several (row.Pull gave device moment) given fronts = pull_text several device moment (if gave then slice_get given 0 else None)
 
 -- what is left of the packets that were given, after a row
-abbrev pub given_after : Row → List Packet → List Packet
+abbrev pub given_after : ScriptRow → List Packet → List Packet
 given_after (row.Send fate place p) given = given
 given_after (row.Pull gave device moment) given = if gave then drop 1 given else given
 
@@ -117,12 +117,12 @@ fronts_left fate.Evicting fronts = drop 1 fronts
 fronts_left fate fronts = fronts
 
 -- what is left of the packets that were evicted, after a row
-abbrev pub fronts_after : Row → List Packet → List Packet
+abbrev pub fronts_after : ScriptRow → List Packet → List Packet
 fronts_after (row.Send fate place p) fronts = fronts_left fate fronts
 fronts_after (row.Pull gave device moment) fronts = fronts
 
 -- the lines of these rows, if these packets are given and these are evicted from the first on
-abbrev pub rows_text : Bool → List Row → List Packet → List Packet → List ℕ
+abbrev pub rows_text : Bool → List ScriptRow → List Packet → List Packet → List ℕ
 rows_text several [] given fronts = []
 rows_text several (r ∷ rows) given fronts = row_text several r given fronts ++ rows_text several rows (given_after r given) (fronts_after r fronts)
 

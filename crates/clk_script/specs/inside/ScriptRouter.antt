@@ -16,8 +16,8 @@ use Rattle.clk_router.specs.Events.{Setup, sender_numbers, Event, pulled, events
 use Rattle.clk_script.specs.declared.script_router.ScriptRouter.{ScriptRouter}
 use Rattle.clk_script.specs.declared.script.Command.{Command}
 use Rattle.clk_script.specs.declared.script.Command.TheVariants.{Send, Pull}
-use Rattle.clk_script.specs.declared.script.Line.{Line}
-use Rattle.clk_script.specs.declared.script.Line.TheVariants as line
+use Rattle.clk_script.specs.declared.script.ScriptLine.{ScriptLine}
+use Rattle.clk_script.specs.declared.script.ScriptLine.TheVariants as line
 use Rattle.clk_script.specs.Script.{Names, most_lines, most_moment}
 use Rattle.clk_script.specs.Meaning.{names_of, command_of, has_several, given_text, closing_text, CloseFirst}
 
@@ -56,7 +56,7 @@ IsReadable (Send sender length) = 1 ≤ length
 IsReadable (Pull device moment) = moment ≤ most_moment
 
 -- a line whose numbers are in the range of a script
-abbrev pub IsReadableLine : Line → Type 0
+abbrev pub IsReadableLine : ScriptLine → Type 0
 IsReadableLine line.Blank = ⊤
 IsReadableLine line.Malformed = ⊤
 IsReadableLine (line.Command command) = IsReadable command

@@ -1,7 +1,7 @@
 use Rattle.std.proofs.Common.{◌≡◌, Some, sym, ap, ap₂, subst, ◌∙◌}
 use Rattle.clk_router.specs.Course.{CanPull, sender_at}
 use Rattle.clk_script.specs.declared.script.Command.TheVariants.{Send}
-use Rattle.clk_script.specs.declared.rows.Row.TheVariants as row
+use Rattle.clk_script.specs.declared.rows.ScriptRow.TheVariants as row
 use Rattle.clk_script.specs.inside.ScriptRouter.{names_in, IsPlace}
 use Rattle.clk_script.specs.inside.Rows.{command_asked, IsToDo}
 use Rattle.clk_script.proofs.AnswerLemmas.{AnswersRows-sent}

@@ -2,7 +2,7 @@ use Rattle.std.proofs.Common.{◌++◌, ◌∷◌, [], take, sym, ap, ◌∙◌,
 use Rattle.std.proofs.lemmas.List.{take_all, take_more}
 use Rattle.std.proofs.lemmas.Result.{err_from_is_err_and}
 use Rattle.clk_sched.specs.declared.visit.Visit.{Visit}
-use Rattle.clk_script.proofs.ReplayLemmas.{held-more, held-none-left, held-lost}
+use Rattle.clk_script.proofs.HeldLemmas.{held-more, held-none-left, held-lost}
 use Rattle.clk_script.proofs.replay.hold.Goals as goal
 
 pub push_reserved-requires : goal.push_reserved-requires

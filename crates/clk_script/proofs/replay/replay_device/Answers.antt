@@ -1,5 +1,5 @@
 use Rattle.std.proofs.lemmas.Result.{err_from_is_err_and}
-use Rattle.clk_script.proofs.ReplayLemmas.{held-all, held-failed}
+use Rattle.clk_script.proofs.HeldLemmas.{held-all, held-failed}
 use Rattle.clk_script.proofs.replay.replay_device.Goals as goal
 
 pub returns-in_err-replay_commands-clause-wrote : goal.returns-in_err-replay_commands-clause-wrote

@@ -1,7 +1,7 @@
 use Rattle.std.proofs.Common.{◌≡◌, ◌-◌, ap, ◌∙◌, arith}
 use Rattle.std.proofs.lemmas.Result.{err_from_is_err_and}
 use Rattle.clk_script.specs.inside.Replay.{pulls_asked}
-use Rattle.clk_script.proofs.ReplayLemmas.{carried-none, can-pull-on, pulled-on, pulls-all, pulls-failed}
+use Rattle.clk_script.proofs.CarriedLemmas.{carried-none, can-pull-on, pulled-on, pulls-all, pulls-failed}
 use Rattle.clk_script.proofs.replay.replay_drain.Goals as goal
 
 pub loop-moment-init : goal.loop-moment-init

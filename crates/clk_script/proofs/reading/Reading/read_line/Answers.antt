@@ -1,6 +1,6 @@
 use Rattle.std.proofs.Common.{◌≡◌, ◌+◌, None, Some, refl, sym, subst, append-nil}
 use Rattle.std.specs.Option.{option_or}
-use Rattle.clk_script.specs.declared.script.Line.TheVariants.{Drain}
+use Rattle.clk_script.specs.declared.script.ScriptLine.TheVariants.{Drain}
 use Rattle.clk_script.specs.Script.{fault_at, drain_in}
 use Rattle.clk_script.specs.inside.ScriptRouter.{named_by}
 use Rattle.clk_script.proofs.ReadingLemmas.{reading-row, undrained-command, undrained-other, drained-first}

@@ -1,7 +1,7 @@
 use Rattle.clk_packet.proofs.Callers.Numbers.{number-shorter}
 use Rattle.clk_script.proofs.PlainLines.{plain-pull}
 use Rattle.clk_script.specs.Script.{most_moment}
-use Rattle.clk_script.proofs.script.Line.plain_pull.Goals as goal
+use Rattle.clk_script.proofs.script.ScriptLine.plain_pull.Goals as goal
 
 pub returns : goal.returns
 returns c =

@@ -1,7 +1,7 @@
 use Rattle.std.proofs.lemmas.Result.{err_from_is_err_and}
 use Rattle.clk_packet.proofs.Callers.Bytes.{Wrote-then}
 use Rattle.clk_script.proofs.PassLemmas.{Passes-wrote, Passes-failed}
-use Rattle.clk_script.proofs.lines.Lines.add.Goals as goal
+use Rattle.clk_script.proofs.lines.LineBuffer.add.Goals as goal
 
 pub returns-in_err-write : goal.returns-in_err-write
 returns-in_err-write g c =

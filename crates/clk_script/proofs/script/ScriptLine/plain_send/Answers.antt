@@ -2,7 +2,7 @@ use Rattle.std.proofs.Common.{arith}
 use Rattle.clk_packet.specs.Limits.{most_sender, most_length}
 use Rattle.clk_packet.proofs.Callers.Numbers.{number-shorter}
 use Rattle.clk_script.proofs.PlainLines.{plain-send}
-use Rattle.clk_script.proofs.script.Line.plain_send.Goals as goal
+use Rattle.clk_script.proofs.script.ScriptLine.plain_send.Goals as goal
 
 pub returns : goal.returns
 returns c =

@@ -3,7 +3,7 @@ use Rattle.std.proofs.lemmas.Bool.Decides.{nat_tests}
 use Rattle.std.proofs.lemmas.Slice.Eq.{bytes_eq-Decides}
 use Rattle.clk_script.specs.Script.{fields}
 use Rattle.clk_script.proofs.LineLemmas.{HaveBytes-fields, line-none, line-word}
-use Rattle.clk_script.proofs.script.Line.read.Goals as goal
+use Rattle.clk_script.proofs.script.ScriptLine.read.Goals as goal
 
 pub returns-then-is_empty : goal.returns-then-is_empty
 returns-then-is_empty c =
