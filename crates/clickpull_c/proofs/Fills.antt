@@ -21,14 +21,6 @@ fill-more {X = X} before filled front y n many low h =
     let set_it : slice_set filled n y ≡ slice_set (front ++ drop (length front) before) (length front) y = ap (λ (l : List X). slice_set l n y) h.1 ∙ ap (λ k. slice_set (front ++ drop (length front) before) k y) (sym many) in
     ((omega (arith, longer, there)), set_it ∙ set-behind front before y there ∙ ap (λ k. (front ++ y ∷ []) ++ drop k before) one)
 
-pub filled-length : {X : Type 0} (before filled front : List X) → IsFilled before filled front → length filled ≡ length before
-filled-length before filled front h = ap length h.1 ∙ behind front before h.0
-  where
-    behind : {X : Type 0} (front before : List X) → length front ≤ length before → length (front ++ drop (length front) before) ≡ length before
-    behind [] before low = refl
-    behind (f ∷ front) [] low = absurd (omega (arith, low))
-    behind (f ∷ front) (b ∷ before) low = ap suc (behind front before (omega (arith, low)))
-
 -- the first so many, mapped
 pub front-length : {X Y : Type 0} (f : X → Y) (xs : List X) (n : ℕ) → n ≤ length xs → length (map f (take n xs)) ≡ n
 front-length f xs n low = length-map (take n xs) f ∙ length-take-le n xs low

@@ -1,3 +1,2 @@
 -- Lemmas on what the senders of a run send.
 pub mod Callers
-mod KnownSenders

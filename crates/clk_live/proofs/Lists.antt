@@ -125,11 +125,3 @@ pub map-kept : {X Y : Type 0} (f : X → Y) (xs : List X) (i : ℕ) (x y : X) �
 map-kept f [] i x y e same = absurd (cc)
 map-kept {X} {Y} f (z ∷ xs) zero x y e same = let is : z ≡ x = cc in ap (λ (u : Y). u ∷ map f xs) (same ∙ ap f (sym is))
 map-kept {X} {Y} f (z ∷ xs) (suc i) x y e same = ap (λ (us : List Y). f z ∷ us) (map-kept f xs i x y e same)
-
--- lists of which a function says the same say the same at a place
-pub same-at : {X Y : Type 0} (f : X → Y) (xs ys : List X) (i : ℕ) (y : X) → map f ys ≡ map f xs → slice_get ys i ≡ Some y → (x : X) × (slice_get xs i ≡ Some x) × (f y ≡ f x)
-same-at f [] [] i y e at = absurd (cc)
-same-at f [] (b ∷ ys) i y e at = absurd (cc)
-same-at f (a ∷ xs) [] i y e at = absurd (cc)
-same-at f (a ∷ xs) (b ∷ ys) zero y e at = let is : b ≡ y = cc in let first : f b ≡ f a = cc in (a, refl, ap f (sym is) ∙ first)
-same-at f (a ∷ xs) (b ∷ ys) (suc i) y e at = let rest : map f ys ≡ map f xs = cc in same-at f xs ys i y rest at

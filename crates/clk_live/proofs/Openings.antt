@@ -1,8 +1,8 @@
 -- The parts of a live router, as they are opened.
-use Rattle.std.proofs.Common.{◌≡◌, ℕ, zero, suc, ◌+◌, ◌<◌, ◌≤◌, ◌^◌, ◌⊎◌, inl, inr, List, [], ◌∷◌, ◌++◌, length, map, Some, slice_get, refl, sym, ap, ◌∙◌, subst, arith}
+use Rattle.std.proofs.Common.{◌≡◌, ℕ, zero, suc, ◌+◌, ◌<◌, ◌≤◌, ◌^◌, List, [], ◌∷◌, ◌++◌, length, map, Some, slice_get, refl, sym, ap, ◌∙◌, subst, arith}
 use Rattle.std.specs.List.{AllByRecursion, AllZip}
-use Rattle.std.proofs.lemmas.List.{length-append, length-map}
-use Rattle.circular_buffer.specs.Buffer.{Buffer, buffer}
+use Rattle.std.proofs.lemmas.List.{length-map}
+use Rattle.circular_buffer.specs.Buffer.{Buffer}
 use Rattle.clk_packet.specs.Lists.{AreRising}
 use Rattle.clk_sched.specs.Keeps.{keeps_nothing}
 use Rattle.clk_sched.specs.Tree.{Tree, root}
@@ -45,38 +45,6 @@ place-low ns i n rising e = let low = low-from ns 0 i n (all ns) rising e in ome
 pub all-pushed : {X : Type 0} (P : X → Type 0) (xs : List X) (x : X) → AllByRecursion P xs → P x → AllByRecursion P (xs ++ x ∷ [])
 all-pushed P [] x h p = (p, tt)
 all-pushed P (y ∷ xs) x h p = (h.0, all-pushed P xs x h.1 p)
-
--- one more buffer
-at-end-or : (bs : List (Buffer ℕ)) (b c : Buffer ℕ) (q : ℕ) → slice_get (bs ++ b ∷ []) q ≡ Some c → (slice_get bs q ≡ Some c) ⊎ ((q ≡ length bs) × (b ≡ c))
-at-end-or [] b c zero e = inr (refl, cc)
-at-end-or [] b c (suc q) e = absurd (cc)
-at-end-or (x ∷ bs) b c zero e = inl e
-at-end-or (x ∷ bs) b c (suc q) e = later (at-end-or bs b c q e)
-  where
-    later : (slice_get bs q ≡ Some c) ⊎ ((q ≡ length bs) × (b ≡ c)) → (slice_get (x ∷ bs) (suc q) ≡ Some c) ⊎ ((suc q ≡ suc (length bs)) × (b ≡ c))
-    later (inl h) = inl h
-    later (inr h) = inr (ap suc h.0, h.1)
-
-pub roomy-none : (queues : List Queued) (counts : List ℕ) → AreRoomy queues counts 0 []
-roomy-none queues counts = record { many = refl; each = λ q queue count b at many here. absurd (cc) }
-
-pub roomy-more : (queues : List Queued) (counts : List ℕ) (n : ℕ) (bs : List (Buffer ℕ)) (b : Buffer ℕ) (queue : Queued) (count : ℕ) → slice_get queues n ≡ Some queue → slice_get counts n ≡ Some count → b ≡ buffer [] (queue.capacity + count)
-    → AreRoomy queues counts n bs → AreRoomy queues counts (n + 1) (bs ++ b ∷ [])
-roomy-more queues counts n bs b queue count at many is h = record {
-  many = (let longer = length-append bs (b ∷ []) in omega (arith, longer, h.many));
-  each = λ q other k c its_queue its_count here. by_place q other k c its_queue its_count (at-end-or bs b c q here);
-}
-  where
-    by_place : (q : ℕ) (other : Queued) (k : ℕ) (c : Buffer ℕ) → slice_get queues q ≡ Some other → slice_get counts q ≡ Some k → (slice_get bs q ≡ Some c) ⊎ ((q ≡ length bs) × (b ≡ c)) → (c.items ≡ []) × (c.capacity ≡ other.capacity + k)
-    by_place q other k c its_queue its_count (inl here) = h.each q other k c its_queue its_count here
-    by_place q other k c its_queue its_count (inr (place, same)) =
-        let here : q ≡ n = place ∙ h.many in
-        let one : Some queue ≡ Some other = sym at ∙ ap (slice_get queues) (sym here) ∙ its_queue in
-        let same_queue : queue ≡ other = cc one in
-        let two : Some count ≡ Some k = sym many ∙ ap (slice_get counts) (sym here) ∙ its_count in
-        let same_count : count ≡ k = cc two in
-        let was : c ≡ buffer [] (queue.capacity + count) = sym same ∙ is in
-        (ap (λ (x : Buffer ℕ). x.items) was, ap (λ (x : Buffer ℕ). x.capacity) was ∙ ap (λ (x : Queued). x.capacity + count) same_queue ∙ ap (λ m. other.capacity + m) same_count)
 
 -- the queue whose room stands at a place
 queue-at : (queues : List Queued) (q : ℕ) (room : Room) → slice_get (map room_of queues) q ≡ Some room → (queue : Queued) × (slice_get queues q ≡ Some queue) × (room_of queue ≡ room)

@@ -1,9 +1,9 @@
 -- The tokens of all queues, one queue after another.
-use Rattle.std.proofs.Common.{◌≡◌, ℕ, zero, suc, ◌+◌, ◌++◌, ◌∷◌, [], List, length, drop, set, Some, None, slice_get, refl, sym, ap, ap₂, ◌∙◌, subst, arith}
+use Rattle.std.proofs.Common.{◌≡◌, ℕ, zero, suc, ◌+◌, ◌++◌, ◌∷◌, [], List, length, drop, set, Some, None, slice_get, refl, sym, ap, ◌∙◌, subst, arith}
 use Rattle.std.specs.List.{flat_map, range_with_len, AllZip}
 use Rattle.std.proofs.lemmas.List.{drop-set-lt}
 use Rattle.std.proofs.lemmas.Option.{slice_get_within}
-use Rattle.circular_buffer.specs.Buffer.{Buffer, buffer}
+use Rattle.circular_buffer.specs.Buffer.{Buffer}
 use Rattle.clk_packet.specs.declared.packet.Packet.{Packet}
 use Rattle.clk_inlet.specs.declared.item.Item.{Item}
 use Rattle.clk_router.specs.Course.{Course}
@@ -11,7 +11,7 @@ use Rattle.clk_live.specs.State.{IsTokenOf}
 use Rattle.clk_live.specs.Reclaiming.{inside_at, all_inside}
 use Rattle.clk_live.specs.inside.Buffers.{buffer_items}
 use Rattle.clk_live.specs.inside.Kept.{IsKept}
-use Rattle.clk_live.proofs.Lists.{member, set-here}
+use Rattle.clk_live.proofs.Lists.{member}
 
 zip-join : {X Y : Type 0} (R : X → Y → Type 0) (xs us : List X) (ys vs : List Y) → AllZip R xs ys → AllZip R us vs → AllZip R (xs ++ us) (ys ++ vs)
 zip-join R [] us [] vs h k = k
@@ -47,17 +47,6 @@ from-queue (c ∷ bs) (suc q) b e = let n : suc (q + 1) ≡ suc q + 1 = omega ar
 
 after-set : (bs : List (Buffer ℕ)) (q : ℕ) (b : Buffer ℕ) → drop (q + 1) (set bs q b) ≡ drop (q + 1) bs
 after-set bs q b = drop-set-lt (q + 1) bs q b (omega arith)
-
--- the first token of the queue is the next one
-pub next-token : (bs : List (Buffer ℕ)) (q : ℕ) (b left : Buffer ℕ) (token : ℕ) → slice_get bs q ≡ Some b → Some token ≡ slice_get b.items 0 → left ≡ buffer (drop 1 b.items) b.capacity
-    → flat_map buffer_items (drop q bs) ≡ token ∷ flat_map buffer_items (drop q (set bs q left))
-next-token bs q b left token at first is =
-    from-queue bs q b at ∙ ap (λ l. l ++ flat_map buffer_items (drop (q + 1) bs)) (begins b.items first)
-    ∙ ap (λ l. token ∷ l) (ap₂ (λ xs ys. xs ++ flat_map buffer_items ys) (sym (ap (λ (x : Buffer ℕ). x.items) is)) (sym (after-set bs q left)) ∙ sym (from-queue (set bs q left) q left (set-here bs q b left at)))
-  where
-    begins : (xs : List ℕ) → Some token ≡ slice_get xs 0 → xs ≡ token ∷ drop 1 xs
-    begins [] e = absurd (cc)
-    begins (x ∷ xs) e = let same : token ≡ x = cc in ap (λ y. y ∷ xs) (sym same)
 
 -- an empty queue has none
 pub next-queue : (bs : List (Buffer ℕ)) (q : ℕ) (b left : Buffer ℕ) → slice_get bs q ≡ Some b → None ≡ slice_get b.items 0 → flat_map buffer_items (drop q bs) ≡ flat_map buffer_items (drop (q + 1) (set bs q left))

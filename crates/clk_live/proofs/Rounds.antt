@@ -13,7 +13,7 @@ use Rattle.clk_sched.specs.Examples.Priority.{p0_0}
 use Rattle.clk_live.specs.declared.taking.Outcome.TheVariants.{Refused}
 use Rattle.clk_live.specs.declared.taking.Taken.{Taken}
 use Rattle.clk_live.specs.State.{LiveState, starts_at}
-use Rattle.clk_live.specs.Taking.{AreOf, AreAtMost, AreSharesOr, StartsNext, after_place, count_of}
+use Rattle.clk_live.specs.Taking.{AreOf, AreSharesOr, StartsNext, after_place, count_of}
 use Rattle.clk_live.specs.inside.Each.{IsEach, AreEach, GaveSharesOr, IsLast}
 use Rattle.clk_live.proofs.Steps.{one-place}
 
@@ -167,32 +167,7 @@ shares-more Was Now setup first place n each from result most start old new late
 no_taken : Taken
 no_taken = record { packet = p0_0; token = 0; outcome = Refused }
 
--- whether a number stands in a list
-stands-or-not : (ns : List ℕ) (s : ℕ) → ((i : ℕ) × (slice_get ns i ≡ Some s)) ⊎ ((i : ℕ) → slice_get ns i ≡ Some s → ⊥)
-stands-or-not [] s = inr (λ i e. cc)
-stands-or-not (n ∷ ns) s = by_test (n == s) refl (stands-or-not ns s)
-  where
-    by_test : (b : Bool) → (n == s) ≡ b → ((i : ℕ) × (slice_get ns i ≡ Some s)) ⊎ ((i : ℕ) → slice_get ns i ≡ Some s → ⊥) → ((i : ℕ) × (slice_get (n ∷ ns) i ≡ Some s)) ⊎ ((i : ℕ) → slice_get (n ∷ ns) i ≡ Some s → ⊥)
-    by_test true e rest = inl (0, ap Some (eqb-true n s e))
-    by_test false e (inl x) = inl (suc x.0, x.1)
-    by_test false e (inr never) = inr later
-      where
-        later : (i : ℕ) → slice_get (n ∷ ns) i ≡ Some s → ⊥
-        later zero f = let same : n ≡ s = cc in absurd (grind (arith, nat_tests))
-        later (suc i) f = never i f
-
 -- Two sweeps, from a place to the end and from the first place to it, are a round.
-pub round-each : (setup : Setup) (start places each : ℕ) (mid new : List Taken) → start ≤ places → places ≡ length (sender_numbers setup) → AreEach setup start places each [] mid → AreEach setup 0 start each mid new → AreAtMost each new
-round-each setup start places each mid new low many first second = λ s. by_sender s (stands-or-not (sender_numbers setup) s)
-  where
-    by_sender : (s : ℕ) → ((i : ℕ) × (slice_get (sender_numbers setup) i ≡ Some s)) ⊎ ((i : ℕ) → slice_get (sender_numbers setup) i ≡ Some s → ⊥) → count_of s new ≤ each
-    by_sender s (inr never) = let a = first.1 s never in let b = second.1 s never in omega (arith, a, b)
-    by_sender s (inl (i, at)) = by_place (lt-or i start)
-      where
-        by_place : (i < start) ⊎ (start ≤ i) → count_of s new ≤ each
-        by_place (inl x) = let a = (first.0 i s at).others (inl x) in let b = (second.0 i s at).most in omega (arith, a, b)
-        by_place (inr x) = let a = (first.0 i s at).most in let b = (second.0 i s at).others (inr x) in omega (arith, a, b)
-
 pub round-shares : (First Second Now : ℕ → Type 0) (setup : Setup) (start places each : ℕ) (mid new : List Taken) → ((k : ℕ) → First k → Now k) → ((k : ℕ) → Second k → Now k) → places ≡ length (sender_numbers setup)
     → AreEach setup start places each [] mid → AreEach setup 0 start each mid new → GaveSharesOr First setup start places each [] mid → GaveSharesOr Second setup 0 start each mid new → AreSharesOr Now setup each new
 round-shares First Second Now setup start places each mid new of_first of_second many first second shares more = λ place s at. by_place place s at (lt-or place start)

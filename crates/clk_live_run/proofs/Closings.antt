@@ -196,18 +196,6 @@ drained device old now there so emptied =
       outlets = so.outlets;
     }
 
--- The devices are drained one after the other.
-pub closed-none : (l : LiveState) → HasClosed 0 l l
-closed-none l =
-    record {
-      closed = [];
-      goes_on = ap (λ es. record { setup = l.course.setup; events = es; keeps = l.course.keeps }) (sym (append-nil l.course.events));
-      closes = refl;
-      others = λ d low. refl;
-      none_left = λ d low. absurd (omega (arith, low));
-      items = refl;
-    }
-
 -- a device at which nothing happened can be closed as before
 pub can-still-close : (old now : Course) (d : ℕ) → now.setup ≡ old.setup → events_of now d ≡ events_of old d → CanClose old d 0 → CanClose now d 0
 can-still-close old now d setup same can =
@@ -224,6 +212,7 @@ can-still-close old now d setup same can =
       pulls = subst (λ n. n < end_of_drained_pulls) (sym p) can.pulls;
     }
 
+-- The devices are drained one after the other.
 pub closed-more : (count : ℕ) (old l new : LiveState) → HasClosed count old l → HasDrained count l new → HasClosed (suc count) old new
 closed-more count old l new so one =
     record {

@@ -1,10 +1,9 @@
 -- How the record of a run goes on.
-use Rattle.std.proofs.Common.{◌≡◌, ℕ, ◌+◌, ◌≤◌, Bool, true, false, true≢false, List, [], ◌∷◌, ◌++◌, length, Option, Some, None, refl, sym, ap, ◌∙◌, subst, arith}
+use Rattle.std.proofs.Common.{◌≡◌, ℕ, ◌+◌, Bool, true, true≢false, List, [], ◌∷◌, ◌++◌, Option, Some, None, refl, sym, ap, ◌∙◌, subst, arith}
 use Rattle.std.proofs.lemmas.List.{append_assoc, length-append}
 use Rattle.clk_packet.specs.Bytes.{AppendsFront}
 use Rattle.clk_script.specs.declared.script.Command.{Command}
 use Rattle.clk_script.specs.Record.{command_text, drain_text, record_text}
-use Rattle.clk_script.specs.Script.{most_lines}
 use Rattle.clk_live_run.specs.declared.recording.RecordState.{RecordState}
 use Rattle.clk_live_run.specs.declared.recording.RecordState.TheVariants.{Off, Going, Failed, Full}
 use Rattle.clk_live_run.specs.inside.Recording.{SinkAt, RecordAt, StandsAs, IsRecordOf, IsEnded}
@@ -25,23 +24,6 @@ ended-stays r commands command grows ended recording start = by_state r.state re
     by_state Full e h = (h.0, let many = length-append commands (command ∷ []) in let low = h.1 in omega (arith, many, low))
 
 -- The drain of a record that has ended, by how far it had come.
-pub ended-off : (recording : Bool) (start now : SinkAt) (commands : List Command) → (recording ≡ false) × (now ≡ start) → IsEnded recording false start now commands
-ended-off recording start now commands h =
-    record {
-      unrecorded = λ e. (h.1, refl);
-      whole = λ e few f. absurd (true≢false (sym e ∙ h.0));
-      front = λ e few f. absurd (true≢false (sym f));
-    }
-
-pub ended-full : (recording : Bool) (start now : SinkAt) (commands : List Command) → (recording ≡ true) × (most_lines ≤ length commands) → IsEnded recording false start now commands
-ended-full recording start now commands h =
-    let low = h.1 in
-    record {
-      unrecorded = λ e. absurd (true≢false (sym h.0 ∙ e));
-      whole = λ e few f. absurd (omega (arith, few, low));
-      front = λ e few f. absurd (true≢false (sym f));
-    }
-
 pub ended-failed : (recording : Bool) (start now : SinkAt) (commands : List Command) → record_text commands (Some 0) ≡ record_text commands None ++ drain_text (Some 0)
     → (recording ≡ true) × (now.failures ≡ start.failures + 1) × AppendsFront start.taken now.taken (record_text commands None) → IsEnded recording true start now commands
 ended-failed recording start now commands grows h =

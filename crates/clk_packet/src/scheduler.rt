@@ -21,9 +21,9 @@ pub enum SchedulerName {
 /// A scheduler with its arguments. A new scheduler begins here: the other crates use this list.
 #[derive(Drop)]
 pub enum Scheduler {
-    /// Gives what its first input that has a packet gives.
+    /// Serves the first input that has a packet.
     Prio,
-    /// Asks its inputs in turn.
+    /// Serves its inputs in turn.
     RoundRobin,
     /// Deficit round robin, with the quantum of each input in bytes. In a tree text one quantum is for all inputs.
     Drr(Vec<u32>),
@@ -86,7 +86,7 @@ impl SchedulerName {
 }
 
 impl Scheduler {
-    ghost use Rattle.std.specs.Prelude.{◌≡◌, ◌<◌, ◌^◌, length, IfOk};
+    ghost use Rattle.std.specs.Prelude.{◌≡◌, ◌≤◌, length, IfOk, IfSome};
     ghost use Rattle.std.specs.Option.{option_map};
     ghost use Rattle.clk_packet.specs.Scheduler.{arguments_of, inputs_of, name_of, over_inputs, scheduler_view, scheduler_with};
 
@@ -130,22 +130,22 @@ impl Scheduler {
     }
 
     /// How many inputs it has by its arguments, or none if it has as many as are connected.
-    pub fn inputs(&self) -> Option<u32>
-        requires { length (arguments_of (scheduler_view self.now)) < 2 ^ 32 }
-        ensures { result ≡ inputs_of (scheduler_view self.now) }
+    pub fn inputs(&self) -> Option<usize>
+        ensures inputs { result ≡ inputs_of (scheduler_view self.now) }
+        ensures few { IfSome result (λ inputs. inputs ≤ length (arguments_of (scheduler_view self.now))) }
     {
         match self {
             Scheduler::Prio | Scheduler::RoundRobin => None,
             Scheduler::Drr(quanta) => match quanta.len() {
                 0 | 1 => None,
-                inputs => Some(inputs as u32),
+                inputs => Some(inputs),
             },
-            Scheduler::Stride(tickets) => Some(tickets.len() as u32),
+            Scheduler::Stride(tickets) => Some(tickets.len()),
             Scheduler::Shaper(_, _) => Some(1),
         }
     }
 
-    /// A copy with arguments for each of so many inputs. Fails if an allocation does.
+    /// A copy with arguments for so many inputs: a single quantum is for each of them. Fails if an allocation does.
     pub fn over(&self, alloc: Global, inputs: usize) -> Result<Scheduler, AllocError>
         ensures { IfOk result (λ over. scheduler_view over ≡ over_inputs (scheduler_view self.now) inputs) }
     {

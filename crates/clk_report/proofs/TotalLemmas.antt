@@ -1,10 +1,9 @@
 -- Totals of packets, counted one by one.
-use Rattle.std.proofs.Common.{◌≡◌, ◌≢◌, ℕ, ◌+◌, ◌*◌, ◌^◌, ◌<◌, ◌≤◌, ◌==◌, Bool, true, false, List, [], ◌∷◌, ◌++◌, All, Vec, length, take, drop, replicate, set, get_or, slice_get, append_assoc, append-nil, Some, refl, sym, ap, ◌∙◌, subst, arith}
+use Rattle.std.proofs.Common.{◌≡◌, ◌≢◌, ℕ, ◌+◌, ◌*◌, ◌^◌, ◌<◌, ◌≤◌, ◌==◌, Bool, true, false, List, [], ◌∷◌, ◌++◌, All, Vec, length, take, drop, set, get_or, slice_get, append_assoc, append-nil, Some, refl, sym, ap, ◌∙◌, subst, arith}
 use Rattle.std.specs.declared.alloc.Global.{Global}
 use Rattle.std.proofs.lemmas.Bool.{false≢true}
 use Rattle.std.proofs.lemmas.Bool.Decides.{nat_tests}
-use Rattle.std.proofs.lemmas.List.{length-append, length-drop, length-replicate, length-set, get_or-replicate, get_or-set_same, get_or-set_other, take_all, take_more}
-use Rattle.std.proofs.lemmas.List.Concat.{flat_map-append}
+use Rattle.std.proofs.lemmas.List.{length-append, length-drop, length-set, get_or-set_same, get_or-set_other, take_all, take_more}
 use Rattle.std.proofs.lemmas.List.Elements.{All-set, filter-append}
 use Rattle.std.proofs.lemmas.Option.{slice_get-get_or, get_or_from_slice_get}
 use Rattle.clk_packet.specs.declared.packet.Packet.{Packet}
@@ -150,30 +149,6 @@ AreCountedTo-room emitted totals i more below short so_far s d inside =
     let all = so_far.few in
     let bytes = bytes-few packets in
     subst (HasRoom more) (sym (get_or_from_slice_get totals s (total_of packets) d (so_far.are.each s inside))) (record { packets = omega (arith, few, all); bytes = omega (arith, few, all, bytes) })
-
-pub AreCountedTo-more : (emitted : List (Vec Packet Global)) (old new : List Total) (i : ℕ) (v : Vec Packet Global) (packets : List Packet) → i < length emitted → v ≡ get_or emitted i v → packets ≡ v.items → length packets < 2 ^ 64
-    → AreCountedTo emitted old i → ((before : List Packet) → AreTotals before old → AreTotals (before ++ packets) new) → AreCountedTo emitted new (i + 1)
-AreCountedTo-more emitted old new i v packets within is its short so_far counts =
-    let next : all_emitted (take (i + 1) emitted) ≡ all_emitted (take i emitted) ++ packets =
-    ap all_emitted (take_more emitted i v within ∙ ap (λ u. take i emitted ++ u ∷ []) (sym is)) ∙ flat_map-append (λ (u : Vec Packet Global). u.items) (take i emitted) (v ∷ [])
-    ∙ ap (λ l. all_emitted (take i emitted) ++ l) (append-nil v.items ∙ sym its)
-    in
-    let many = ap length next ∙ length-append (all_emitted (take i emitted)) packets in
-    let few = so_far.few in
-    record { are = subst (λ l. AreTotals l new) (sym next) (counts (all_emitted (take i emitted)) so_far.are); few = omega (arith, many, few) }
-
-pub all-devices-counted : (emitted : List (Vec Packet Global)) (totals : List Total) (i : ℕ) → length emitted ≤ i → AreCountedTo emitted totals i → AreTotals (all_emitted emitted) totals
-all-devices-counted emitted totals i all so_far = subst (λ l. AreTotals (all_emitted l) totals) (take_all i emitted all) so_far.are
-
--- no packets of any sender
-pub AreTotals-zero : (n : ℕ) (totals : List Total) → totals ≡ replicate n (total_of []) → AreTotals [] totals
-AreTotals-zero n totals is =
-    record {
-      each = λ s within.
-          let many : length totals ≡ n = ap length is ∙ length-replicate n (total_of []) in
-          let inside : s < n = omega (arith, many, within) in
-          slice_get-get_or totals s (total_of []) within ∙ ap (λ ts. Some (get_or ts s (total_of []))) is ∙ ap Some (get_or-replicate n s (total_of []) (total_of []) inside);
-    }
 
 -- what two lists come to together
 pub both-of : (packets more : List Packet) → both (total_of packets) (total_of more) ≡ total_of (packets ++ more)

@@ -1,5 +1,5 @@
 -- How the parts of a router go on by one event.
-use Rattle.std.proofs.Common.{◌≡◌, ℕ, ◌+◌, ◌<◌, ◌==◌, ◌&&◌, ◌||◌, zero, suc, Bool, true, false, List, [], ◌∷◌, ◌++◌, length, map, drop, reverse, max, set, if◌then◌else◌, Option, Some, None, Result, Ok, Err, IfOk, OnOk, OnErr, MatchOption, Vec, slice_get, slice_set, get_or, refl, sym, ap, ap₂, ◌∙◌, subst, arith}
+use Rattle.std.proofs.Common.{◌≡◌, ℕ, ◌+◌, ◌<◌, ◌==◌, ◌&&◌, ◌||◌, zero, suc, Bool, true, false, List, [], ◌∷◌, ◌++◌, length, map, drop, reverse, max, set, if◌then◌else◌, Option, Some, None, Result, Ok, Err, IfOk, OnOk, MatchOption, Vec, slice_get, slice_set, get_or, refl, sym, ap, ap₂, ◌∙◌, subst, arith}
 use Rattle.std.specs.Bool.{⊤}
 use Rattle.std.specs.Option.{option_map}
 use Rattle.std.specs.declared.alloc.Global.{Global}
@@ -279,14 +279,7 @@ can-count [] d can = absurd can
 can-count (device ∷ devices) zero can = omega arith
 can-count (device ∷ devices) (suc d) can = let below = can-count devices d can in omega (arith, below)
 
--- An outcome counts nothing at the device of its queue, or one packet more.
-pub counts-none : (old : List Device) (device : ℕ) (outcome : Offered) → CanCount (slice_get old device) → kept_by outcome ≡ 0 → CountsAt old device outcome old
-counts-none old device outcome can none =
-    record { here = subst (λ (o : Option Device). CountsHere outcome o o) (sym its.here) (refl, let k = none in omega (arith, k)); only = record { count = refl; others = λ k e. refl } }
-  where
-    its : IsMember old device
-    its = member-at old device (can-count old device can)
-
+-- An outcome counts one packet more at the device of its queue.
 pub counts-one : (old : List Device) (d : ℕ) (before : Device) (new : List Device) → IsSetAt old d before (record { session = before.session; kept = before.kept + 1 }) new → CountsAt old d Accepted new
 counts-one old d before new set =
     record {
@@ -565,27 +558,7 @@ set-same [] d before is within = absurd (omega (arith, within))
 set-same (device ∷ devices) zero before is within = ap (λ (x : Device). x ∷ devices) is
 set-same (device ∷ devices) (suc d) before is within = ap (λ l. device ∷ l) (set-same devices d before is (omega (arith, within)))
 
--- parts that are as they were, but for what doesn't count
-pub IsAt-same : (setup : Setup) (events : List Event) (old new : Parts) → IsAt setup events old → new.devices.items ≡ old.devices.items → new.queues ≡ old.queues → new.senders ≡ old.senders → new.numbers ≡ old.numbers → new.paths ≡ old.paths
-    → new.keeps ≡ old.keeps → IsAt setup events new
-IsAt-same setup events old new at devices queues senders numbers paths keeps =
-    record {
-      can_happen = at.can_happen;
-      senders = ap (λ ss. ss.items) senders ∙ at.senders;
-      numbers = ap (λ ns. ns.items) numbers ∙ at.numbers;
-      queues = λ q. subst (λ (qs : Queues). AreQueuesAt (history setup q events) (slice_get setup.queues q) (slice_get qs.rings.items q)) (sym queues) (at.queues q);
-      count = ap (λ qs. length qs.rings.items) queues ∙ at.count;
-      devices = λ d. subst (λ l. AreDevicesAt (events_at setup d events) (slice_get setup.trees d) (slice_get l d)) (sym devices) (at.devices d);
-      device_count = ap length devices ∙ at.device_count;
-      paths = ap (λ ps. ps.items) paths ∙ at.paths;
-      kinds = λ d. subst (λ l. KeepsAsAt new.keeps (slice_get l d)) (sym devices) (subst (λ k. KeepsAsAt k (slice_get old.devices.items d)) (sym keeps) (at.kinds d));
-    }
-
 -- what follows from two facts of a success, and of a failure
 pub both-ok : {T E : Type 0} {P R : T → Type 0} {Q : Type 0} (r : Result T E) → ((x : T) → P x → Q → R x) → IfOk r P → OnOk r Q → IfOk r R
 both-ok (Ok x) step p q = step x p q
 both-ok (Err e) step p q = tt
-
-pub both-err : {T E : Type 0} {P Q R : Type 0} (r : Result T E) → (P → Q → R) → OnErr r P → OnErr r Q → OnErr r R
-both-err (Ok x) step p q = tt
-both-err (Err e) step p q = step p q

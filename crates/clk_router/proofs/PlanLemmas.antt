@@ -19,9 +19,6 @@ pub record AreMade (plan : List Planned) (n : ℕ) (trees : List Tree) : Type 0 
   pub each : (d : ℕ) (tree : Tree) → slice_get trees d ≡ Some tree → IsTreeOf plan d tree
   pub stand : AllByRecursion CanStand trees
 
-pub made-none : (plan : List Planned) → AreMade plan 0 []
-made-none plan = record { count = refl; each = λ d tree e. absurd (cc); stand = tt }
-
 -- a member of a list with one more is one of it, or the last
 at-end : (trees : List Tree) (t : Tree) (d : ℕ) (tree : Tree) → slice_get (trees ++ t ∷ []) d ≡ Some tree → (slice_get trees d ≡ Some tree) ⊎ ((d ≡ length trees) × (t ≡ tree))
 at-end [] t zero tree e = inr (refl, cc)

@@ -17,9 +17,6 @@ pub record IsGathering (old : TapLists) (all : List ClosedLists) (tap : TapLists
   pub each : AreOfTap tap now
   pub first : AllWithin (λ (c : ClosedLists). c.is_gathered ≡ true) now 0 n
 
-pub gathering-first : (tap : TapLists) (closed : List ClosedLists) → AreOfTap tap closed → IsGathering tap closed tap closed 0
-gathering-first tap closed each = record { id = refl; setup = refl; keeps = refl; taken = refl; lists = refl; each = each; first = λ k d ge lt. absurd (omega arith) }
-
 -- the seat at a place
 pub of-tap-at : (tap : TapLists) (now : List ClosedLists) (i : ℕ) (d : ClosedLists) → i < length now → AreOfTap tap now → IsOfTap tap (get_or now i d)
 of-tap-at tap [] i d lt h = absurd (omega arith)

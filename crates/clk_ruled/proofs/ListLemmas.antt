@@ -1,5 +1,5 @@
 -- Lists of packets by sender, and what went out.
-use Rattle.std.proofs.Common.{◌≡◌, ◌≢◌, ℕ, ◌==◌, ◌||◌, Bool, true, false, true≢false, zero, suc, List, [], ◌∷◌, ◌++◌, length, refl, sym, ap, ◌∙◌, ⊎_elim, inl, inr, ◌⊎◌, if◌then◌else◌, arith}
+use Rattle.std.proofs.Common.{◌≡◌, ◌≢◌, ℕ, ◌==◌, Bool, true, false, true≢false, zero, suc, List, [], ◌∷◌, ◌++◌, length, refl, sym, ap, ◌∙◌, ⊎_elim, inl, inr, ◌⊎◌, if◌then◌else◌, arith}
 use Rattle.std.proofs.lemmas.Bool.{or_parts, or_right}
 use Rattle.std.proofs.lemmas.List.{append-nil}
 use Rattle.std.proofs.lemmas.List.Elements.{filter-append}
@@ -64,9 +64,6 @@ has-more t s senders h = or_right (t == s) (stands_in s senders) h
 
 pub has-not : (t s : ℕ) (senders : List ℕ) → stands_in s (t ∷ senders) ≡ false → (t ≢ s) × (stands_in s senders ≡ false)
 has-not t s senders h = let both = or_parts (t == s) (stands_in s senders) h in ((λ e. true≢false (sym (eq-true t s e) ∙ both.0)), both.1)
-
-pub has-itself : (s : ℕ) (senders : List ℕ) → stands_in s (s ∷ senders) ≡ true
-has-itself s senders = ap (λ b. b || stands_in s senders) (eq-true s s refl)
 
 -- a place of a list with one member more
 pub at-end : {A : Type 0} (l : List A) (a b : A) (j : ℕ) → get_elem? (l ++ a ∷ []) j ≡ some b → (get_elem? l j ≡ some b) ⊎ ((j ≡ length l) × (a ≡ b))

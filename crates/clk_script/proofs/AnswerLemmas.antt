@@ -1,30 +1,24 @@
 -- How a router goes on by the commands of some rows, and what it comes to.
-use Rattle.std.proofs.Common.{◌≡◌, ℕ, ◌+◌, ◌<◌, ◌≤◌, zero, suc, nat_lt, true, if◌then◌else◌, List, [], ◌∷◌, ◌++◌, length, map, take, drop, set, get_or, Option, Some, None, IfSome, Vec, refl, sym, ap, ap₂, subst, ◌∙◌, append_assoc, append-nil, arith}
-use Rattle.std.specs.Option.{is_some}
-use Rattle.std.specs.List.{flat_map, filter_map, cons_option, AllByRecursion, AllZip}
+use Rattle.std.proofs.Common.{◌≡◌, ℕ, ◌+◌, ◌<◌, ◌≤◌, zero, suc, true, if◌then◌else◌, List, [], ◌∷◌, ◌++◌, length, map, take, drop, set, get_or, Option, Some, None, IfSome, Vec, refl, sym, ap, ap₂, subst, ◌∙◌, append_assoc, append-nil, arith}
+use Rattle.std.specs.List.{flat_map, filter_map, AllByRecursion, AllZip}
 use Rattle.std.specs.declared.alloc.Global.{Global}
-use Rattle.std.proofs.lemmas.List.{map-append, length-map, length-take, take_all, length-set, take-append-drop, take_more, take_more_set, drop_more, drop-set-lt}
+use Rattle.std.proofs.lemmas.List.{map-append, length-map, length-take, length-set, take-append-drop, take_more, take_more_set, drop_more, drop-set-lt}
 use Rattle.std.proofs.lemmas.List.Elements.{filter_map-append}
 use Rattle.std.proofs.lemmas.Grind.{drop_more_same}
-use Rattle.clk_packet.specs.declared.packet.Packet.{Packet}
-use Rattle.clk_packet.specs.declared.packet.Offered.{Offered}
 use Rattle.clk_report.specs.Devices.{lists_of}
 use Rattle.clk_router.specs.Accounts.{account_after}
 use Rattle.clk_script.specs.AccountLines.{account_line}
 use Rattle.clk_sched.specs.declared.session.departures.Departure.{Departure}
 use Rattle.clk_sched.specs.Results.{emitted}
-use Rattle.clk_script.specs.declared.script.Command.{Command}
-use Rattle.clk_script.specs.declared.script.Command.TheVariants.{Send, Pull}
 use Rattle.clk_script.specs.declared.rows.ScriptRow.{ScriptRow}
 use Rattle.clk_script.specs.declared.rows.ScriptRow.TheVariants as row
 use Rattle.clk_script.specs.declared.script_router.ScriptRouter.{ScriptRouter}
-use Rattle.clk_script.specs.Script.{Names, most_lines, most_moment}
-use Rattle.clk_router.specs.Course.{sender_at}
-use Rattle.clk_router.specs.Events.{Setup, Event, offered, pulled, events_at, log_of, logs_of, emitted_in}
+use Rattle.clk_script.specs.Script.{Names, most_lines}
+use Rattle.clk_router.specs.Events.{Setup, Event, events_at, log_of, logs_of, emitted_in}
 use Rattle.clk_router.proofs.Callers.Events.{all-join}
 use Rattle.clk_script.specs.Meaning.{names_of, has_several, command_of, event_text, ending_text, CloseFirst}
-use Rattle.clk_script.specs.inside.ScriptRouter.{names_in, IsAt, Starts, IsReady, given_kept, LeadsOnByPull, IsReadable}
-use Rattle.clk_script.specs.inside.Rows.{command_asked, asked_by, row_at, IsRowOf, IsToDo, CarriesOut, Answers, AnswersRows, IsClosedFrom, rows_text, closings_text, closings_of, given_of}
+use Rattle.clk_script.specs.inside.ScriptRouter.{names_in, IsAt, Starts, IsReady, IsReadable}
+use Rattle.clk_script.specs.inside.Rows.{command_asked, asked_by, IsRowOf, IsToDo, CarriesOut, Answers, AnswersRows, IsClosedFrom, rows_text, closings_text, closings_of, given_of}
 use Rattle.clk_script.proofs.RowLemmas.{rows-written}
 use Rattle.clk_script.proofs.ScriptRouterLemmas.{alike-its}
 
@@ -44,54 +38,7 @@ rows-appended [] more (r ∷ rows) others h k = absurd h
 rows-appended (e ∷ events) more [] others h k = absurd h
 rows-appended (e ∷ events) more (r ∷ rows) others h k = (h.0, rows-appended events more rows others h.1 k)
 
--- No row was carried out, one was, and some were after others.
-pub AnswersRows-none : (router : ScriptRouter) (asked done : List ScriptRow) → asked ≡ [] → done ≡ [] → AnswersRows router router asked done
-AnswersRows-none router asked done none nothing =
-    λ setup events at.
-    record {
-      more = [];
-      theirs = ap asked_by none;
-      rows = subst (AllZip IsRowOf []) (sym nothing) tt;
-      to_do = subst (AllByRecursion (IsToDo (names_of setup))) (sym nothing) tt;
-      given = λ several. sym (append-nil router.given.items);
-      keeps = refl;
-      leads = subst (λ l. IsAt setup l router) (sym (append-nil events)) at;
-    }
-
-pub AnswersRows-sent : (old new : ScriptRouter) (asked done : ScriptRow) (place : ℕ) (p : Packet) (outcome : Offered) → command_asked asked ≡ Send p.sender p.length → done ≡ row_at place (offered p outcome) → new.given ≡ old.given
-    → new.router.keeps ≡ old.router.keeps → sender_at old.router.setup place ≡ Some p.sender
-    → ((setup : Setup) (events : List Event) → IsAt setup events old → IsAt setup (events ++ offered p outcome ∷ []) new) → AnswersRows old new (asked ∷ []) (done ∷ [])
-AnswersRows-sent old new asked done place p outcome asks is given keeps its leads =
-    λ setup events at.
-    record {
-      more = offered p outcome ∷ [];
-      theirs = ap (λ (c : Command). c ∷ []) asks;
-      rows = ((place, is), tt);
-      to_do = (subst (IsToDo (names_of setup)) (sym is) (ap (λ s. sender_at s place) (sym at.setup_is) ∙ its), tt);
-      given = λ several. ap (λ ps. ps.items) given ∙ sym (append-nil old.given.items);
-      keeps = keeps;
-      leads = leads setup events at;
-    }
-
-pub AnswersRows-pulled : (old new : ScriptRouter) (asked done : ScriptRow) (device moment : ℕ) (got : Option Packet) → command_asked asked ≡ Pull device moment → done ≡ row.Pull (is_some got) device moment → new.given.items ≡ given_kept old got
-    → new.router.keeps ≡ old.router.keeps → (device < length old.router.setup.trees) × (moment ≤ most_moment)
-    → ((setup : Setup) (events : List Event) → IsAt setup events old → LeadsOnByPull setup new device moment got events) → AnswersRows old new (asked ∷ []) (done ∷ [])
-AnswersRows-pulled old new asked done device moment got asks is given keeps can leads =
-    λ setup events at.
-    let led = leads setup events at in
-    record {
-      more = pulled device moment led.visits ∷ [];
-      theirs = ap (λ (c : Command). c ∷ []) asks;
-      rows = ((0, is ∙ ap (λ o. row.Pull (is_some o) device moment) (sym led.result)), tt);
-      to_do = (subst (IsToDo (names_of setup)) (sym is) (subst (λ (s : Setup). device < length s.trees) at.setup_is can.0, can.1), tt);
-      given =
-          λ several.
-          let many : nat_lt 1 (length old.router.setup.trees) ≡ true = ap (λ (s : Setup). nat_lt 1 (length s.trees)) at.setup_is ∙ several in
-          given ∙ rw many (ap (λ g. old.given.items ++ cons_option g []) (sym led.result));
-      keeps = keeps;
-      leads = led.leads;
-    }
-
+-- Some rows were carried out after others.
 pub AnswersRows-then : (a b c : ScriptRouter) (asked done later rows : List ScriptRow) → AnswersRows a b asked done → AnswersRows b c later rows → AnswersRows a c (asked ++ later) (done ++ rows)
 AnswersRows-then a b c asked done later rows first next =
     λ setup events at.
@@ -147,9 +94,6 @@ pub record IsCarriedTo (old new : ScriptRouter) (asked rows : List ScriptRow) (i
   pub left : drop i rows ≡ drop i asked
   pub answers : AnswersRows old new (take i asked) (take i rows)
 
-pub IsCarriedTo-none : (router : ScriptRouter) (rows : List ScriptRow) → IsCarriedTo router router rows rows 0
-IsCarriedTo-none router rows = record { within = omega arith; count = refl; left = refl; answers = AnswersRows-none router [] [] refl refl }
-
 -- the row at the place is the one that was asked for
 still-asked : (asked rows : List ScriptRow) (i : ℕ) (row : ScriptRow) → i < length rows → length rows ≡ length asked → drop i rows ≡ drop i asked → row ≡ get_or rows i row → get_or asked i row ≡ row
 still-asked asked rows i row within count left is =
@@ -182,11 +126,6 @@ IsCarriedTo-more old mid new asked rows i row done carried within is answers =
   where
     inside : i < length asked
     inside = let count = carried.count in omega (arith, within, count)
-
-pub all-answered : (old new : ScriptRouter) (asked rows : List ScriptRow) (i : ℕ) → IsCarriedTo old new asked rows i → length rows ≤ i → AnswersRows old new asked rows
-all-answered old new asked rows i carried all =
-    let count = carried.count in
-    subst (λ l. AnswersRows old new l rows) (take_all i asked (omega (arith, count, all))) (subst (λ l. AnswersRows old new (take i asked) l) (take_all i rows all) carried.answers)
 
 -- A router over which all commands of a script were carried out, from what was kept of it, and what was kept when it ended.
 module _ (setup : Setup) (old mid : ScriptRouter) (asked done : List ScriptRow) (starts : Starts setup old) (answers : AnswersRows old mid asked done) where

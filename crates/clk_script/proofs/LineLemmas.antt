@@ -1,5 +1,5 @@
 -- What the fields of a line say, by their places.
-use Rattle.std.proofs.Common.{◌≡◌, ℕ, ◌<◌, true, suc, List, [], ◌∷◌, length, drop, codes, Some, None, refl, ap, ◌∙◌, arith}
+use Rattle.std.proofs.Common.{◌≡◌, ℕ, ◌<◌, true, suc, List, [], ◌∷◌, length, drop, codes, Some, None, refl, arith}
 use Rattle.std.specs.List.{AllByRecursion, filter, slice_split}
 use Rattle.std.proofs.lemmas.Bool.{false≢true}
 use Rattle.clk_script.specs.declared.script.ScriptLine.TheVariants as line
@@ -34,22 +34,12 @@ line-none [] h e = refl
 line-none ([] ∷ more) h e = absurd (false≢true h.each.0)
 line-none ((byte ∷ bytes) ∷ more) h e = absurd (omega arith)
 
--- fields by their first and the others
-pub line-word : (all rest : List (List ℕ)) (word : List ℕ) → 0 < length word → word ≡ field_at all 0 → rest ≡ drop 1 all → line_of_fields (word ∷ rest) ≡ line_of_fields all
-line-word [] rest word some e f = absurd (let none = ap length e in omega arith)
-line-word (first ∷ more) rest word some e f = ap line_of_fields (ap (λ w. w ∷ rest) e ∙ ap (λ r. first ∷ r) f)
-
 -- one number alone, none, and more than one field
 pub moment-alone : (all : List (List ℕ)) (moment : ℕ) → HaveBytes all → number_in 0 most_moment (field_at all 0) ≡ Some moment → length (field_at all 1) ≡ 0 → only_moment all ≡ Some moment
 moment-alone [] m h e none = absurd (cc e)
 moment-alone (moment ∷ []) m h e none = e
 moment-alone (moment ∷ [] ∷ more) m h e none = absurd (false≢true h.each.1.0)
 moment-alone (moment ∷ (byte ∷ bytes) ∷ more) m h e none = absurd (omega arith)
-
-pub moment-none : (all : List (List ℕ)) → number_in 0 most_moment (field_at all 0) ≡ None → only_moment all ≡ None
-moment-none [] e = refl
-moment-none (moment ∷ []) e = e
-moment-none (moment ∷ next ∷ more) e = refl
 
 pub moment-more : (all : List (List ℕ)) → 0 < length (field_at all 1) → only_moment all ≡ None
 moment-more [] some = refl

@@ -98,10 +98,6 @@ number-too_large least most text number (byte ∷ after) some digit more h =
     too_large least most (field_at (fields text) 0) (omega (arith, more_digits (number * 10 + (byte - 48)) (field_of after)))
 
 -- what is left holds no more of the field: it is at its end, or at a blank
-pub field_of-none : (rest : List ℕ) → length rest ≡ 0 → field_of rest ≡ []
-field_of-none [] none = refl
-field_of-none (byte ∷ rest) none = absurd (omega arith)
-
 pub field_of-blank : (byte : ℕ) (rest : List ℕ) → is_blank byte ≡ true → field_of (byte ∷ rest) ≡ []
 field_of-blank byte rest blank = rw blank refl
 

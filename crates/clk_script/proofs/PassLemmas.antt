@@ -1,17 +1,13 @@
 -- Lines that are passed on one after another.
-use Rattle.std.proofs.Common.{◌≡◌, ℕ, ◌+◌, ◌-◌, ◌<◌, List, [], ◌++◌, length, take, drop, get_or, Option, Result, Ok, Err, refl, sym, ap, subst, ◌∙◌, append_assoc, append-nil, arith}
+use Rattle.std.proofs.Common.{◌≡◌, ℕ, ◌+◌, ◌-◌, ◌<◌, List, [], ◌++◌, length, take, drop, get_or, Option, Result, Ok, Err, sym, ap, subst, ◌∙◌, append_assoc, append-nil, arith}
 use Rattle.std.specs.List.{flat_map}
 use Rattle.std.specs.Io.KnownBytes.{Appends}
 use Rattle.std.proofs.Math.Seq.{drop-length}
 use Rattle.std.proofs.lemmas.List.{drop_more, take_all, length-drop}
 use Rattle.clk_packet.specs.declared.fault.Fault.{Fault}
 use Rattle.clk_packet.specs.Bytes.{Wrote, AppendsFront}
-use Rattle.clk_packet.proofs.Callers.Bytes.{Appends-append, Appends-none, Wrote-cut}
+use Rattle.clk_packet.proofs.Callers.Bytes.{Appends-append, Wrote-cut}
 use Rattle.clk_script.specs.inside.Lines.{Passes}
-
--- Nothing was passed on.
-pub Passes-none : (old : Option (List ℕ)) (f : ℕ) (held : List ℕ) → Passes old old f f (Ok tt) held [] held
-Passes-none old f held = record { passed = ([], append-nil held, Appends-none old); front = tt; fault = tt; succeeds = refl; fails = tt }
 
 -- What was held and a text were written, and nothing is held.
 pub Passes-wrote : (old new : Option (List ℕ)) (f g : ℕ) (r : Result (Unit {0}) Fault) (held text holds : List ℕ) → Wrote old new f g r (held ++ text) → holds ≡ [] → Passes old new f g r held text holds
@@ -73,9 +69,6 @@ pub record HasPassed (old new : Option (List ℕ)) (before after : ℕ) (held te
   pub split : text ≡ part ++ rest
   pub passes : Passes old new before after (Ok tt) held part holds
 
-pub HasPassed-none : (old : Option (List ℕ)) (f : ℕ) (held text : List ℕ) → HasPassed old old f f held text text held
-HasPassed-none old f held text = record { part = []; split = refl; passes = Passes-none old f held }
-
 pub HasPassed-more : (a b c : Option (List ℕ)) (f g h : ℕ) (x : Unit {0}) (held text rest mid piece after holds : List ℕ) → HasPassed a b f g held text rest mid → Passes b c g h (Ok x) mid piece holds → rest ≡ piece ++ after
     → HasPassed a c f h held text after holds
 HasPassed-more a b c f g h tt held text rest mid piece after holds has more is =
@@ -86,10 +79,6 @@ pub HasPassed-cut : (a b c : Option (List ℕ)) (f g h : ℕ) (fault : Fault) (h
 HasPassed-cut a b c f g h fault held text rest mid piece after holds has more is =
     subst (λ (l : List ℕ). Passes a c f h (Err fault) held l holds) (append_assoc has.part piece after ∙ ap (λ l. has.part ++ l) (sym is) ∙ sym has.split)
     (Passes-cut a c f h fault held (has.part ++ piece) after holds (Passes-then a b c f g h tt (Err fault) held has.part mid piece holds has.passes more))
-
-pub HasPassed-all : (a b : Option (List ℕ)) (f g : ℕ) (held text rest holds : List ℕ) → HasPassed a b f g held text rest holds → rest ≡ [] → Passes a b f g (Ok tt) held text holds
-HasPassed-all a b f g held text rest holds has none =
-    subst (λ (l : List ℕ). Passes a b f g (Ok tt) held l holds) (sym (has.split ∙ ap (λ l. has.part ++ l) none ∙ append-nil has.part)) has.passes
 
 -- What was held and a text were passed on, and what is held since was written.
 pub Wrote-passed : (a b c : Option (List ℕ)) (f g h : ℕ) (x : Unit {0}) (r : Result (Unit {0}) Fault) (held text mid : List ℕ) → Passes a b f g (Ok x) held text mid → Wrote b c g h r mid → Wrote a c f h r (held ++ text)
@@ -109,10 +98,6 @@ Wrote-passed a b c f g h x (Err fault) held text mid first w =
       succeeds = tt;
       fails = w.fails ∙ ap (λ n. n + 1) first.succeeds;
     }
-
--- What was held and a text were cut short as they were passed on.
-pub Wrote-short : (a b : Option (List ℕ)) (f g : ℕ) (fault : Fault) (held text holds : List ℕ) → Passes a b f g (Err fault) held text holds → Wrote a b f g (Err fault) (held ++ text)
-Wrote-short a b f g fault held text holds p = record { whole = tt; front = p.front; fault = p.fault; succeeds = tt; fails = p.fails }
 
 -- a text that was cut short as it was passed on
 pub Wrote-front : (a b : Option (List ℕ)) (f g : ℕ) (fault : Fault) (text rest holds : List ℕ) → Passes a b f g (Err fault) [] text holds → Wrote a b f g (Err fault) (text ++ rest)

@@ -165,11 +165,6 @@ not-read-why names known fault (inr (inr (bytes, is, e))) =
     let kind : IsOfScript fault = rw e at (of_script names bytes) in
     by_kind names known fault kind (named names known bytes fault is e)
 
--- A call that passes a fault on has failed to read as often.
-pub same-failures : (T U : Type 0) (fault : Fault) (n : ℕ) → read_failures {T = T} (Err fault) n ≡ read_failures {T = U} (Err fault) n
-same-failures T U Read n = refl
-same-failures T U fault n = refl
-
 -- the devices of a router are as many as its trees
 pub few-devices : (setup : Setup) (router : ScriptRouter) (n : ℕ) → Starts setup router → n ≡ length router.router.setup.trees → n ≤ 65535
 few-devices setup router n starts e = let count = ap (λ (s : Setup). length s.trees) starts.leads.setup_is in let few = starts.few in omega (arith, count, few, e)

@@ -12,7 +12,7 @@ use Rattle.clk_script.specs.declared.script.Command.TheVariants.{Send, Pull}
 use Rattle.clk_script.specs.declared.script.ScriptLine.{ScriptLine}
 use Rattle.clk_script.specs.declared.script.ScriptLine.TheVariants as line
 use Rattle.clk_packet.specs.Numbers.{has_bytes, number_in}
-use Rattle.clk_script.specs.Script.{Names, most_script_bytes, send_of, pull_of, drain_of, sender_and_length, moment_and_device, only_moment, line_of_fields, line_of, fields, line_fault, fault_at, is_drain, first_fault, lines_of, script_fault, command_in, commands_of, drain_in, most_lines, most_moment, most_device}
+use Rattle.clk_script.specs.Script.{Names, most_script_bytes, send_of, pull_of, drain_of, sender_and_length, moment_and_device, only_moment, line_of_fields, line_of, fields, line_fault, fault_at, is_drain, first_fault, lines_of, script_fault, command_in, commands_of, most_lines, most_moment, most_device}
 use Rattle.clk_script.specs.inside.ScriptRouter.{IsReadableLine, IsSound}
 
 -- a test that answers with its number
@@ -88,13 +88,6 @@ readable-first script l more e = by_texts (lines script) e
     by_texts (text ∷ texts) f =
         let first : line_of text ≡ l = cc in
         subst IsReadableLine first (reads_fields (fields text))
-
--- the moment of a drain that was read
-pub readable-drain : (l : ScriptLine) (moment : ℕ) → IsReadableLine l → drain_in l ≡ Some moment → moment ≤ most_moment
-readable-drain line.Blank moment h e = absurd (cc e)
-readable-drain line.Malformed moment h e = absurd (cc e)
-readable-drain (line.Command command) moment h e = absurd (cc e)
-readable-drain (line.Drain m) moment h e = let same : m ≡ moment = cc in subst (λ n. n ≤ most_moment) same h
 
 -- a line with no fault can be carried out
 line_sound : (names : Names) (drained : Bool) (number : ℕ) (l : ScriptLine) → IsReadableLine l → line_fault names drained number l ≡ None → IfSome (command_in l) (IsSound names)

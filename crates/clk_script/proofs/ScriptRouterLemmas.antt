@@ -32,10 +32,6 @@ alike-its setup events r rising at =
     let numbers = ap sender_numbers at.setup_is in
     record { numbers = ap (map account_sender) at.accounts ∙ accounts-senders events setup.senders ∙ sym numbers; rising = subst AreRising (sym numbers) rising }
 
--- They stay so where the router goes on.
-pub alike-still : (old new : ScriptRouter) (more : List Event) (numbers : List ℕ) → AreAlike old → new.router ≡ after old.router more → numbers ≡ sender_numbers new.router.setup → map account_sender old.accounts.items ≡ numbers
-alike-still old new more numbers alike goes_on are = alike.numbers ∙ ap (λ (c : Course). sender_numbers c.setup) (sym goes_on) ∙ sym are
-
 -- A packet more was offered.
 pub IsAt-offered : (setup : Setup) (events : List Event) (old new : ScriptRouter) (p : Packet) (outcome : Offered) → IsAt setup events old → new.router ≡ after old.router (offered p outcome ∷ [])
     → CanHappen new.router.setup new.router.events → ((before : List Event) (specs : List SenderSpec) → old.accounts.items ≡ map (account_after before) specs → new.accounts.items ≡ map (account_after (before ++ offered p outcome ∷ [])) specs) → new.evicted.items ≡ evicted_kept outcome old.evicted.items → IsAt setup (events ++ offered p outcome ∷ []) new

@@ -19,10 +19,6 @@ consumed-more (Some all) None new text piece h k = absurd h
 consumed-more (Some all) (Some rest) None text piece h k = absurd k
 consumed-more (Some all) (Some rest) (Some last) text piece h k = h ∙ ap (λ l. text ++ l) k ∙ sym (append_assoc text piece last)
 
-pub consumed-none : (known : Option (List ℕ)) → Consumes known known []
-consumed-none None = tt
-consumed-none (Some all) = refl
-
 pub consumed-takes : (old new : Option (List ℕ)) (text : List ℕ) (most : ℕ) → Consumes old new text → length text ≤ most → Takes most old new
 consumed-takes None new text most h l = tt
 consumed-takes (Some all) None text most h l = absurd h

@@ -1,5 +1,5 @@
 -- A record that is written line by line goes on fitting.
-use Rattle.std.proofs.Common.{ℕ, ◌<◌, ◌≤◌, List, [], ◌∷◌, ◌++◌, length, Some, None, sym, subst, length-append, arith}
+use Rattle.std.proofs.Common.{◌<◌, ◌≤◌, List, [], ◌∷◌, ◌++◌, length, None, sym, subst, length-append, arith}
 use Rattle.std.specs.List.{filter_map, AllByRecursion}
 use Rattle.std.proofs.lemmas.List.Elements.{filter_map-append}
 use Rattle.clk_packet.proofs.Callers.Lists.{all-append}
@@ -16,14 +16,8 @@ limits-more events event fits one few = record {
   few = let all = length-append events (event ∷ []) in omega (arith, few, all);
 }
 
-pub limits-drain : (events : List Event) (moment : ℕ) → FitsLimits events None → moment ≤ most_moment → length events < most_lines → FitsLimits events (Some moment)
-limits-drain events moment fits last few = record { moments = fits.moments; last = last; few = omega (arith, few) }
-
 pub script-more : (setup : Setup) (events : List Event) (event : Event) → FitsScript setup events None → FitsScript setup (event ∷ []) None → length events < most_lines → FitsScript setup (events ++ event ∷ []) None
 script-more setup events event fits one few = record {
   names = all-append (FitsNames setup) events (event ∷ []) fits.names one.names;
   limits = limits-more events event fits.limits one.limits few;
 }
-
-pub script-drain : (setup : Setup) (events : List Event) (moment : ℕ) → FitsScript setup events None → moment ≤ most_moment → length events < most_lines → FitsScript setup events (Some moment)
-script-drain setup events moment fits last few = record { names = fits.names; limits = limits-drain events moment fits.limits last few }

@@ -54,11 +54,6 @@ records-cut start old new f g fault commands command writer holds its p =
     subst (AppendsFront start new) (sym (command-more commands command)) (cut-short start old commands writer its new (command_text command) p.front)
 
 -- The line of a drain was written after what is held, or both were cut short.
-pub drain-whole : (start old new : Option (List ℕ)) (commands : List Command) (moment : ℕ) (writer : ScriptWriter) → Records start old commands writer → Appends old new (writer.held ++ drain_text (Some moment))
-    → Appends start new (record_text commands (Some moment))
-drain-whole start old new commands moment writer its w =
-    subst (Appends start new) (sym (drain-more commands moment ∙ joined start old commands writer its (drain_text (Some moment)))) (Appends-append start old new its.written (writer.held ++ drain_text (Some moment)) its.appends w)
-
 pub drain-front : (start old new : Option (List ℕ)) (f g : ℕ) (r : Result (Unit {0}) Fault) (commands : List Command) (moment : ℕ) (writer : ScriptWriter) → Wrote old new f g r (writer.held ++ drain_text (Some moment))
     → Records start old commands writer → IsErrOf r Write → AppendsFront start new (record_text commands (Some moment))
 drain-front start old new f g (Ok x) commands moment writer w its is = absurd (cc is)

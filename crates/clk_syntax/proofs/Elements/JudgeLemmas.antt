@@ -1,5 +1,5 @@
 -- Arguments that fit their classes or not, declaration by declaration.
-use Rattle.std.proofs.Common.{◌≡◌, ℕ, ◌<◌, ◌==◌, ◌&&◌, ◌||◌, not, nat_le, Bool, true, false, List, [], ◌∷◌, ◌++◌, map, length, Option, Some, None, suc, refl, sym, ap, ap₂, ◌∙◌, append_assoc, append-nil, length-append, arith}
+use Rattle.std.proofs.Common.{◌≡◌, ℕ, ◌<◌, ◌==◌, ◌&&◌, ◌||◌, not, nat_le, Bool, true, false, List, [], ◌∷◌, ◌++◌, map, length, Option, Some, None, suc, refl, sym, ap, ap₂, ◌∙◌, append_assoc, length-append, arith}
 use Rattle.std.specs.Option.{option_or, option_map}
 use Rattle.std.specs.List.{list_any, cons_option}
 use Rattle.std.proofs.lemmas.Bool.Decides.{nat_tests}
@@ -118,18 +118,6 @@ may_stand-same : (f g : ℕ → Bool) (class : Class) (l : ℕ) → ((n : ℕ) �
 may_stand-same f g (sender n) l same = ap (λ b. nat_le l 1 && not b) (same n)
 may_stand-same f g class l same = refl
 
--- before the first declaration
-pub Judges-none : (text : List ℕ) (all : List Declared) (judged : Judged) → judged.classes.items ≡ [] → judged.nodes.items ≡ [] → ((n : ℕ) → has_number judged.senders n ≡ false) → Judges text all all judged
-Judges-none text all judged classes nodes senders =
-    record {
-      earlier = [];
-      bad = refl;
-      taken = senders;
-      classes = ap (λ cs. map is_class cs ++ map (class_in text) all) (sym classes);
-      nodes = ap (λ ns. ns ++ nodes_of (elements text all)) (sym nodes);
-      count = omega (arith, ap length nodes);
-    }
-
 -- a declaration whose class isn't there, or doesn't take its arguments
 pub Judges-missing : (text : List ℕ) (all left : List Declared) (d : Declared) (judged : Judged) → class_in text d ≡ None → 0 < length d.names → Judges text all (d ∷ left) judged
     → bad_argument (elements text all) ≡ Some d.class.place
@@ -170,9 +158,3 @@ Judges-more text all left d old new class e some may added classes nodes h =
     p : Passed text d.class d.arguments d.names (class_view class) h.earlier (elements text left)
     p = passed text d.class d.arguments d.names (class_view class) h.earlier (elements text left) e some
         (may_stand-same (λ n. among n h.earlier) (has_number old.senders) (class_view class) (length d.names) (λ n. sym (h.taken n)) ∙ may)
-
--- after the last declaration
-pub Judges-all : (text : List ℕ) (all : List Declared) (judged : Judged) → Judges text all [] judged
-    → (bad_argument (elements text all) ≡ None) × (map (class_in text) all ≡ map is_class judged.classes.items) × (judged.nodes.items ≡ nodes_of (elements text all)) × (length judged.nodes.items ≡ length (elements text all))
-Judges-all text all judged h =
-    (h.bad, h.classes ∙ append-nil (map is_class judged.classes.items), sym (h.nodes ∙ append-nil judged.nodes.items), let count = h.count in omega arith)

@@ -1,9 +1,9 @@
 -- Bits for numbers, with one more.
-use Rattle.std.proofs.Common.{◌≡◌, ◌≢◌, ℕ, ◌<◌, ◌*◌, ◌/◌, ◌%◌, ◌^◌, ◌==◌, ◌&&◌, ◌||◌, ◌⊎◌, false, List, length, get_or, set, replicate, ◌≤◌, inl, inr, w64, refl, sym, ap, ◌∙◌, subst, arith, eq-eqb, ne_eqb}
+use Rattle.std.proofs.Common.{◌≡◌, ◌≢◌, ℕ, ◌<◌, ◌*◌, ◌%◌, ◌^◌, ◌==◌, ◌&&◌, ◌||◌, ◌⊎◌, false, List, length, get_or, set, replicate, ◌≤◌, inl, inr, w64, refl, sym, ap, ◌∙◌, subst, arith, eq-eqb, ne_eqb}
 use Rattle.std.specs.Int.RustNames.{bit_or}
 use Rattle.std.proofs.lemmas.List.{get_or-set_same, get_or-set_other, get_or-replicate, length-replicate}
 use Rattle.std.proofs.lemmas.Nat.Bits.{bit_at-zero, bit_at_set_same, bit_at_set_other}
-use Rattle.std.proofs.lemmas.Bool.{cases_eq, cases_lt, and_right}
+use Rattle.std.proofs.lemmas.Bool.{cases_eq, cases_lt}
 use Rattle.std.proofs.Math.ListN.{get_or-eq_default}
 use Rattle.std.specs.Int.{bit_at}
 use Rattle.clk_syntax.specs.inside.Numbers.{is_marked}
@@ -36,20 +36,6 @@ module _ (marks : List ℕ) (place bit : ℕ) (within : place < length marks) (l
     ]
     | inr g ↦ other_place i j g
   ]
-
--- two numbers are the same where place and bit are
-pub same-mark : (number n : ℕ) → ((number / 64 == n / 64) && (number % 64 == n % 64)) ≡ (number == n)
-same-mark number n = elim (cases_eq number n) [
-  | inl e ↦ subst (λ m. ((number / 64 == m / 64) && (number % 64 == m % 64)) ≡ (number == m)) e
-      (rw (eq-eqb (number / 64) (number / 64) refl, eq-eqb (number % 64) (number % 64) refl, eq-eqb number number refl) refl)
-  | inr other ↦ by_place other (cases_eq (number / 64) (n / 64))
-]
-  where
-    by_place : number ≢ n → (number / 64 ≡ n / 64) ⊎ (number / 64 ≢ n / 64) → ((number / 64 == n / 64) && (number % 64 == n % 64)) ≡ (number == n)
-    by_place other (inl e) =
-        let bits : number % 64 ≢ n % 64 = λ same. other (omega arith) in
-        and_right (number / 64 == n / 64) (number % 64 == n % 64) (ne_eqb (number % 64) (n % 64) bits) ∙ sym (ne_eqb number n other)
-    by_place other (inr apart) = rw (ne_eqb (number / 64) (n / 64) apart, ne_eqb number n other) refl
 
 -- no bit of zeros is set
 pub unmarked : (marks : List ℕ) (count i j : ℕ) → marks ≡ replicate count 0 → is_marked marks i j ≡ false

@@ -10,10 +10,6 @@ use Rattle.clk_syntax.specs.Declarations.{first_after, fails_at, is_declared, na
 use Rattle.clk_syntax.specs.Faults.{place_of}
 use Rattle.clk_syntax.specs.inside.Naming.{place_in, latest_place, turned, Declares, IsTable}
 
--- before the first name
-pub Declares-none : (all : List Element) (names : Names) → ((name : List ℕ) → place_in names name ≡ None) → names.count ≡ 0 → Declares all all names
-Declares-none all names none count = record { earlier = []; order = refl; count = count; places = none; twice = refl }
-
 latest-some : (earlier : List Element) (name : List ℕ) → is_some (latest_place earlier name) ≡ is_declared name earlier
 latest-some [] name = refl
 latest-some (e ∷ earlier) name = by_test (bytes_eq e.name.letters name) (latest-some earlier name)

@@ -9,17 +9,11 @@ use Rattle.clk_syntax.specs.Diagram.{start, wrong_from}
 use Rattle.clk_syntax.specs.Grammar.{nothing, bare}
 use Rattle.clk_syntax.specs.Faults.{offset_of, bad_text, text_fault}
 use Rattle.clk_syntax.specs.Reading.{HasFault}
-use Rattle.clk_syntax.specs.Examples.{spaces, question_marks}
+use Rattle.clk_syntax.specs.Examples.{spaces}
 use Rattle.clk_syntax.proofs.Meaning.FaultLemmas.{not-less}
 
 less : (m n : ℕ) → m < n → nat_lt m n ≡ true
 less m n l = grind (arith, nat_tests)
-
--- of a text that is too long that is told
-pub too-long : (byte n : ℕ) → most_tree_bytes < n → text_fault (replicate n byte) ≡ Some TooLarge
-too-long byte n l =
-    ap (λ b. if b then Some TooLarge else option_map BadText (bad_text (replicate n byte)))
-    (ap (nat_lt most_tree_bytes) (length-replicate n byte) ∙ less most_tree_bytes n l)
 
 -- of any other it is told where a token is wrong
 short : (byte n : ℕ) → n ≤ most_tree_bytes → text_fault (replicate n byte) ≡ option_map BadText (bad_text (replicate n byte))
@@ -42,8 +36,3 @@ spaces-told n l = inr (record {
   is_text = record { earlier = []; last = nothing; are = refl; sound = (tt, tt); written_so = ap (λ ts. map bare ts) (none-shown n 0) };
   is = refl;
 })
-
--- the first question mark is wrong
-pub question-marks-told : (n : ℕ) → 1 ≤ n → n ≤ most_tree_bytes → text_fault (question_marks n) ≡ Some (BadText 0)
-question-marks-told zero some l = absurd (omega (arith, some))
-question-marks-told (suc n) some l = short 63 (suc n) l

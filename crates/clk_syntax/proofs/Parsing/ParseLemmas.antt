@@ -1,5 +1,5 @@
 -- How what the parser reads goes together.
-use Rattle.std.proofs.Common.{true, false, length, arith, ◌≡◌, List, [], ◌∷◌, ◌++◌, map, Option, Some, None, refl, sym, ap, subst, ◌∙◌, append_assoc}
+use Rattle.std.proofs.Common.{true, false, length, arith, ◌≡◌, List, [], ◌∷◌, ◌++◌, map, Option, Some, None, refl, sym, ap, ◌∙◌, append_assoc}
 use Rattle.std.proofs.lemmas.List.{append-nil, map-append}
 use Rattle.std.specs.List.{flat_map, AllByRecursion}
 use Rattle.std.proofs.lemmas.List.Concat.{flat_map-append}
@@ -115,11 +115,6 @@ ended-none {ts} {us} {old} past =
     same : (t : Token) → ts ≡ t ∷ us → t.symbol ≡ Semicolon → wrong_from start ts ≡ wrong_from closed ts
     same t are e =
         ap (wrong_from start) are ∙ stands-one start t us (ap (after start) e) ∙ sym (stands-one closed t us (ap (after closed) e)) ∙ ap (wrong_from closed) (sym are)
-
--- and the end of one that begins with a name
-pub ended-named : {ts us mid rest : List Token} {old new : Statements} (first : Token) → ts ≡ first ∷ us → StatementRead (first ∷ us) old new mid → EndRead mid rest → EndedRead ts old new rest
-ended-named {ts} {us} {mid} {rest} {old} {new} first are read last =
-    record { middle = mid; read = subst (λ (l : List Token). StatementRead l old new mid) (sym are) read; last = last }
 
 -- what follows the first name of a chain, and of a declaration
 first-hop : (ts : List Token) → goes_on ts ≡ true → wrong_from first_name ts ≡ wrong_from next_name ts

@@ -216,7 +216,7 @@ impl Class {
             Class::Queue(_, _) => Role::Queue,
             Class::Scheduler(scheduler) => match scheduler.inputs() {
                 None => Role::Scheduler,
-                Some(inputs) => Role::SchedulerOf(inputs),
+                Some(inputs) => Role::SchedulerOf(inputs as u32),
             },
             Class::ToDevice(_) => Role::Device,
         }

@@ -1,6 +1,6 @@
 -- Elements of a plan, one after another.
-use Rattle.std.proofs.Common.{◌≡◌, ◌≤◌, ◌<◌, ◌+◌, ℕ, suc, List, [], ◌∷◌, ◌++◌, length, map, drop, get_or, Some, None, option_map, ◌^◌, refl, sym, ap, ap₂, subst, ◌∙◌, append_assoc, append-nil, length-append, add-one, drop-cons, arith}
-use Rattle.std.proofs.lemmas.List.{drop_all, map-append, length-map, length-drop}
+use Rattle.std.proofs.Common.{◌≡◌, ◌≤◌, ◌<◌, ◌+◌, ℕ, suc, List, [], ◌∷◌, ◌++◌, length, map, drop, get_or, Some, None, option_map, ◌^◌, refl, sym, ap, ap₂, subst, ◌∙◌, append_assoc, length-append, add-one, drop-cons, arith}
+use Rattle.std.proofs.lemmas.List.{map-append, length-map, length-drop}
 use Rattle.std.specs.List.{AllByRecursion, filter_map, cons_option}
 use Rattle.clk_syntax.specs.declared.naming.class.Class as declared
 use Rattle.clk_syntax.specs.declared.texts.statements.Declaration.{Declaration}
@@ -54,12 +54,6 @@ added-more graph text class all k d before now new e h l is made =
 pub record AreAll (graph : Graph) (text : List ℕ) (class : Class) (all : List Token) (before now : List plan.Element) : Type 0 where
   pub is : map planned now ≡ map planned before ++ planned_in graph (length before) (names_as text class all)
   pub count : length now ≡ length before + length all
-
-pub all-added : (graph : Graph) (text : List ℕ) (class : Class) (all : List Token) (k : ℕ) (before now : List plan.Element) → AreAdded graph text class all (drop k all) before now → length all ≤ k
-    → AreAll graph text class all before now
-all-added graph text class all k before now h l =
-    let last : AreAdded graph text class all [] before now = subst (λ ts. AreAdded graph text class all ts before now) (drop_all k all l) h in
-    record { is = sym (append-nil (map planned now)) ∙ last.is; count = let c = last.count in omega (arith, c) }
 
 -- elements that are declared together are known by one class
 known-together : (text : List ℕ) (d : Declared) (class : Class) (names : List Token) (more : List Element) → class_in text d ≡ Some class

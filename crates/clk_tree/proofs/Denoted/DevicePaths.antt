@@ -21,15 +21,6 @@ fed-is (x ∷ plan) s (suc i) e at among alone =
     by_test true is later = let other : 0 ≡ suc i = alone 0 x refl is in absurd (omega arith)
     by_test false is later = ap (λ n. n + 1) later ∙ add-one i
 
-pub fed-among : (plan : List Planned) (s : ℕ) (y : Planned) → slice_get plan (place_fed plan s) ≡ Some y → stands_in s y.sources ≡ true
-fed-among [] s y at = absurd (cc)
-fed-among (x ∷ plan) s y at = by_test (stands_in s x.sources) refl at (fed-among plan s y)
-  where
-    by_test : (b : Bool) → stands_in s x.sources ≡ b → slice_get (x ∷ plan) (if b then 0 else place_fed plan s + 1) ≡ Some y
-        → (slice_get plan (place_fed plan s) ≡ Some y → stands_in s y.sources ≡ true) → stands_in s y.sources ≡ true
-    by_test true is at later = ap (λ (p : Planned). stands_in s p.sources) (sym (same_Some x y at)) ∙ is
-    by_test false is at later = later (subst (λ n. slice_get (x ∷ plan) n ≡ Some y) (add-one (place_fed plan s)) at)
-
 -- a device stands there
 abbrev pub is_device_at : Option Planned → Bool
 is_device_at None = false

@@ -113,7 +113,3 @@ one-place (x ∷ plan) zero zero n e f distinct at is there also = refl
 one-place (x ∷ plan) zero (suc j) n e f distinct at is there also = absurd (first-differs x e f plan j n distinct (same_Some x e at) is there also)
 one-place (x ∷ plan) (suc i) zero n e f distinct at is there also = absurd (first-differs x f e plan i n distinct (same_Some x f there) also at is)
 one-place (x ∷ plan) (suc i) (suc j) n e f distinct at is there also = ap suc (one-place plan i j n e f (rest-distinct x.class (sender_numbers plan) distinct) at is there also)
-
-pub sender-alone : (elements : List Element) (wires : List Wire) → fault_of elements wires ≡ None → (i j n : ℕ) (e f : Planned) → slice_get (plan_of elements wires) i ≡ Some e → e.class ≡ sender n
-    → slice_get (plan_of elements wires) j ≡ Some f → f.class ≡ sender n → i ≡ j
-sender-alone elements wires none i j n e f at is there also = one-place (plan_of elements wires) i j n e f (senders-distinct elements wires none) at is there also

@@ -1,15 +1,8 @@
-use Rattle.std.proofs.Common.{option_map, refl, sym, ◌∙◌}
+use Rattle.std.proofs.Common.{option_map, sym, ◌∙◌}
 use Rattle.std.proofs.lemmas.Result.{on_ok_weaker}
 use Rattle.clk_command.specs.Words.{text_of, visits_follow}
-use Rattle.clk_command.proofs.TaskLemmas.{out-alone, out-followed, writes-over}
+use Rattle.clk_command.proofs.TaskLemmas.{out-alone, writes-over}
 use Rattle.clk_command.proofs.commands.script_job.Goals as goal
-
-pub returns-in_default-clause-written : goal.returns-in_default-clause-written
-returns-in_default-clause-written g c = out-alone c.script_over.result (visits_follow (option_map text_of c.args.visits)) _ _ _ (rw c.in_default.is refl) c.script_over.ensures.wrote.whole
-
-pub returns-then-is_standard-clause-written : goal.returns-then-is_standard-clause-written
-returns-then-is_standard-clause-written g c =
-    out-followed c.script_then_visits.result (visits_follow (option_map text_of c.args.visits)) _ _ _ (rw c.in-Some.is (sym c.is_standard.ensures.tested ∙ c.if-is_standard.true)) c.script_then_visits.ensures.wrote.whole
 
 pub returns-clause-written : goal.returns-clause-written
 returns-clause-written g c =

@@ -1,24 +1,12 @@
-use Rattle.std.proofs.Common.{refl, ℕ, List, Ok, ◌++◌, ◌∙◌, codes, decimal, subst, take, drop, get_or, length, ◌+◌, ◌<◌, arith}
+use Rattle.std.proofs.Common.{ℕ, List, Ok, ◌++◌, codes, decimal, take, drop, get_or, length, ◌+◌, ◌<◌, arith}
 use Rattle.std.specs.List.{flat_map}
-use Rattle.std.specs.Io.KnownBytes.{Appends}
-use Rattle.std.proofs.lemmas.List.{take_all}
 use Rattle.std.proofs.lemmas.Result.{err_from_is_err_and}
 use Rattle.clk_packet.specs.Bytes.{Wrote}
-use Rattle.clk_packet.proofs.Callers.Bytes.{Wrote-then, Wrote-cut, Appends-none, Appends-piece, flat_map_at}
+use Rattle.clk_packet.proofs.Callers.Bytes.{Wrote-then, Wrote-cut, flat_map_at}
 use Rattle.clk_command.proofs.faults.write_fields.Goals as goal
 
 abbrev text_of : ℕ → List ℕ
 text_of n = codes " " ++ decimal n
-
-pub loop-field-init : goal.loop-field-init
-loop-field-init g c = record { front = Appends-none _; failures = refl }
-
-pub loop-field-preserved : goal.loop-field-preserved
-loop-field-preserved g c =
-    record {
-      front = Appends-piece text_of c.args.fields.now c.loop-field.field-index 0 _ _ _ (omega arith) c.loop-field.invariant.front c.in_ok-write_field.ensures.whole;
-      failures = c.in_ok-write_field.ensures.succeeds ∙ c.loop-field.invariant.failures;
-    }
 
 pub returns-in_err-write_field : goal.returns-in_err-write_field
 returns-in_err-write_field g c =
@@ -31,15 +19,3 @@ returns-in_err-write_field g c =
     in
     rw (p.1, p.2, flat_map_at text_of fields i 0 here)
     (Wrote-then _ _ _ _ _ _ _ _ _ _ so_far (Wrote-cut _ _ _ _ _ (text_of (get_or fields i 0)) (flat_map text_of (drop (i + 1) fields)) c.in_err-write_field.ensures))
-
-pub returns : goal.returns
-returns g c =
-    record {
-      whole =
-          subst (λ (fields : List ℕ). Appends (g.W.Sink.taken c.args.writer.now) (g.W.Sink.taken c.loop-field.writer) (flat_map text_of fields))
-          (take_all c.loop-field.field-index c.args.fields.now (omega arith)) c.loop-field.invariant.front;
-      front = tt;
-      fault = tt;
-      succeeds = c.loop-field.invariant.failures;
-      fails = tt;
-    }

@@ -1,8 +1,6 @@
 use Rattle.std.proofs.Common.{◌≡◌, ◌+◌, ◌<◌, ◌++◌, List, length, take, drop, set, Some, refl, sym, ap, ◌∙◌, subst, arith}
-use Rattle.std.proofs.lemmas.List.Elements.{All-from_recursion}
 use Rattle.std.proofs.lemmas.List.{length-set, take-set-le, take_more, take_all}
 use Rattle.clk_inlet.specs.declared.item.Item.{Item}
-use Rattle.clk_inlet.specs.Items.{IsShort}
 use Rattle.clk_router.specs.Course.{sender_at}
 use Rattle.clk_router.specs.Events.{Setup}
 use Rattle.clk_live.specs.declared.taking.Taken.{Taken}
@@ -33,9 +31,6 @@ offer_next-requires-clause-can c =
     let can = c.requires.can in
     let l = c.loop-done in
     (set can.0 c.args.place (can.1 ++ take l.done c.args.run.now), can.1 ++ take l.done c.args.run.now, can-next c.args.run.now l.done c.loop-done-test.true l.invariant.1 can.0 can.1 can.2)
-
-pub offer_next-requires-clause-short : goal.offer_next-requires-clause-short
-offer_next-requires-clause-short c = All-from_recursion IsShort c.args.run.now c.requires.short c.loop-done.done _ c.loop-done-test.true
 
 pub loop-done-preserved : goal.loop-done-preserved
 loop-done-preserved c =

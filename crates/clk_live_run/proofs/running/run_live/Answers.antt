@@ -14,7 +14,7 @@ use Rattle.clk_live_run.specs.inside.Recording.{SinkAt, IsRecordOf}
 use Rattle.clk_live_run.proofs.Takings.{same-many}
 use Rattle.clk_live_run.proofs.Runs.{paced-none, still-halves, all-through, taken-is, sent-few, can-close, fits-script, ran, recorded, sends}
 use Rattle.clk_live_run.proofs.running.run_live.Goals as goal
-use Rattle.clk_live_run.proofs.running.run_live.Goals.{After-senders-2, In_ok-ended, After-close, then-recording+in_ok-check_length, else-recording}
+use Rattle.clk_live_run.proofs.running.run_live.Goals.{In_ok-ended, After-close, then-recording+in_ok-check_length, else-recording}
 
 pub senders_of-requires : goal.senders_of-requires
 senders_of-requires g c =

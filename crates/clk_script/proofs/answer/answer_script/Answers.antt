@@ -4,8 +4,8 @@ use Rattle.std.specs.Vec.{with_items}
 use Rattle.std.proofs.lemmas.List.{with_items_is}
 use Rattle.clk_script.specs.Script.{most_lines}
 use Rattle.clk_script.specs.inside.ScriptRouter.{names_in}
-use Rattle.clk_script.specs.inside.Rows.{asked_by, Answers, IsToDo, closings_of}
-use Rattle.clk_script.proofs.AnswerLemmas.{IsReady-answered, Answers-all, closings-kept, keeps-packets}
+use Rattle.clk_script.specs.inside.Rows.{asked_by, Answers, IsToDo}
+use Rattle.clk_script.proofs.AnswerLemmas.{IsReady-answered, Answers-all, closings-kept}
 use Rattle.clk_script.proofs.answer.answer_script.Goals as goal
 
 pub close-requires-clause-ready : goal.close-requires-clause-ready
@@ -14,11 +14,6 @@ close-requires-clause-ready c =
     let to_do = subst (AllByRecursion (IsToDo (names_in c.args.script_router))) (sym rows) c.requires.sound.to_do in
     let few = subst (λ l. length l ≤ most_lines) (sym rows) c.requires.sound.few in
     (IsReady-answered c.requires.fresh.0 c.args.script_router c.carry_out.new.script_router c.deref_mut.result.now c.carry_out.new.rows c.requires.fresh.1 to_do few c.in_ok-carry_out.ensures.done).0
-
-pub returns-clause-packets : goal.returns-clause-packets
-returns-clause-packets c =
-    keeps-packets c.requires.fresh.0 c.args.script_router c.carry_out.new.script_router c.deref_mut.result.now c.carry_out.new.rows c.requires.fresh.1 c.in_ok-carry_out.ensures.done c.close.new.script_router c.args.script.closing (closings_of c.in_ok-closing.closing)
-    c.in_ok-closing.ensures.closed
 
 pub returns-clause-answers : goal.returns-clause-answers
 returns-clause-answers c =

@@ -16,12 +16,6 @@ returns-clause-wrote c = record { written = codes "pull 3\n"; split = record-is;
 pub returns-clause-wrote_some : goal.returns-clause-wrote_some
 returns-clause-wrote_some c = record { written = codes "pul"; split = record-is; appends = refl; lines = refl }
 
-pub returns-clause-not_lost : goal.returns-clause-not_lost
-returns-clause-not_lost c r =
-    let same : codes "pull 3\n" ≡ [] = sym record-is ∙ r.split ∙ ap (λ l. l ++ []) (sym r.appends) in
-    let long : 7 ≡ 0 = ap length same in
-    absurd (omega (arith, long))
-
 pub returns-clause-not_twice : goal.returns-clause-not_twice
 returns-clause-not_twice c r =
     let same : codes "pull 3\n" ≡ codes "pull 3\npull 3\n" = sym record-is ∙ r.split ∙ ap (λ l. l ++ codes "pull 3\n") (sym r.appends) in
@@ -33,6 +27,3 @@ returns-clause-not_another c r =
     let same : codes "pull 3\n" ≡ codes "pull 4\n" = sym record-is ∙ r.split ∙ ap (λ l. l ++ codes "pull 4\n") (sym r.appends) in
     let digit : 51 ≡ 52 = ap (λ l. get_or l 5 0) same in
     absurd (omega (arith, digit))
-
-pub returns-clause-not_uncounted : goal.returns-clause-not_uncounted
-returns-clause-not_uncounted c r = let one = r.lines in absurd (omega (arith, one))

@@ -1,20 +1,10 @@
-use Rattle.std.proofs.Common.{◌≡◌, ◌++◌, ◌∙◌, [], take, drop, refl, sym, ap, subst, arith}
+use Rattle.std.proofs.Common.{◌≡◌, ◌++◌, ◌∙◌, take, drop, sym, ap, subst, arith}
 use Rattle.std.proofs.lemmas.Bool.Decides.{nat_tests}
 use Rattle.std.proofs.lemmas.List.{take-append-le}
 use Rattle.clk_script.specs.inside.ScriptRouter.{named_by}
 use Rattle.clk_script.specs.inside.Reading.{HasCome}
-use Rattle.clk_script.proofs.SourceLemmas.{front-is, front-put, piece-fits, consumed-none, consumed-piece, consumed-takes, consumed-ended, not-read-long, ended, ended-failures}
+use Rattle.clk_script.proofs.SourceLemmas.{front-is, front-put, piece-fits, consumed-piece, consumed-takes, consumed-ended, not-read-long, ended, ended-failures}
 use Rattle.clk_script.proofs.reading.read_script.Goals as goal
-
-pub loop-size-init : goal.loop-size-init
-loop-size-init g c =
-    let names = named_by c.args.numbers.now c.args.devices in
-    record {
-      text = ([], consumed-none _, refl, subst (HasCome names [] c.new-reading.result) (sym c.new-held.ensures.items) (c.new-reading.ensures names));
-      failures = refl;
-      most = omega arith;
-      chunk = refl;
-    }
 
 pub returns-then-count-eq0-clause-read : goal.returns-then-count-eq0-clause-read
 returns-then-count-eq0-clause-read g c =

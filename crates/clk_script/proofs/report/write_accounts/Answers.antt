@@ -1,17 +1,12 @@
-use Rattle.std.proofs.Common.{drop, get_or, refl, ◌+◌, ◌∙◌, arith}
+use Rattle.std.proofs.Common.{drop, get_or, ◌+◌, ◌∙◌}
 use Rattle.std.specs.List.{flat_map}
-use Rattle.std.proofs.lemmas.List.{length-drop}
 use Rattle.std.proofs.lemmas.Result.{err_from_is_err_and}
-use Rattle.clk_packet.proofs.Callers.Bytes.{HasWritten-none}
-use Rattle.clk_report.proofs.Callers.Texts.{HasWritten-part, HasWritten-all, Wrote-part}
+use Rattle.clk_report.proofs.Callers.Texts.{HasWritten-part, Wrote-part}
 use Rattle.clk_router.specs.declared.accounts.Total.{Total}
 use Rattle.clk_router.specs.declared.accounts.Account.{Account}
 use Rattle.clk_script.specs.AccountLines.{account_line}
 use Rattle.clk_script.proofs.ReportLemmas.{accounts-more}
 use Rattle.clk_script.proofs.report.write_accounts.Goals as goal
-
-pub loop-account-init : goal.loop-account-init
-loop-account-init g c = record { front = HasWritten-none _ _; failures = refl }
 
 -- what would stand beyond the accounts
 abbrev none : Account
@@ -38,16 +33,4 @@ loop-account-preserved g c =
       front = HasWritten-part _ _ _ _ (flat_map account_line (drop i accounts)) (account_line (get_or accounts i none)) (flat_map account_line (drop (i + 1) accounts)) c.loop-account.invariant.front
           (accounts-more accounts i none c.loop-account-test.true) wrote.whole;
       failures = wrote.succeeds ∙ c.loop-account.invariant.failures;
-    }
-
-pub returns : goal.returns
-returns g c =
-    let i = c.loop-account.account-index in
-    let none = length-drop i c.args.accounts.now in
-    record {
-      whole = HasWritten-all account_line (drop i c.args.accounts.now) _ _ _ (omega (arith, none)) c.loop-account.invariant.front;
-      front = tt;
-      fault = tt;
-      succeeds = c.loop-account.invariant.failures;
-      fails = tt;
     }

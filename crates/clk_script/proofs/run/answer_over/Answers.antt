@@ -5,11 +5,10 @@ use Rattle.clk_router.specs.Events.{Setup}
 use Rattle.clk_script.specs.Script.{script_fault, most_lines}
 use Rattle.clk_script.specs.Meaning.{Explains}
 use Rattle.clk_script.specs.declared.answer.Answer.{Answer}
-use Rattle.clk_script.specs.declared.reading.Script.{Script}
 use Rattle.clk_script.specs.inside.ScriptRouter.{names_in, Starts}
 use Rattle.clk_script.specs.inside.Rows.{asked_by, Answers, CanBeRun}
 use Rattle.clk_script.specs.inside.Replay.{IsAnswerOver}
-use Rattle.clk_script.proofs.RefusalLemmas.{not-read-why, same-failures, names-told, names-opened, answer-over}
+use Rattle.clk_script.proofs.RefusalLemmas.{not-read-why, names-told, names-opened, answer-over}
 use Rattle.clk_script.proofs.SourceLemmas.{source-sound}
 use Rattle.clk_script.proofs.run.answer_over.Goals as goal
 
@@ -31,11 +30,6 @@ returns-in_err-script-clause-fault g c =
     let names = names-told c.args.plan.now _ _ _ _ _ c.senders.ensures.senders c.in_ok-senders.ensures.made c.deref.ensures.value c.from-devices.ensures c.devices.ensures.count in
     let refusal = not-read-why _ (g.R.Source.remaining c.args.reader.now) c.in_err-script.field-0.0 c.in_err-script.ensures.read in
     rw (p.1, p.2) (subst (λ names. Explains names (g.R.Source.remaining c.args.reader.now) c.in_err-script.field-0.0) names refusal.explains)
-
-pub returns-in_err-script-clause-failures : goal.returns-in_err-script-clause-failures
-returns-in_err-script-clause-failures g c =
-    let p = err_from_is_err_and c.from_residual-in_err-script.result c.from_residual-in_err-script.ensures.1 in
-    rw (p.1, p.2) (c.in_err-script.ensures.failures ∙ same-failures Script Answer c.in_err-script.field-0.0 _)
 
 pub returns-clause-answer : goal.returns-clause-answer
 returns-clause-answer g c =

@@ -45,6 +45,3 @@ pub returns-in_default-clause-gave_all : goal.returns-in_default-clause-gave_all
 returns-in_default-clause-gave_all c =
     λ fewer.
     wanted-before c.args.self.now c.loop-count.self c.take_fitting.new.self c.loop-count.invariant.4 c.take_fitting.ensures.outlets true c.args.place (c.take_fitting.ensures.gave_all c.in_default.is)
-
-pub returns-in_default-clause-full : goal.returns-in_default-clause-full
-returns-in_default-clause-full c = λ place is. c.take_fitting.ensures.full place (c.loop-count.invariant.7 place is)

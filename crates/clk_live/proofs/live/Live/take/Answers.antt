@@ -68,9 +68,6 @@ offer_next-requires-clause-can c =
     let few = may.1.numbered may.0 in
     (map taken i.outlets.items, taken o, can-run i.router i.outlets.items i.tokens.items c.args.place o c.self.invariant at 1 (omega (arith, few)))
 
-pub offer_next-requires-clause-short : goal.offer_next-requires-clause-short
-offer_next-requires-clause-short c = let may = c.in_ok-item.ensures.packet in may.1.short
-
 -- the packet was offered
 offered : (c : After-offer_next) → IsOffered c.args.place (record { course = c.self.inside.router; items = map taken c.self.inside.outlets.items }) (taken c.index_mut.result.now) c.in_ok-item.item c.offer_next.result c.offer_next.new.router c.offer_next.new.tokens.items
 offered c =

@@ -2,7 +2,7 @@ use Rattle.std.proofs.Common.{◌≡◌, ◌+◌, ◌<◌, ◌++◌, List, lengt
 use Rattle.std.proofs.lemmas.Option.{slice_get_read}
 use Rattle.rtrb.specs.Fifo.{Allowed}
 use Rattle.clk_inlet.specs.Halves.{popped, taken}
-use Rattle.clk_inlet.specs.Items.{has_end, AreShort, MayFollow}
+use Rattle.clk_inlet.specs.Items.{has_end, MayFollow}
 use Rattle.clk_inlet.specs.declared.item.Item.{Item}
 use Rattle.clk_live.specs.State.{LiveState, seen, GoesOn, AllGoOn}
 use Rattle.clk_live.specs.Taking.{AreTaken, GaveAll}
@@ -39,9 +39,6 @@ pub offer_run-requires-clause-can : goal.offer_run-requires-clause-can
 offer_run-requires-clause-can c =
     let at = its (goal.at.offer_run-requires-clause-can c).After-index_mut in
     (map taken c.self.inside.outlets.items, taken c.index_mut.result.now, can (goal.at.offer_run-requires-clause-can c).After-split_at at)
-
-pub offer_run-requires-clause-short : goal.offer_run-requires-clause-short
-offer_run-requires-clause-short c = subst AreShort (sym (run-is (goal.at.offer_run-requires-clause-short c).After-split_at)) c.take_many-count.ensures.short
 
 pub invariant_of-self : goal.invariant_of-self
 invariant_of-self c =

@@ -1,13 +1,8 @@
 use Rattle.std.proofs.Common.{refl, sym, subst}
 use Rattle.clk_script.specs.declared.script_router.ScriptRouter.{ScriptRouter}
 use Rattle.clk_script.specs.inside.ScriptRouter.{LeadsOnByPull}
-use Rattle.clk_script.proofs.ScriptRouterLemmas.{alike-still, LeadsOnByPull-pulled}
+use Rattle.clk_script.proofs.ScriptRouterLemmas.{LeadsOnByPull-pulled}
 use Rattle.clk_script.proofs.script_router.ScriptRouter.pull.Goals as goal
-
-pub count_pulled-requires-clause-alike : goal.count_pulled-requires-clause-alike
-count_pulled-requires-clause-alike c =
-    let old = c.args.self.now in
-    alike-still old (record old { router = c.pull.new.self }) _ c.senders.result.now c.requires.alike c.in_ok-got.ensures.pulled.goes_on c.senders.ensures.numbers
 
 pub returns-clause-leads : goal.returns-clause-leads
 returns-clause-leads c =

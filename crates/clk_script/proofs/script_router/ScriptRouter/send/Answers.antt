@@ -2,16 +2,11 @@ use Rattle.std.proofs.Common.{◌++◌, ◌∷◌, [], sym, subst}
 use Rattle.clk_router.specs.Events.{offered}
 use Rattle.clk_script.specs.declared.script_router.ScriptRouter.{ScriptRouter}
 use Rattle.clk_script.specs.inside.ScriptRouter.{IsAt}
-use Rattle.clk_script.proofs.ScriptRouterLemmas.{alike-still, can-offer, IsAt-offered}
+use Rattle.clk_script.proofs.ScriptRouterLemmas.{can-offer, IsAt-offered}
 use Rattle.clk_script.proofs.script_router.ScriptRouter.send.Goals as goal
 
 pub offer-outcome-requires-clause-can : goal.offer-outcome-requires-clause-can
 offer-outcome-requires-clause-can c = can-offer c.args.self.now c.requires.ready c.args.place c.requires.is_there
-
-pub count_offered-requires-clause-alike : goal.count_offered-requires-clause-alike
-count_offered-requires-clause-alike c =
-    let old = c.args.self.now in
-    alike-still old (record old { router = c.offer-outcome.new.self }) _ c.senders-numbers.result.now c.requires.ready.alike c.offer-outcome.ensures.goes_on c.senders-numbers.ensures.numbers
 
 pub returns-clause-leads : goal.returns-clause-leads
 returns-clause-leads c =
