@@ -25,7 +25,7 @@ round_robin-read a x s b can read is = entry a.states.items x s (state-there a x
 pub round_robin-begins : (a : Nodes) (x n : ℕ) (b : Beginning) (p : Inputs) → CanPull a x (edges_of a.inputs.items x) → slice_get a.states.items x ≡ Some (RoundRobin b) → p ≡ get_or a.inputs.items x p → n ≡ vec_len p.each → Begins a.inputs.items x n b.input
 round_robin-begins a x n b p can state e all = begins a x n b p can e all (fits-there a.inputs.items a.states.items x (RoundRobin b) can.fit state)
 
--- A RoundRobinSched whose inputs were visited in vain was pulled.
+-- A RoundRobinSched whose inputs were visited and gave nothing was pulled.
 pub round_robin-passed : {S : Type 0} (gives : S → ℕ → Option Packet → S → Type 0) (a : Nodes) (q : S) (x n : ℕ) (b : Beginning) → Begins a.inputs.items x n b.input → CanPull a x (edges_of a.inputs.items x)
     → slice_get a.states.items x ≡ Some (RoundRobin b) → AreIdle gives a q x → WasPulled gives a (with_idle_at (with_idle_at a x b.input (n - b.input)) x 0 b.input) q q x None
 round_robin-passed gives a q x n b h can state idle =
