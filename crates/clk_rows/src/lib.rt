@@ -1,4 +1,4 @@
-//! Worked rows, each written once for the tests of all crates that show it.
+//! Worked rows, each written once for the tests of all crates that show it, and how their scripts are read and their lines are written.
 //!
 //! A row that the tests of one crate alone show stands there. Some rows are written again elsewhere, where a text of Rust can't be read.
 //! The examples in `specs/Examples/` of `clk_sched` have some as visits of a definition, and the stored run of the program has
@@ -10,6 +10,7 @@ mod devices;
 mod in_order;
 mod queues;
 mod runs;
+pub mod script;
 mod shaper;
 mod stride;
 mod texts;

@@ -1,0 +1,117 @@
+//! The trees of the rows.
+
+ghost use Rattle.std.specs.Prelude.{◌≤◌};
+ghost use Rattle.clk_packet.specs.Limits.{most_quantum, most_tickets};
+
+use clk_packet::Fault;
+use clk_sched::Tree;
+use std::alloc::Global;
+
+/// A PrioSched over queues 0 and 1.
+pub fn prio_over_two(alloc: Global) -> Result<Tree, Fault> {
+    Tree::prio(vec![in alloc; Tree::leaf(0), Tree::leaf(1)]?)
+}
+
+/// A RoundRobinSched over queues 0, 1 and 2.
+pub fn round_robin_over_three(alloc: Global) -> Result<Tree, Fault> {
+    Tree::round_robin(vec![in alloc; Tree::leaf(0), Tree::leaf(1), Tree::leaf(2)]?)
+}
+
+/// A DRRSched over queue 0, with this quantum.
+pub fn drr_over_one(alloc: Global, quantum: u32) -> Result<Tree, Fault>
+    requires { (1 ≤ quantum) × (quantum ≤ most_quantum) }
+{
+    drr_over(alloc, quantum, Tree::leaf(0))
+}
+
+/// So many DRRScheds of one quantum, one over another, over queue 0.
+pub fn drr_path(alloc: Global, count: u8, quantum: u32) -> Result<Tree, Fault>
+    requires { (1 ≤ quantum) × (quantum ≤ most_quantum) }
+{
+    let mut tree = Tree::leaf(0);
+    for _ in 0..count {
+        tree = drr_over(alloc, quantum, tree)?;
+    }
+    Ok(tree)
+}
+
+/// So many DRRScheds of one quantum, one over another, over queue 0, under a Shaper of one packet each tick.
+pub fn shaped_drr_path(alloc: Global, count: u8, quantum: u32) -> Result<Tree, Fault>
+    requires { (1 ≤ quantum) × (quantum ≤ most_quantum) }
+{
+    Tree::shaper(alloc, 1, 1, drr_path(alloc, count, quantum)?)
+}
+
+/// A DRRSched of quantum 500 over one of quantum 300 over queue 0.
+pub fn drr_over_drr(alloc: Global) -> Result<Tree, Fault> {
+    drr_over(alloc, 500, drr_over_one(alloc, 300)?)
+}
+
+/// A DRRSched of quantum 5 over a PrioSched over queues 0 and 1.
+pub fn drr_over_prio(alloc: Global) -> Result<Tree, Fault> {
+    drr_over(alloc, 5, prio_over_two(alloc)?)
+}
+
+fn drr_over(alloc: Global, quantum: u32, child: Tree) -> Result<Tree, Fault>
+    requires { (1 ≤ quantum) × (quantum ≤ most_quantum) }
+{
+    Tree::drr(vec![in alloc; quantum]?, vec![in alloc; child]?)
+}
+
+/// A DRRSched over queues 0 and 1, with these quanta.
+pub fn drr_over_two(alloc: Global, first: u32, second: u32) -> Result<Tree, Fault>
+    requires first { (1 ≤ first) × (first ≤ most_quantum) }
+    requires second { (1 ≤ second) × (second ≤ most_quantum) }
+{
+    Tree::drr(
+        vec![in alloc; first, second]?,
+        vec![in alloc; Tree::leaf(0), Tree::leaf(1)]?,
+    )
+}
+
+/// A StrideSched over queues 0 and 1, with these tickets.
+pub fn stride_over_two(alloc: Global, first: u32, second: u32) -> Result<Tree, Fault>
+    requires first { (1 ≤ first) × (first ≤ most_tickets) }
+    requires second { (1 ≤ second) × (second ≤ most_tickets) }
+{
+    Tree::stride(
+        vec![in alloc; first, second]?,
+        vec![in alloc; Tree::leaf(0), Tree::leaf(1)]?,
+    )
+}
+
+/// A DRRSched of quantum 100 over a StrideSched over queues 0 to 8, with a ticket each, and queues 9 to 12. Neither has room in
+/// itself for what it holds of so many inputs.
+pub fn drr_over_stride(alloc: Global) -> Result<Tree, Fault> {
+    let nine = vec![in alloc;
+        Tree::leaf(0),
+        Tree::leaf(1),
+        Tree::leaf(2),
+        Tree::leaf(3),
+        Tree::leaf(4),
+        Tree::leaf(5),
+        Tree::leaf(6),
+        Tree::leaf(7),
+        Tree::leaf(8),
+    ]?;
+    let shared = Tree::stride(vec![in alloc; 1, 1, 1, 1, 1, 1, 1, 1, 1]?, nine)?;
+    Tree::drr(
+        vec![in alloc; 100, 100, 100, 100, 100]?,
+        vec![in alloc;
+            shared,
+            Tree::leaf(9),
+            Tree::leaf(10),
+            Tree::leaf(11),
+            Tree::leaf(12),
+        ]?,
+    )
+}
+
+/// So many PrioScheds, one above another, over queue 0.
+pub fn prio_path(alloc: Global, count: u8) -> Result<Tree, Fault> {
+    let mut tree = Tree::leaf(0);
+    for _ in 0..count {
+        tree = Tree::prio(vec![in alloc; tree]?)?;
+    }
+    Ok(tree)
+}
