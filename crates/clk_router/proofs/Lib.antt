@@ -6,6 +6,7 @@ mod PlaceLemmas
 mod PartsLemmas
 mod ClosingLemmas
 mod QueueCounts
+mod FilledLemmas
 mod NeverShort
 mod PlanLemmas
 mod RouterLemmas

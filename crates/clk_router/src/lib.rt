@@ -5,6 +5,7 @@ mod accounts;
 mod counting;
 mod devices;
 mod examples;
+mod filled;
 mod limits;
 mod parts;
 mod past;

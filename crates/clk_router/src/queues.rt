@@ -1,31 +1,24 @@
 //! The queues of a router.
 
-ghost use Rattle.std.specs.Prelude.{◌≡◌, ◌≢◌, ℕ, ◌<◌, ◌≤◌, length, map, nat_lt, slice_index, IfOk, IsOkUnless};
+ghost use Rattle.std.specs.Prelude.{◌≡◌, ◌<◌, length, map, nat_lt, IfOk, IsOkUnless};
 ghost use Rattle.std.specs.List.{AllByRecursion};
 ghost use Rattle.clk_tree.specs.PlanParts.{queued, HasCapacity};
-ghost use Rattle.clk_router.specs.declared.queues.TheConstants.{FILLED};
-ghost use Rattle.clk_router.specs.inside.Queues.{packets_at, AreMarked, queue_made, OffersAt, GivesAt};
+ghost use Rattle.clk_router.specs.inside.Queues.{packets_at, AreFilled, queue_made, OffersAt, GivesAt};
 
+use crate::filled::Filled;
 use clk_packet::{Fault, Offered, Packet};
 use clk_ring::Ring;
 use clk_sched::{Ask, Backlog};
 use clk_tree::QueueSpec;
-use memchr::memchr;
 use std::alloc::Global;
-
-/// The mark of a queue that may hold a packet.
-const FILLED: u8 = 1;
-
-/// The mark of a queue that holds no packet.
-const IDLE: u8 = 0;
 
 /// The queues, by number.
 #[derive(Drop)]
 pub struct Queues {
     pub rings: Vec<Ring>,
-    // A mark for each queue. Queues that hold nothing are skipped by their marks.
-    marks: Vec<u8>,
-    ghost marked: { AreMarked rings.items marks.items },
+    // The queues that may hold a packet. All others are skipped.
+    filled: Filled,
+    ghost filled_are: { AreFilled rings.items filled.words.items },
 }
 
 impl Queues {
@@ -36,22 +29,25 @@ impl Queues {
         ensures fault { IsOkUnless result Fault.Memory }
     {
         let mut rings = Vec::new(alloc);
-        let mut marks = Vec::new(alloc);
+        let filled = Filled::none(alloc, specs.len())?;
         for spec in specs {
             rings.push(Ring::new(alloc, spec.kind, spec.capacity as usize)?)?;
-            marks.push(IDLE)?;
         }
-        Ok(Queues { rings, marks })
+        Ok(Queues { rings, filled })
     }
 
     /// Offers a packet to a queue that exists.
+    #[inline]
     pub fn offer(&mut self, queue: u16, packet: Packet) -> Offered
         requires is_there { queue < length self.old.rings.items }
         ensures { OffersAt self.old.rings.items queue packet result self.new.rings.items }
     {
-        let number = usize::from(queue);
-        self.marks[number] = FILLED;
-        self.rings[number].offer(packet)
+        let ring = &mut self.rings[usize::from(queue)];
+        // One that holds a packet is in the set already.
+        if ring.is_empty() {
+            self.filled.add(queue);
+        }
+        ring.offer(packet)
     }
 }
 
@@ -67,21 +63,16 @@ impl Ask for Queues {
         if number >= self.rings.len() {
             return None;
         }
-        let got = self.rings[number].pull();
-        if got.is_none() {
-            self.marks[number] = IDLE;
+        let ring = &mut self.rings[number];
+        let got = ring.pull();
+        if got.is_some() && ring.is_empty() {
+            self.filled.remove(leaf);
         }
         got
     }
 
     fn idle_from(&self, leaf: u16, count: u16) -> u16 {
-        let number = usize::from(leaf);
-        // Most often the first queue may hold a packet, and to read its mark takes less time than a search.
-        if number >= self.marks.len() || self.marks[number] == FILLED {
-            return 0;
-        }
-        let end = self.marks.len().min(number + usize::from(count));
-        count_idle(&self.marks[number..end]) as u16
+        count.min(self.filled.none_from(leaf))
     }
 }
 
@@ -93,17 +84,5 @@ impl Backlog for Queues {
             Some(ring) => !ring.is_empty(),
             None => false,
         }
-    }
-}
-
-/// How many of these marks stand before the first mark of a queue that may hold a packet.
-#[inline(never)]
-fn count_idle(marks: &[u8]) -> usize
-    ensures within { result ≤ length marks.now }
-    ensures idle { (k : ℕ) → k < result → slice_index marks.now k ≢ FILLED }
-{
-    match memchr(FILLED, marks) {
-        Some(place) => place,
-        None => marks.len(),
     }
 }

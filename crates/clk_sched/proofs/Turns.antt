@@ -4,8 +4,6 @@ pub mod TurnRoundRobin
 pub mod TurnStride
 pub mod TurnShaper
 pub mod ShaperRow
-pub mod IdleTurns
-pub mod IdleRoundRobin
 pub mod LooksDrr
 pub mod TurnDrr
 pub mod PastIdle

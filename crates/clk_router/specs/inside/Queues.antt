@@ -1,10 +1,10 @@
 -- What queues hold and do, by number, and which of them are known to be empty.
-use Rattle.std.specs.Prelude.{◌≡◌, ◌≢◌, ℕ, List, [], length, false, ◌==◌, Option, Some, None, slice_get, slice_index}
+use Rattle.std.specs.Prelude.{◌≡◌, ℕ, ◌≤◌, ◌*◌, ◌/◌, ◌%◌, List, [], length, false, ◌==◌, Option, Some, None, slice_get, slice_index}
+use Rattle.std.specs.Int.{bit_at}
 use Rattle.clk_packet.specs.declared.packet.Packet.{Packet}
 use Rattle.clk_packet.specs.declared.packet.Offered.{Offered}
 use Rattle.clk_ring.specs.Queue.{Queue, empty_queue, IsOffered, IsPulled as IsQueuePulled}
 use Rattle.clk_tree.specs.PlanParts.{Queued}
-use Rattle.clk_router.specs.declared.queues.TheConstants.{FILLED}
 
 -- an empty queue as a plan declares it
 abbrev pub queue_made : Queued → Queue
@@ -46,6 +46,10 @@ pub record GivesAt (old : List Queue) (number : ℕ) (got : Option Packet) (new 
   pub here : PullsFrom got (slice_get old number) (slice_get new number)
   pub only : ChangesOnly old number new
 
--- Each queue has a mark. A queue without the mark FILLED is empty.
-abbrev pub AreMarked : List Queue → List ℕ → Type 0
-AreMarked queues marks = (length marks ≡ length queues) × ((q : ℕ) → slice_index marks q ≢ FILLED → packets_at queues q ≡ [])
+-- the bit of the queue with this number in words of 64 bits
+abbrev pub bit_of : List ℕ → ℕ → ℕ
+bit_of words q = bit_at (slice_index words (q / 64)) (q % 64)
+
+-- Each queue has a bit in these words. A queue whose bit is 0 is empty.
+abbrev pub AreFilled : List Queue → List ℕ → Type 0
+AreFilled queues words = (length queues ≤ 64 * length words) × ((q : ℕ) → bit_of words q ≡ 0 → packets_at queues q ≡ [])

@@ -42,10 +42,6 @@ pub record IsIdle {S : Type 0} (gives : S → ℕ → Option Packet → S → Ty
   pub stands : input_at n.inputs.items x i ≡ Some (Queue leaf)
   pub gives_none : gives q leaf None q
 
--- all inputs of a node are idle, as by `IsIdle`
-abbrev pub AreIdle : {S : Type 0} → (S → ℕ → Option Packet → S → Type 0) → Nodes → S → ℕ → Type 0
-AreIdle gives n q x = IfSome (slice_get n.inputs.items x) (λ (p : Inputs). (i : ℕ) → i < length p.each.items → IsIdle gives n q x i)
-
 -- A node asked one of its inputs, and recorded the visit.
 pub record HasAsked {S : Type 0} (gives : S → ℕ → Option Packet → S → Type 0) (old new : Nodes) (before now : S) (x i : ℕ) (got : Option Packet) : Type 0 where
   pub keeps : Keeps old new (edges_at old.inputs.items x i)

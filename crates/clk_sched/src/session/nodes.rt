@@ -14,8 +14,7 @@ use crate::visit::Visit;
 use clk_packet::Packet;
 use std::mem::{forget, replace};
 
-/// From this number of inputs on, looking for empty ones is faster than asking each. Whether all inputs are empty is looked up for any
-/// number.
+/// From this number of inputs on, looking for empty ones is faster than asking each, where they are asked in an order of their own.
 pub const MANY: u16 = 8;
 
 /// The nodes of a tree in a pull, with the log.
@@ -45,7 +44,7 @@ impl Nodes {
     ghost use Rattle.clk_sched.specs.inside.Looking.{Logs};
     ghost use Rattle.clk_sched.specs.inside.Pulling.{CanPull, Keeps, Asks, added};
     ghost use Rattle.clk_sched.specs.inside.Ranks.{AreInOrder, inputs_in};
-    ghost use Rattle.clk_sched.specs.inside.Turning.{with_state, with_idle_at, HasAsked, HasAskedAll, IsIdle, AreIdle, WasPulled};
+    ghost use Rattle.clk_sched.specs.inside.Turning.{with_state, with_idle_at, HasAsked, HasAskedAll, IsIdle, WasPulled};
 
     /// Pulls a node, as its class does, and returns its result.
     #[cycle(pull)]
@@ -160,17 +159,19 @@ impl Nodes {
     {
         let mut place = 0;
         while place < count {
-            if let Some(packet) = self.look(q, node, first + place) {
-                return Some((place, packet));
-            }
-            place += 1;
             place += self.pass_idle(q, node, first + place, count - place);
+            if place < count {
+                if let Some(packet) = self.look(q, node, first + place) {
+                    return Some((place, packet));
+                }
+                place += 1;
+            }
         }
         None
     }
 
     /// Skips inputs of a node, from `first` on and `count` at most, whose queues are known to be empty. Records a visit to each, and
-    /// returns how many. It is 0 if so few inputs are left that asking each is faster.
+    /// returns how many.
     #[inline]
     fn pass_idle<Q: Ask>(&mut self, q: &Q, node: u16, first: u16, count: u16) -> u16
         requires can_pull { CanPull self.old node (edges_in self.old.inputs.items node (range_with_len first count)) }
@@ -179,24 +180,10 @@ impl Nodes {
         ensures within { result ≤ count }
         ensures asked { HasAskedAll Q.gives self.old self.new q.now q.now node (range_with_len first result) None }
     {
-        if count < MANY {
-            return 0;
-        }
-        self.pass_idle_queues(q, node, first, count)
-    }
-
-    /// Skips inputs of a node, from `first` on and `count` at most, whose queues are known to be empty, however few are left. Records a
-    /// visit to each, and returns how many.
-    #[inline(never)]
-    fn pass_idle_queues<Q: Ask>(&mut self, q: &Q, node: u16, first: u16, count: u16) -> u16
-        requires can_pull { CanPull self.old node (edges_in self.old.inputs.items node (range_with_len first count)) }
-        requires within { AllByRecursion (λ i. IsSome (input_at self.old.inputs.items node i)) (range_with_len first count) }
-        requires few { first + count ≤ most_inputs }
-        ensures within { result ≤ count }
-        ensures asked { HasAskedAll Q.gives self.old self.new q.now q.now node (range_with_len first result) None }
-    {
         let idle = self.idle_from(q, node, first, count);
-        self.record_idle(node, first, idle);
+        if idle > 0 {
+            self.record_idle(node, first, idle);
+        }
         idle
     }
 
@@ -212,16 +199,6 @@ impl Nodes {
             Some(leaf) if count > 0 => q.idle_from(leaf + first, count),
             _ => 0,
         }
-    }
-
-    /// Whether all inputs of a node are queues known to be empty.
-    #[inline]
-    pub fn are_idle<Q: Ask>(&self, q: &Q, node: u16) -> bool
-        requires { CanPull self.now node (edges_of self.now.inputs.items node) }
-        ensures { result ≡ true → AreIdle Q.gives self.now q.now node }
-    {
-        let count = self.inputs[node as usize].each.len() as u16;
-        self.idle_from(q, node, 0, count) == count
     }
 
     /// Asks what stands at an input of a node, records the visit, and returns what it got.

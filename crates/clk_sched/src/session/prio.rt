@@ -14,7 +14,7 @@ use clk_packet::Packet;
 pub const DEVICE: u16 = 0;
 
 /// Pulls the device. It asks its one input, with nothing to choose.
-#[inline]
+#[inline(always)]
 pub fn pull_device<Q: Ask>(nodes: &mut Nodes, q: &mut Q) -> Option<Packet>
     requires can_pull { CanPull nodes.old 0 (edges_of nodes.old.inputs.items 0) }
     requires holds { IfSome (slice_get nodes.old.states.items 0) IsPrio }
@@ -33,10 +33,6 @@ pub fn pull_prio<Q: Ask>(nodes: &mut Nodes, q: &mut Q, node: u16) -> Option<Pack
     ensures { WasPulled Q.gives nodes.old nodes.new q.old q.new node result }
 {
     let inputs = nodes.inputs[node as usize].each.len() as u16;
-    if nodes.are_idle(q, node) {
-        nodes.record_idle(node, 0, inputs);
-        return None;
-    }
     match nodes.ask_in_turn(q, node, 0, inputs) {
         Some((_, packet)) => Some(packet),
         None => None,

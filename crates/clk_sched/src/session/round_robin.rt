@@ -15,7 +15,7 @@ impl Beginning {
     ghost use Rattle.std.specs.Prelude.{◌<◌, length, None, IfSome, slice_get};
     ghost use Rattle.clk_sched.specs.inside.Places.{edges_of};
     ghost use Rattle.clk_sched.specs.inside.Pulling.{CanPull};
-    ghost use Rattle.clk_sched.specs.inside.Turning.{WasPulled, HadTurn, AreIdle};
+    ghost use Rattle.clk_sched.specs.inside.Turning.{WasPulled, HadTurn};
     ghost use Rattle.clk_sched.specs.inside.Holds.OfClass.{IsRoundRobin};
     ghost use Rattle.clk_sched.specs.declared.session.state.State.TheVariants.{RoundRobin};
 
@@ -27,33 +27,12 @@ impl Beginning {
         requires holds { IfSome (slice_get nodes.old.states.items node) IsRoundRobin }
         ensures { WasPulled Q.gives nodes.old nodes.new q.old q.new node result }
     {
-        if nodes.are_idle(q, node) {
-            Beginning::pass_all(nodes, q, node);
-            return None;
-        }
         let State::RoundRobin(mut beginning) = nodes.take(node) else {
             unreachable!()
         };
         let got = beginning.turn(nodes, q, node);
         nodes.put(node, State::RoundRobin(beginning));
         got
-    }
-
-    // Records a visit to each input of a RoundRobinSched, as if it had been asked. All are queues known to be empty.
-    #[inline]
-    fn pass_all<Q: Ask>(nodes: &mut Nodes, q: &Q, node: u16)
-        requires can_pull { CanPull nodes.old node (edges_of nodes.old.inputs.items node) }
-        requires holds { IfSome (slice_get nodes.old.states.items node) IsRoundRobin }
-        requires idle { AreIdle Q.gives nodes.old q.now node }
-        ensures { WasPulled Q.gives nodes.old nodes.new q.now q.now node None }
-    {
-        let State::RoundRobin(beginning) = nodes.states[node as usize] else {
-            unreachable!()
-        };
-        let first = beginning.input;
-        let inputs = nodes.inputs[node as usize].each.len() as u16;
-        nodes.record_idle(node, first, inputs - first);
-        nodes.record_idle(node, 0, first);
     }
 
     // The turn of a RoundRobinSched.

@@ -23,7 +23,6 @@ use Rattle.clk_sched.proofs.Turns.TurnPrio.{prio-asks, prio-pulled}
 use Rattle.clk_sched.proofs.Turns.TurnRoundRobin.{begins, may-first, may-second, had-first, had-second, had-none, few-first, few-second}
 use Rattle.clk_sched.proofs.Nodes.Logged.{edge-there, queue-answers, asked-logged}
 use Rattle.clk_sched.proofs.Nodes.Idle.{idle-room}
-use Rattle.clk_sched.proofs.Turns.IdleTurns.{prio-passed}
 use Rattle.clk_sched.proofs.Turns.LooksDrr.{looks-at-asked}
 use Rattle.clk_sched.proofs.Turns.TurnDrr.{looks-below, making-first, making-can, making-next, making-passed, making-all, had-ended}
 use Rattle.clk_sched.proofs.Turns.TurnStride.{FitsAt, stride-in_order, stride-may, had-won, had-lost}
@@ -151,48 +150,51 @@ pub nodes::Nodes::ask_in_turn-loop-place-init : goal.nodes::Nodes::ask_in_turn-l
 nodes::Nodes::ask_in_turn-loop-place-init g t c =
     (omega arith, asking-first g.Q.Ask.gives c.args.self.now c.args.q.now c.args.node c.requires.can_pull.fit)
 
+pub nodes::Nodes::ask_in_turn-pass_idle-place-requires : goal.nodes::Nodes::ask_in_turn-pass_idle-place-requires
+nodes::Nodes::ask_in_turn-pass_idle-place-requires g t c =
+    let k = c.loop-place.place in
+    let test = c.loop-place-test.true in
+    let rest = turn-can g.Q.Ask.gives c.args.self.now c.loop-place.self c.args.q.now c.loop-place.q c.args.node c.args.first c.args.count k (omega (arith, test)) c.requires.can_pull c.requires.within c.loop-place.invariant.1 in
+    let few = c.requires.few in
+    record { can_pull = rest.0; within = rest.1; few = omega (arith, test, few) }
+
 pub nodes::Nodes::ask_in_turn-look-requires : goal.nodes::Nodes::ask_in_turn-look-requires
 nodes::Nodes::ask_in_turn-look-requires g t c =
     let order = range_with_len c.args.first c.args.count in
-    let k = c.loop-place.place in
-    let h = c.loop-place.invariant.1 in
-    let ready = asking-ready g.Q.Ask.gives c.args.self.now c.loop-place.self c.args.q.now c.loop-place.q c.args.node k (c.args.first + k) order c.requires.can_pull c.requires.within h (subst (λ n. k < n) (sym (length-range_with_len c.args.first c.args.count)) c.loop-place-test.true) (sym (get_or-range_with_len c.args.first c.args.count k 0 c.loop-place-test.true)) in
-    let same = ap length h.keeps.inputs in
+    let k = c.loop-place.place + c.pass_idle-place.result in
+    let test : k < c.args.count = c.if-place-count.true in
+    let within = c.pass_idle-place.ensures.within in
+    let past = turn-past g.Q.Ask.gives c.args.self.now c.loop-place.self c.pass_idle-place.new.self c.args.q.now c.loop-place.q c.args.node c.args.first c.args.count c.loop-place.place c.pass_idle-place.result (omega (arith, test)) c.loop-place.invariant.1 c.pass_idle-place.ensures.asked in
+    let ready = asking-ready g.Q.Ask.gives c.args.self.now c.pass_idle-place.new.self c.args.q.now c.loop-place.q c.args.node k (c.args.first + k) order c.requires.can_pull c.requires.within past (subst (λ n. k < n) (sym (length-range_with_len c.args.first c.args.count)) test) (sym (get_or-range_with_len c.args.first c.args.count k 0 test)) in
+    let same = ap length past.keeps.inputs in
     let less = c.decreases in
     λ κs le. (omega (arith, same, less), (search, (ready.0, ready.1)))
 
 pub nodes::Nodes::ask_in_turn-returns-in-Some : goal.nodes::Nodes::ask_in_turn-returns-in-Some
 nodes::Nodes::ask_in_turn-returns-in-Some g t c =
     let order = range_with_len c.args.first c.args.count in
-    let k = c.loop-place.place in
+    let k = c.loop-place.place + c.pass_idle-place.result in
+    let test : k < c.args.count = c.if-place-count.true in
+    let past = turn-past g.Q.Ask.gives c.args.self.now c.loop-place.self c.pass_idle-place.new.self c.args.q.now c.loop-place.q c.args.node c.args.first c.args.count c.loop-place.place c.pass_idle-place.result (omega (arith, test)) c.loop-place.invariant.1 c.pass_idle-place.ensures.asked in
     record {
-      place = c.loop-place-test.true;
-      asked = asking-given g.Q.Ask.gives c.args.self.now c.loop-place.self c.look.new.self c.args.q.now c.loop-place.q c.look.new.q c.args.node k (c.args.first + k) c.look.result c.in-Some.packet order (subst (λ n. k < n) (sym (length-range_with_len c.args.first c.args.count)) c.loop-place-test.true) c.loop-place.invariant.1 (sym (get_or-range_with_len c.args.first c.args.count k 0 c.loop-place-test.true)) c.in-Some.is c.look.ensures;
+      place = test;
+      asked = asking-given g.Q.Ask.gives c.args.self.now c.pass_idle-place.new.self c.look.new.self c.args.q.now c.loop-place.q c.look.new.q c.args.node k (c.args.first + k) c.look.result c.in-Some.packet order (subst (λ n. k < n) (sym (length-range_with_len c.args.first c.args.count)) test) past (sym (get_or-range_with_len c.args.first c.args.count k 0 test)) c.in-Some.is c.look.ensures;
     }
 
-pub nodes::Nodes::ask_in_turn-pass_idle-place-requires : goal.nodes::Nodes::ask_in_turn-pass_idle-place-requires
-nodes::Nodes::ask_in_turn-pass_idle-place-requires g t c =
-    let first = c.args.first in
-    let count = c.args.count in
-    let k = c.loop-place.place in
-    let test : k < count = c.loop-place-test.true in
-    let order = range_with_len first count in
-    let asked = asking-next g.Q.Ask.gives c.args.self.now c.loop-place.self c.look.new.self c.args.q.now c.loop-place.q c.look.new.q c.args.node k (first + k) c.look.result order (subst (λ n. k < n) (sym (length-range_with_len first count)) test) c.loop-place.invariant.1 (sym (get_or-range_with_len first count k 0 test)) c.in_default.is c.look.ensures in
-    let rest = turn-can g.Q.Ask.gives c.args.self.now c.look.new.self c.args.q.now c.look.new.q c.args.node first count (k + 1) (omega (arith, test)) c.requires.can_pull c.requires.within asked in
-    let few = c.requires.few in
-    record { can_pull = rest.0; within = rest.1; few = omega (arith, test, few) }
+pub nodes::Nodes::ask_in_turn-loop-place-preserved-then-place-count : goal.nodes::Nodes::ask_in_turn-loop-place-preserved-then-place-count
+nodes::Nodes::ask_in_turn-loop-place-preserved-then-place-count g t c =
+    let order = range_with_len c.args.first c.args.count in
+    let k = c.loop-place.place + c.pass_idle-place.result in
+    let test : k < c.args.count = c.if-place-count.true in
+    let past = turn-past g.Q.Ask.gives c.args.self.now c.loop-place.self c.pass_idle-place.new.self c.args.q.now c.loop-place.q c.args.node c.args.first c.args.count c.loop-place.place c.pass_idle-place.result (omega (arith, test)) c.loop-place.invariant.1 c.pass_idle-place.ensures.asked in
+    (omega (arith, test), asking-next g.Q.Ask.gives c.args.self.now c.pass_idle-place.new.self c.look.new.self c.args.q.now c.loop-place.q c.look.new.q c.args.node k (c.args.first + k) c.look.result order (subst (λ n. k < n) (sym (length-range_with_len c.args.first c.args.count)) test) past (sym (get_or-range_with_len c.args.first c.args.count k 0 test)) c.in_default.is c.look.ensures)
 
 pub nodes::Nodes::ask_in_turn-loop-place-preserved : goal.nodes::Nodes::ask_in_turn-loop-place-preserved
 nodes::Nodes::ask_in_turn-loop-place-preserved g t c =
-    let first = c.args.first in
-    let count = c.args.count in
-    let k = c.loop-place.place in
-    let test : k < count = c.loop-place-test.true in
-    let order = range_with_len first count in
-    let asked = asking-next g.Q.Ask.gives c.args.self.now c.loop-place.self c.look.new.self c.args.q.now c.loop-place.q c.look.new.q c.args.node k (first + k) c.look.result order (subst (λ n. k < n) (sym (length-range_with_len first count)) test) c.loop-place.invariant.1 (sym (get_or-range_with_len first count k 0 test)) c.in_default.is c.look.ensures in
+    let test = c.loop-place-test.true in
     let within = c.pass_idle-place.ensures.within in
-    let most : k + 1 + c.pass_idle-place.result ≤ count = omega (arith, test, within) in
-    (most, turn-past g.Q.Ask.gives c.args.self.now c.look.new.self c.pass_idle-place.new.self c.args.q.now c.look.new.q c.args.node first count (k + 1) c.pass_idle-place.result most asked c.pass_idle-place.ensures.asked)
+    let most : c.loop-place.place + c.pass_idle-place.result ≤ c.args.count = omega (arith, test, within) in
+    (most, turn-past g.Q.Ask.gives c.args.self.now c.loop-place.self c.pass_idle-place.new.self c.args.q.now c.loop-place.q c.args.node c.args.first c.args.count c.loop-place.place c.pass_idle-place.result most c.loop-place.invariant.1 c.pass_idle-place.ensures.asked)
 
 pub nodes::Nodes::ask_in_turn-returns : goal.nodes::Nodes::ask_in_turn-returns
 nodes::Nodes::ask_in_turn-returns g t c =
@@ -214,22 +216,6 @@ prio::pull_prio-ask_in_turn-requires g t c =
     let may = prio-asks c.args.nodes.now c.args.node c.len-inputs.result p c.requires.can_pull place count in
     let less = c.decreases in
     λ κs le. (omega (arith, less), (search, (may.0, (may.1, may.2))))
-
-pub prio::pull_prio-record_idle-requires : goal.prio::pull_prio-record_idle-requires
-prio::pull_prio-record_idle-requires g t c =
-    let p = c.index.result.now in
-    let place = entry c.args.nodes.now.inputs.items c.args.node p c.requires.can_pull.there c.index.ensures in
-    let count = c.len-inputs.ensures ∙ p.each.ok.0 in
-    let may = prio-asks c.args.nodes.now c.args.node c.len-inputs.result p c.requires.can_pull place count in
-    let room = idle-room c.args.nodes.now c.args.node 0 c.len-inputs.result may.0 may.1 in
-    record { room = room; few = may.2 }
-
-pub prio::pull_prio-returns-then-are_idle : goal.prio::pull_prio-returns-then-are_idle
-prio::pull_prio-returns-then-are_idle g t c =
-    let p = c.index.result.now in
-    let place = entry c.args.nodes.now.inputs.items c.args.node p c.requires.can_pull.there c.index.ensures in
-    let count = c.len-inputs.ensures ∙ p.each.ok.0 in
-    prio-passed g.Q.Ask.gives c.args.nodes.now c.record_idle.new.self c.args.q.now c.args.node c.len-inputs.result p c.requires.can_pull c.requires.holds place count (c.are_idle.ensures c.if-are_idle.true) c.record_idle.ensures
 
 pub prio::pull_prio-returns-in-Some : goal.prio::pull_prio-returns-in-Some
 prio::pull_prio-returns-in-Some g t c =

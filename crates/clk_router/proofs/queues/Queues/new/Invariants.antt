@@ -1,7 +1,7 @@
-use Rattle.std.proofs.Common.{◌≡◌, length, map, take}
+use Rattle.std.proofs.Common.{◌≡◌, map, take}
 use Rattle.clk_tree.specs.PlanParts.{queued}
 use Rattle.clk_router.specs.inside.Queues.{queue_made}
 use Rattle.clk_router.proofs.queues.Queues.new.Given as goal
 
 abbrev pub invariant-loop-spec : goal.invariant-loop-spec
-invariant-loop-spec l = (l.rings.items ≡ map queue_made (map queued (take l.spec-index l.specs))) × (length l.marks.items ≡ length l.rings.items)
+invariant-loop-spec l = l.rings.items ≡ map queue_made (map queued (take l.spec-index l.specs))

@@ -1,10 +1,21 @@
-use Rattle.std.proofs.Common.{refl, arith}
-use Rattle.clk_sched.proofs.Nodes.Asking.{asking-first}
-use Rattle.clk_sched.proofs.Nodes.Idle.{asking-front}
+use Rattle.std.proofs.Common.{None, sym, subst, arith}
+use Rattle.std.specs.List.{range_with_len}
+use Rattle.clk_sched.specs.inside.Turning.{HasAskedAll}
+use Rattle.clk_sched.proofs.Nodes.Idle.{there-at, idle-room, idle-recorded}
 use Rattle.clk_sched.proofs.session.nodes.Nodes.pass_idle.Goals as goal
 
-pub returns-then-count-lt-MANY-clause-asked : goal.returns-then-count-lt-MANY-clause-asked
-returns-then-count-lt-MANY-clause-asked g c =
-    let a = c.args.self.now in
-    let q = c.args.q.now in
-    asking-front g.Q.Ask.gives a a q q c.args.node c.args.first c.args.count 0 0 refl (omega arith) (asking-first g.Q.Ask.gives a q c.args.node c.requires.can_pull.fit)
+pub idle_from-idle-requires-clause-within : goal.idle_from-idle-requires-clause-within
+idle_from-idle-requires-clause-within g c = there-at c.args.self.now.inputs.items c.args.node c.args.first c.args.count c.requires.within
+
+pub record_idle-requires : goal.record_idle-requires
+record_idle-requires g c =
+    let room = idle-room c.args.self.now c.args.node c.args.first c.args.count c.requires.can_pull c.requires.within in
+    let few = c.requires.few in
+    let within = c.idle_from-idle.ensures.within in
+    record { room = omega (arith, room, within); few = omega (arith, few, within) }
+
+pub returns-then-idle-gt0-clause-asked : goal.returns-then-idle-gt0-clause-asked
+returns-then-idle-gt0-clause-asked g c =
+    let idle = c.idle_from-idle.result in
+    subst (λ now. HasAskedAll g.Q.Ask.gives c.args.self.now now c.args.q.now c.args.q.now c.args.node (range_with_len c.args.first idle) None) (sym c.record_idle.ensures)
+    (idle-recorded g.Q.Ask.gives c.args.self.now c.args.q.now c.args.node c.args.first idle c.requires.can_pull.fit c.idle_from-idle.ensures.idle)
