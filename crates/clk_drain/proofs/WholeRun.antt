@@ -38,11 +38,11 @@ pub record HasEnded (visits : Bool) (plan : List Planned) (terms : Terms) (queue
   pub sent : AllZip (HasDeviceSent terms) seats closed
   pub pulled_over : HavePulled terms ends pulled queues
 
--- So it is where `course` and `lent` are the terms and the queues that the threads share.
-pub has-ended : (visits : Bool) (plan : List Planned) (terms course : Terms) (senders : List SenderSpec) (queues lent : List (Vec LeafQueue Global)) (seats : List (Vec (Vec SeatLists Global) Global)) (ends : List EndLists) (closed : List (Vec (Vec ClosedLists Global) Global)) (pulled : List EndLists)
-    → course ≡ terms → lent ≡ queues → senders ≡ senders_of plan → AreRising (map number_of senders) → packets_in terms.traces ≤ most_left → AreOpenFrom plan terms.traces 0 (device_count plan) queues seats ends → AllByRecursion (KeepVisits visits) ends
-    → AllZip (HasDeviceSent course) seats closed → HavePulled course ends pulled lent → HasEnded visits plan terms queues seats ends closed pulled
-has-ended visits plan terms course senders queues lent seats ends closed pulled same are own rising few opened kept sent over = record {
+-- So it is where `shared` and `lent` are the terms and the queues that the threads share.
+pub has-ended : (visits : Bool) (plan : List Planned) (terms shared : Terms) (senders : List SenderSpec) (queues lent : List (Vec LeafQueue Global)) (seats : List (Vec (Vec SeatLists Global) Global)) (ends : List EndLists) (closed : List (Vec (Vec ClosedLists Global) Global)) (pulled : List EndLists)
+    → shared ≡ terms → lent ≡ queues → senders ≡ senders_of plan → AreRising (map number_of senders) → packets_in terms.traces ≤ most_left → AreOpenFrom plan terms.traces 0 (device_count plan) queues seats ends → AllByRecursion (KeepVisits visits) ends
+    → AllZip (HasDeviceSent shared) seats closed → HavePulled shared ends pulled lent → HasEnded visits plan terms queues seats ends closed pulled
+has-ended visits plan terms shared senders queues lent seats ends closed pulled same are own rising few opened kept sent over = record {
   opened = opened;
   kept = kept;
   rising = subst (λ (ss : List SenderSpec). AreRising (map number_of ss)) own rising;
@@ -99,11 +99,11 @@ run-settled visits plan terms queues seats ends closed pulled outcome h settled 
     }
 
 -- What closing the devices answers is what the run answers.
-pub answered-ok : (visits : Bool) (plan : List Planned) (terms course : Terms) (queues : List (Vec LeafQueue Global)) (seats : List (Vec (Vec SeatLists Global) Global)) (ends : List EndLists) (closed : List (Vec (Vec ClosedLists Global) Global)) (pulled : List EndLists) (feeds : List Feed) (result : Result (Outcome PackedLog) Fault) → course ≡ terms
-    → feeds ≡ joined_feeds queues pulled closed → HasEnded visits plan terms queues seats ends closed pulled → IfOk result (AreSettledTogether course feeds) → IfOk result (IsKeptRun visits plan terms.traces terms.step terms.limit)
-answered-ok visits plan terms course queues seats ends closed pulled feeds (Ok outcome) same are h settled =
+pub answered-ok : (visits : Bool) (plan : List Planned) (terms shared : Terms) (queues : List (Vec LeafQueue Global)) (seats : List (Vec (Vec SeatLists Global) Global)) (ends : List EndLists) (closed : List (Vec (Vec ClosedLists Global) Global)) (pulled : List EndLists) (feeds : List Feed) (result : Result (Outcome PackedLog) Fault) → shared ≡ terms
+    → feeds ≡ joined_feeds queues pulled closed → HasEnded visits plan terms queues seats ends closed pulled → IfOk result (AreSettledTogether shared feeds) → IfOk result (IsKeptRun visits plan terms.traces terms.step terms.limit)
+answered-ok visits plan terms shared queues seats ends closed pulled feeds (Ok outcome) same are h settled =
     run-settled visits plan terms queues seats ends closed pulled outcome h (subst (λ (x : Terms × List Feed). AreSettledTogether x.0 x.1 outcome) (λ i. (same i, are i)) settled)
-answered-ok visits plan terms course queues seats ends closed pulled feeds (Err fault) same are h settled = tt
+answered-ok visits plan terms shared queues seats ends closed pulled feeds (Err fault) same are h settled = tt
 
 pub answered-err : (visits : Bool) (plan : List Planned) (terms : Terms) (queues : List (Vec LeafQueue Global)) (seats : List (Vec (Vec SeatLists Global) Global)) (ends : List EndLists) (closed : List (Vec (Vec ClosedLists Global) Global)) (pulled : List EndLists) (feeds : List Feed) (result : Result (Outcome PackedLog) Fault) → feeds ≡ joined_feeds queues pulled closed
     → HasEnded visits plan terms queues seats ends closed pulled → AreKnown (senders_in plan) terms.traces → IfErr result (IsFaultOfClosing feeds) → IfErr result (IsFaultOfRun plan terms.traces)

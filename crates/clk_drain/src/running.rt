@@ -3,12 +3,12 @@
 mod baton;
 mod closing;
 mod consumer;
-mod course;
 mod devices;
 mod joining;
 mod open_lines;
 mod opening;
 mod producer;
+mod terms;
 mod threads;
 
 ghost use Rattle.std.specs.Prelude.{◌≡◌, ◌≤◌, ◌<◌, true, false, [], IfOk, IfErr};
@@ -19,9 +19,9 @@ ghost use Rattle.clk_drain.specs.Run.{IsRunOutcome, IsKeptRun, IsFaultOfRun};
 
 use crate::outcome::Outcome;
 use crate::running::closing::close_devices;
-use crate::running::course::Course;
 use crate::running::devices::{OpenPlan, open_devices};
 use crate::running::joining::join_devices;
+use crate::running::terms::RunTerms;
 use crate::running::threads::run_threads;
 use clk_gate::{Gate, check_senders};
 use clk_packet::{Fault, Traces};
@@ -132,10 +132,10 @@ fn run_keeping<R: Threads + Wait, W: Wait + Sync, G: Gate + Sync>(
         seats,
         ends,
     } = open_devices(alloc, plan, traces, keeps)?;
-    let course = Course::new(wait, traces, gate, step, limit, plan.senders().len());
-    let sent = run_threads(rt, alloc, &course, &queues, seats, ends)?;
+    let terms = RunTerms::new(wait, traces, gate, step, limit, plan.senders().len());
+    let sent = run_threads(rt, alloc, &terms, &queues, seats, ends)?;
     let closings = join_devices(alloc, queues, sent.ends, sent.devices)?;
-    close_devices(alloc, &course, closings)
+    close_devices(alloc, &terms, closings)
 }
 
 // This outcome, without its logs if no visits are kept.

@@ -8,8 +8,8 @@ ghost use Rattle.clk_drain.specs.inside.Handed.{IsReadyToClose, AreApartDevices,
 use crate::closing::{add, close};
 use crate::drained::Drained;
 use crate::outcome::Outcome;
-use crate::running::course::Course;
 use crate::running::joining::Closing;
+use crate::running::terms::RunTerms;
 use clk_gate::Gate;
 use clk_packet::Fault;
 use clk_sched::PackedLog;
@@ -23,12 +23,12 @@ use std::sync::Wait;
 /// The first fault of a device, and fault 1 if an allocation fails.
 pub fn close_devices<W: Wait, G: Gate>(
     alloc: Global,
-    course: &Course<W, G>,
+    terms: &RunTerms<W, G>,
     closings: Vec<Closing>,
 ) -> Result<Outcome<PackedLog>, Fault>
-    requires ready { AllByRecursion (IsReadyToClose course.now) closings.items }
+    requires ready { AllByRecursion (IsReadyToClose terms.now) closings.items }
     requires apart { AreApartDevices closings.items }
-    ensures settled { IfOk result (AreSettledTogether course.now closings.items) }
+    ensures settled { IfOk result (AreSettledTogether terms.now closings.items) }
     ensures fault { IfErr result (IsFaultOfClosing closings.items) }
 {
     let mut outcome = Outcome {
@@ -37,7 +37,7 @@ pub fn close_devices<W: Wait, G: Gate>(
         tallies: Vec::new(alloc),
     };
     for Closing { session, lines } in closings {
-        let drained = close(alloc, course.wait, session, lines, 0)?;
+        let drained = close(alloc, terms.wait, session, lines, 0)?;
         note(&mut outcome, drained)?;
     }
     outcome.tallies.sort_unstable_by_key(|tally| tally.sender);

@@ -1,8 +1,8 @@
 //! A consumer: what pulls a device while producers run.
 
-use crate::running::course::Course;
 use crate::running::open_lines::{OpenLines, open_lines_for};
 use crate::running::opening::{Ends, LeafQueue};
+use crate::running::terms::RunTerms;
 use clk_gate::Gate;
 use clk_packet::Fault;
 use clk_sched::Session;
@@ -93,33 +93,33 @@ impl<'a, W: Wait> Consumer<'a, W> {
     /// # Errors
     ///
     /// Fault 1 if an allocation of the session fails.
-    pub fn pull_all<G: Gate>(self, course: &Course<W, G>) -> Result<Consumer<'a, W>, Fault>
+    pub fn pull_all<G: Gate>(self, terms: &RunTerms<W, G>) -> Result<Consumer<'a, W>, Fault>
         requires unpulled { IsUnpulled self }
-        ensures pulled { IfOk result (IsPulled course.now self.entry) }
+        ensures pulled { IfOk result (IsPulled terms.now self.entry) }
         ensures fault { IsOkUnless result Fault.Memory }
     {
         let mut consumer = self;
         let mut made = 0;
-        while made < course.limit() {
-            if course.is_over() {
+        while made < terms.limit() {
+            if terms.is_over() {
                 return Ok(consumer);
             }
             made += 1;
-            consumer.pull(course, made)?;
+            consumer.pull(terms, made)?;
         }
         Ok(consumer)
     }
 
     // Makes the pull with this number, counted from 1. If it gave none, yields to other threads.
-    fn pull<G: Gate>(&mut self, course: &Course<W, G>, number: u32) -> Result<(), Fault>
-        requires number { number ≤ course.now.limit }
+    fn pull<G: Gate>(&mut self, terms: &RunTerms<W, G>, number: u32) -> Result<(), Fault>
+        requires number { number ≤ terms.now.limit }
         requires own { AreLinesOf self.old.session self.old.lines }
-        ensures pulled { OnOk result (IsPulledAt (number * course.now.step) self.old self.new) }
+        ensures pulled { OnOk result (IsPulledAt (number * terms.now.step) self.old self.new) }
         ensures fault { IsOkUnless result Fault.Memory }
     {
-        let moment = course.moment(number);
+        let moment = terms.moment(number);
         let got = self.open_lines.pull(&mut self.session, moment)?;
-        course.gate.pulled(self.device, u64::from(number));
+        terms.gate.pulled(self.device, u64::from(number));
         if got.is_none() {
             yield_to_others();
         }

@@ -11,9 +11,9 @@ ghost use Rattle.clk_drain.specs.inside.Threads.{IsUnused, HaveSentAll, IsUnpull
 ghost use Rattle.clk_drain.specs.inside.Handed.{FitPlaces, AreAllUnused, AreLeft, IsUnpulledOver, HasDeviceSent, HavePulled};
 
 use crate::running::consumer::Consumer;
-use crate::running::course::Course;
 use crate::running::opening::{Ends, LeafQueue};
 use crate::running::producer::send_all;
+use crate::running::terms::RunTerms;
 use clk_gate::Gate;
 use clk_packet::{Fault, Traces};
 use clk_ruled::{ClosedSeat, Seat};
@@ -41,7 +41,7 @@ impl Promise<ClosedSeat> for Sending {
 /// What a consumer's thread promises to return: the consumer, after its pulls.
 #[derive(Drop)]
 pub struct Pulling<'a, W: Wait, G: Gate> {
-    course: Snapshot<Course<'a, W, G>>,
+    terms: Snapshot<RunTerms<'a, W, G>>,
     consumer: Snapshot<Consumer<'a, W>>,
 }
 
@@ -50,22 +50,22 @@ impl<'a, W: Wait, G: Gate> Promise<Result<Consumer<'a, W>, Fault>> for Pulling<'
     ghost use Rattle.clk_packet.specs.declared.fault.Fault.TheVariants.{Memory};
     ghost use Rattle.clk_drain.specs.inside.Threads.{IsPulled};
 
-    ghost kept_by = { λ p result. IfOk result (IsPulled p.course.value p.consumer.value) × IsOkUnless result Memory };
+    ghost kept_by = { λ p result. IfOk result (IsPulled p.terms.value p.consumer.value) × IsOkUnless result Memory };
 }
 
-// Starts a producer's thread. What it shares is lent piece by piece: of a closure that captures `Course` contracts don't know the result.
+// Starts a producer's thread. What it shares is lent piece by piece: of a closure that captures `RunTerms` contracts don't know the result.
 fn start_sending<'s, E, W: Wait + Sync, G: Gate + Sync>(
     scope: &Scope<'s, E>,
-    course: &'s Course<'s, W, G>,
+    terms: &'s RunTerms<'s, W, G>,
     at: &'s LeafQueue,
     seat: Seat,
 ) -> Result<PromisedHandle<ClosedSeat, Sending>, AllocError>
-    requires unused { IsUnused course.now at.now.queue seat }
-    ensures traces { IfOk result (λ handle. handle.promise.traces.value ≡ course.now.traces) }
+    requires unused { IsUnused terms.now at.now.queue seat }
+    ensures traces { IfOk result (λ handle. handle.promise.traces.value ≡ terms.now.traces) }
     ensures seat { IfOk result (λ handle. handle.promise.seat.value ≡ seat) }
 {
     let LeafQueue { queue, baton, .. } = at;
-    let (wait, traces, gate, through) = (course.wait, course.traces, course.gate, &course.through);
+    let (wait, traces, gate, through) = (terms.wait, terms.traces, terms.gate, &terms.through);
     let promise = Sending {
         traces: Snapshot::of(traces),
         seat: Snapshot::of(&seat),
@@ -80,21 +80,21 @@ fn start_sending<'s, E, W: Wait + Sync, G: Gate + Sync>(
 // Starts a consumer's thread.
 fn start_pulling<'s, E, W: Wait + Sync, G: Gate + Sync>(
     scope: &Scope<'s, E>,
-    course: &'s Course<'s, W, G>,
+    terms: &'s RunTerms<'s, W, G>,
     consumer: Consumer<'s, W>,
 ) -> Result<PromisedHandle<Result<Consumer<'s, W>, Fault>, Pulling<'s, W, G>>, AllocError>
     requires unpulled { IsUnpulled consumer }
-    ensures course { IfOk result (λ handle. handle.promise.course.value ≡ course.now) }
+    ensures terms { IfOk result (λ handle. handle.promise.terms.value ≡ terms.now) }
     ensures consumer { IfOk result (λ handle. handle.promise.consumer.value ≡ consumer.entry) }
 {
     let promise = Pulling {
-        course: Snapshot::of(course),
+        terms: Snapshot::of(terms),
         consumer: Snapshot::of(&consumer),
     };
     let pull = move || -> Result<Consumer<W>, Fault>
         requires { IsUnpulled consumer }
-        ensures { IfOk result (IsPulled course.entry.now consumer.entry) × IsOkUnless result Fault.Memory }
-    { consumer.pull_all(course) };
+        ensures { IfOk result (IsPulled terms.entry.now consumer.entry) × IsOkUnless result Fault.Memory }
+    { consumer.pull_all(terms) };
     Ok(scope.spawn_with(promise, pull)?)
 }
 
@@ -106,19 +106,19 @@ fn start_pulling<'s, E, W: Wait + Sync, G: Gate + Sync>(
 pub fn run_threads<R: Threads + Wait, W: Wait + Sync, G: Gate + Sync>(
     rt: &R,
     alloc: Global,
-    course: &Course<W, G>,
+    terms: &RunTerms<W, G>,
     queues: &[Vec<LeafQueue>],
     seats: Vec<Vec<Vec<Seat>>>,
     ends: Vec<Ends>,
 ) -> Result<Sent, Fault>
-    requires unused { FitPlaces (AreAllUnused course.now) seats.items queues.now }
+    requires unused { FitPlaces (AreAllUnused terms.now) seats.items queues.now }
     requires unpulled { FitPlaces IsUnpulledOver ends.items queues.now }
-    ensures sent { IfOk result (λ sent. AllZip (HasDeviceSent course.now) seats.items sent.devices.items) }
-    ensures pulled { IfOk result (λ sent. HavePulled course.now ends.items sent.ends.items queues.now) }
+    ensures sent { IfOk result (λ sent. AllZip (HasDeviceSent terms.now) seats.items sent.devices.items) }
+    ensures pulled { IfOk result (λ sent. HavePulled terms.now ends.items sent.ends.items queues.now) }
     ensures fault { IsOkUnless result Fault.Memory }
 {
     let left = Left {
-        course,
+        terms,
         lent: queues,
         devices: seats,
         queues: Vec::new(alloc),
@@ -128,17 +128,17 @@ pub fn run_threads<R: Threads + Wait, W: Wait + Sync, G: Gate + Sync>(
         thread::scope_env(),
         rt,
         move |scope| -> Result<Sent, Fault>
-            requires { AreLeft left.course.now left.lent.now left.devices left.queues left.seats × FitPlaces IsUnpulledOver ends.items left.lent.now }
-            ensures { IfOk result (λ sent. AllZip (HasDeviceSent left.entry.course.now) left.entry.devices.items sent.devices.items × HavePulled left.entry.course.now ends.items sent.ends.items left.entry.lent.now) × IsOkUnless result Fault.Memory }
+            requires { AreLeft left.terms.now left.lent.now left.devices left.queues left.seats × FitPlaces IsUnpulledOver ends.items left.lent.now }
+            ensures { IfOk result (λ sent. AllZip (HasDeviceSent left.entry.terms.now) left.entry.devices.items sent.devices.items × HavePulled left.entry.terms.now ends.items sent.ends.items left.entry.lent.now) × IsOkUnless result Fault.Memory }
         { send_and_pull(rt, scope, alloc, left, ends) },
     )
 }
 
 /// What is left to start: a producer for each of these seats, which are those of devices, those of queues of the next device, and those of
-/// its next queue. Beside them stands what the threads share. (Contracts don't know the result of a closure that captures `Course` itself.)
+/// its next queue. Beside them stands what the threads share. (Contracts don't know the result of a closure that captures `RunTerms` itself.)
 #[derive(Drop)]
 pub struct Left<'a, W: Wait, G: Gate> {
-    pub course: &'a Course<'a, W, G>,
+    pub terms: &'a RunTerms<'a, W, G>,
     /// The queues of all devices.
     pub lent: &'a [Vec<LeafQueue>],
     pub devices: Vec<Vec<Vec<Seat>>>,
@@ -164,18 +164,18 @@ fn send_and_pull<'s, E, R: Threads, W: Wait + Sync, G: Gate + Sync>(
     left: Left<'s, W, G>,
     ends: Vec<Ends>,
 ) -> Result<Sent, Fault>
-    requires left { AreLeft left.course.now left.lent.now left.devices left.queues left.seats }
+    requires left { AreLeft left.terms.now left.lent.now left.devices left.queues left.seats }
     requires unpulled { FitPlaces IsUnpulledOver ends.items left.lent.now }
-    ensures devices { IfOk result (λ sent. AllZip (HasDeviceSent left.entry.course.now) left.entry.devices.items sent.devices.items) }
-    ensures queues { IfOk result (λ sent. AllZip (HaveSentAll left.entry.course.now) left.entry.queues.items sent.queues.items) }
-    ensures seats { IfOk result (λ sent. HaveSentAll left.entry.course.now left.entry.seats sent.seats) }
-    ensures pulled { IfOk result (λ sent. HavePulled left.entry.course.now ends.items sent.ends.items left.entry.lent.now) }
+    ensures devices { IfOk result (λ sent. AllZip (HasDeviceSent left.entry.terms.now) left.entry.devices.items sent.devices.items) }
+    ensures queues { IfOk result (λ sent. AllZip (HaveSentAll left.entry.terms.now) left.entry.queues.items sent.queues.items) }
+    ensures seats { IfOk result (λ sent. HaveSentAll left.entry.terms.now left.entry.seats sent.seats) }
+    ensures pulled { IfOk result (λ sent. HavePulled left.entry.terms.now ends.items sent.ends.items left.entry.lent.now) }
     ensures fault { IsOkUnless result Fault.Memory }
 {
     let mut left = left;
     if let Some(seat) = left.seats.pop() {
         let at = &left.lent[left.devices.len()][left.queues.len()];
-        let handle = start_sending(scope, left.course, at, seat)?;
+        let handle = start_sending(scope, left.terms, at, seat)?;
         let sent = send_and_pull(rt, scope, alloc, left, ends);
         let seat = handle.join(rt);
         let mut sent = sent?;
@@ -200,7 +200,7 @@ fn send_and_pull<'s, E, R: Threads, W: Wait + Sync, G: Gate + Sync>(
         devices: Vec::new(alloc),
         queues: Vec::new(alloc),
         seats: Vec::new(alloc),
-        ends: pull_each(rt, scope, alloc, left.course, left.lent, ends)?,
+        ends: pull_each(rt, scope, alloc, left.terms, left.lent, ends)?,
     })
 }
 
@@ -209,25 +209,25 @@ fn pull_each<'s, E, R: Threads, W: Wait + Sync, G: Gate + Sync>(
     rt: &R,
     scope: &Scope<'s, E>,
     alloc: Global,
-    course: &'s Course<'s, W, G>,
+    terms: &'s RunTerms<'s, W, G>,
     queues: &'s [Vec<LeafQueue>],
     ends: Vec<Ends>,
 ) -> Result<Vec<Ends>, Fault>
     requires unpulled { FitPlaces IsUnpulledOver ends.items queues.now }
-    ensures pulled { IfOk result (λ pulled. HavePulled course.now ends.items pulled.items queues.now) }
+    ensures pulled { IfOk result (λ pulled. HavePulled terms.now ends.items pulled.items queues.now) }
     ensures fault { IsOkUnless result Fault.Memory }
 {
     let mut ends = ends;
     let Some(its_ends) = ends.pop() else {
         return Ok(ends);
     };
-    let consumer = Consumer::new(alloc, course.wait, &queues[ends.len()], its_ends)?;
+    let consumer = Consumer::new(alloc, terms.wait, &queues[ends.len()], its_ends)?;
     if ends.is_empty() {
-        ends.push(consumer.pull_all(course)?.into_ends(alloc)?)?;
+        ends.push(consumer.pull_all(terms)?.into_ends(alloc)?)?;
         return Ok(ends);
     }
-    let handle = start_pulling(scope, course, consumer)?;
-    let pulled = pull_each(rt, scope, alloc, course, queues, ends);
+    let handle = start_pulling(scope, terms, consumer)?;
+    let pulled = pull_each(rt, scope, alloc, terms, queues, ends);
     let consumer = handle.join(rt);
     let mut pulled = pulled?;
     pulled.push(consumer?.into_ends(alloc)?)?;

@@ -20,7 +20,7 @@ terms_of traces step limit = record { traces = traces; step = step; limit = limi
 
 pub run_threads-requires-clause-unused : goal.run_threads-requires-clause-unused
 run_threads-requires-clause-unused g c κs within =
-    subst (λ (x : Terms × List (Vec LeafQueue Global)). FitPlaces (AreAllUnused x.0) c.in_ok-queues.field-0.seats.items x.1) (λ i. (sym c.new-course.ensures i, sym c.deref.ensures.value i))
+    subst (λ (x : Terms × List (Vec LeafQueue Global)). FitPlaces (AreAllUnused x.0) c.in_ok-queues.field-0.seats.items x.1) (λ i. (sym c.new-terms.ensures i, sym c.deref.ensures.value i))
     (unused-opened c.args.plan.now (terms_of c.args.traces.now c.args.step c.args.limit) 0 _ _ _ _ c.in_ok-queues.ensures.opened)
 
 pub run_threads-requires-clause-unpulled : goal.run_threads-requires-clause-unpulled
@@ -32,22 +32,22 @@ ended : (g : given.Over) (c : goal.In_ok-sent g)
     → HasEnded (keeps_visits c.args.keeps) c.args.plan.now (terms_of c.args.traces.now c.args.step c.args.limit) c.in_ok-queues.field-0.queues.items c.in_ok-queues.field-0.seats.items c.in_ok-queues.field-0.ends.items c.in_ok-sent.sent.devices.items c.in_ok-sent.sent.ends.items
 ended g c =
     let opened = c.in_ok-queues.field-0 in
-    has-ended (keeps_visits c.args.keeps) c.args.plan.now (terms_of c.args.traces.now c.args.step c.args.limit) c.new-course.result c.senders.result.now opened.queues.items c.deref.result.now opened.seats.items opened.ends.items c.in_ok-sent.sent.devices.items c.in_ok-sent.sent.ends.items
-    c.new-course.ensures c.deref.ensures.value c.senders.ensures.senders c.senders.ensures.rising c.count.ensures.within c.in_ok-queues.ensures.opened c.in_ok-queues.ensures.kept c.in_ok-sent.ensures.sent c.in_ok-sent.ensures.pulled
+    has-ended (keeps_visits c.args.keeps) c.args.plan.now (terms_of c.args.traces.now c.args.step c.args.limit) c.new-terms.result c.senders.result.now opened.queues.items c.deref.result.now opened.seats.items opened.ends.items c.in_ok-sent.sent.devices.items c.in_ok-sent.sent.ends.items
+    c.new-terms.ensures c.deref.ensures.value c.senders.ensures.senders c.senders.ensures.rising c.count.ensures.within c.in_ok-queues.ensures.opened c.in_ok-queues.ensures.kept c.in_ok-sent.ensures.sent c.in_ok-sent.ensures.pulled
 
 pub join_devices-requires : goal.join_devices-requires
 join_devices-requires g c = record { joinable = (run-joined _ _ _ _ _ _ _ _ (ended g c)).joinable }
 
 pub close_devices-requires-clause-ready : goal.close_devices-requires-clause-ready
 close_devices-requires-clause-ready g c =
-    subst (λ (x : Terms × List Feed). AllByRecursion (IsReadyToClose x.0) x.1) (λ i. (sym c.new-course.ensures i, sym c.in_ok-closings.ensures.joined i)) (run-joined _ _ _ _ _ _ _ _ (ended g c.before.before.before.before)).ready
+    subst (λ (x : Terms × List Feed). AllByRecursion (IsReadyToClose x.0) x.1) (λ i. (sym c.new-terms.ensures i, sym c.in_ok-closings.ensures.joined i)) (run-joined _ _ _ _ _ _ _ _ (ended g c.before.before.before.before)).ready
 
 pub close_devices-requires-clause-apart : goal.close_devices-requires-clause-apart
 close_devices-requires-clause-apart g c = subst AreApartDevices (sym c.in_ok-closings.ensures.joined) (run-joined _ _ _ _ _ _ _ _ (ended g c.before.before.before.before)).apart
 
 pub returns-clause-outcome : goal.returns-clause-outcome
 returns-clause-outcome g c =
-    answered-ok _ _ _ c.new-course.result _ _ _ _ _ c.in_ok-closings.closings.items c.close_devices.result c.new-course.ensures c.in_ok-closings.ensures.joined (ended g c.before.before.before.before.before.before.before.before) c.close_devices.ensures.settled
+    answered-ok _ _ _ c.new-terms.result _ _ _ _ _ c.in_ok-closings.closings.items c.close_devices.result c.new-terms.ensures c.in_ok-closings.ensures.joined (ended g c.before.before.before.before.before.before.before.before) c.close_devices.ensures.settled
 
 pub returns-clause-fault : goal.returns-clause-fault
 returns-clause-fault g c =

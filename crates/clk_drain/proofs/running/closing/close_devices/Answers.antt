@@ -25,35 +25,35 @@ pub close-requires-clause-lines : goal.close-requires-clause-lines
 close-requires-clause-lines g c =
     let f : Feed = record { session = progress_of c.session.inside.session; visits = keeps_visits c.session.inside.session.keeps; lines = c.session.inside.lines.items } in
     let rest = into_iter_items c.next.new.self in
-    let ready = next-ready c.args.course.now c.args.closings.items c.loop-session.yielded rest (into_iter_items c.loop-session.session-iterator) f c.loop-session.outcome (c.in-Some.ensures.steps.0 ∙ ap (λ x. x ∷ rest) (sym c.session.view_is)) c.loop-session.invariant c.requires.ready in
+    let ready = next-ready c.args.terms.now c.args.closings.items c.loop-session.yielded rest (into_iter_items c.loop-session.session-iterator) f c.loop-session.outcome (c.in-Some.ensures.steps.0 ∙ ap (λ x. x ∷ rest) (sym c.session.view_is)) c.loop-session.invariant c.requires.ready in
     ready.own
 
 pub close-requires-clause-moment : goal.close-requires-clause-moment
 close-requires-clause-moment g c =
     let f : Feed = record { session = progress_of c.session.inside.session; visits = keeps_visits c.session.inside.session.keeps; lines = c.session.inside.lines.items } in
     let rest = into_iter_items c.next.new.self in
-    let ready = next-ready c.args.course.now c.args.closings.items c.loop-session.yielded rest (into_iter_items c.loop-session.session-iterator) f c.loop-session.outcome (c.in-Some.ensures.steps.0 ∙ ap (λ x. x ∷ rest) (sym c.session.view_is)) c.loop-session.invariant c.requires.ready in
-    moment-within c.args.course.now f (subst (λ (t : Terms). t.step ≤ most_step) c.course.view_is c.course.invariant.0) (subst (λ (t : Terms). t.limit ≤ most_limit) c.course.view_is c.course.invariant.1) ready
+    let ready = next-ready c.args.terms.now c.args.closings.items c.loop-session.yielded rest (into_iter_items c.loop-session.session-iterator) f c.loop-session.outcome (c.in-Some.ensures.steps.0 ∙ ap (λ x. x ∷ rest) (sym c.session.view_is)) c.loop-session.invariant c.requires.ready in
+    moment-within c.args.terms.now f (subst (λ (t : Terms). t.step ≤ most_step) c.terms.view_is c.terms.invariant.0) (subst (λ (t : Terms). t.limit ≤ most_limit) c.terms.view_is c.terms.invariant.1) ready
 
 pub returns-in_err-drained-clause-fault : goal.returns-in_err-drained-clause-fault
 returns-in_err-drained-clause-fault g c =
     let f : Feed = record { session = progress_of c.session.inside.session; visits = keeps_visits c.session.inside.session.keeps; lines = c.session.inside.lines.items } in
     let rest = into_iter_items c.next.new.self in
     let p = err_from_is_err_and c.from_residual-in_err-drained.result c.from_residual-in_err-drained.ensures.1 in
-    rw (p.1, p.2) (next-fault c.args.course.now c.args.closings.items c.loop-session.yielded rest (into_iter_items c.loop-session.session-iterator) f c.loop-session.outcome c.in_err-drained.field-0.0 (c.in-Some.ensures.steps.0 ∙ ap (λ x. x ∷ rest) (sym c.session.view_is)) c.loop-session.invariant c.in_err-drained.ensures.fault)
+    rw (p.1, p.2) (next-fault c.args.terms.now c.args.closings.items c.loop-session.yielded rest (into_iter_items c.loop-session.session-iterator) f c.loop-session.outcome c.in_err-drained.field-0.0 (c.in-Some.ensures.steps.0 ∙ ap (λ x. x ∷ rest) (sym c.session.view_is)) c.loop-session.invariant c.in_err-drained.ensures.fault)
 
 pub loop-session-preserved : goal.loop-session-preserved
 loop-session-preserved g c =
-    let terms = c.args.course.now in
+    let those = c.args.terms.now in
     let all = c.args.closings.items in
     let done = c.loop-session.yielded in
     let before = into_iter_items c.loop-session.session-iterator in
     let f : Feed = record { session = progress_of c.session.inside.session; visits = keeps_visits c.session.inside.session.keeps; lines = c.session.inside.lines.items } in
     let rest = into_iter_items c.next.new.self in
     let next = c.in-Some.ensures.steps.0 ∙ ap (λ x. x ∷ rest) (sym c.session.view_is) in
-    let ready = next-ready terms all done rest before f c.loop-session.outcome next c.loop-session.invariant c.requires.ready in
-    subst (λ (d : Feed). AreClosing terms all (done ++ d ∷ []) rest c.note.new.outcome) c.session.view_is
-    (closing-more terms all done rest before f c.in_ok-drained.drained c.loop-session.outcome c.note.new.outcome next ready (c.in_ok-drained.ensures.drained c.session.invariant) c.in_ok-drained.ensures.reached
+    let ready = next-ready those all done rest before f c.loop-session.outcome next c.loop-session.invariant c.requires.ready in
+    subst (λ (d : Feed). AreClosing those all (done ++ d ∷ []) rest c.note.new.outcome) c.session.view_is
+    (closing-more those all done rest before f c.in_ok-drained.drained c.loop-session.outcome c.note.new.outcome next ready (c.in_ok-drained.ensures.drained c.session.invariant) c.in_ok-drained.ensures.reached
     (record { logs = c.in_ok-note.ensures.logs; emitted = c.in_ok-note.ensures.emitted; tallies = c.in_ok-note.ensures.tallies }) c.loop-session.invariant)
 
 pub returns-in_err-note-clause-fault : goal.returns-in_err-note-clause-fault
@@ -63,7 +63,7 @@ returns-in_err-note-clause-fault g c =
 
 pub returns-clause-settled : goal.returns-clause-settled
 returns-clause-settled g c =
-    all-closed c.args.course.now c.args.closings.items c.loop-session.yielded (into_iter_items c.loop-session.session-iterator) c.loop-session.outcome
+    all-closed c.args.terms.now c.args.closings.items c.loop-session.yielded (into_iter_items c.loop-session.session-iterator) c.loop-session.outcome
     (record { emitted = c.loop-session.outcome.emitted; logs = c.loop-session.outcome.logs; tallies = c.sort_unstable_by_key.new.self })
     (nil_from_length (into_iter_items c.loop-session.session-iterator) (sym c.loop-session.session-iterator.rest.ok.0 ∙ c.in-None.ensures.steps.0)) refl refl
     (record {

@@ -28,10 +28,10 @@ pull_all-requires g t c = record {
 pub returns-then-is_empty-clause-pulled : goal.returns-then-is_empty-clause-pulled
 returns-then-is_empty-clause-pulled g t c =
     let lt = (placed-of IsUnpulledOver c.args.ends.items c.pop.new.self.items c.in-Some.its_ends c.args.queues.now c.in-Some.ensures.items c.requires.unpulled).within in
-    subst (λ (x : List EndLists × List EndLists). HavePulled c.args.course.now x.0 x.1 c.args.queues.now) (λ i. (sym c.in-Some.ensures.items i, sym c.in_ok-push.ensures.items i))
-    (pulled-at c.args.course.now c.pop.new.self.items c.in-Some.its_ends c.pop.new.self.items c.in_ok-into_ends.field-0 c.args.queues.now c.len.result c.index-queues-len.result c.deref.result.now c.in_ok-consumer.consumer c.in_ok-pull_all.field-0
+    subst (λ (x : List EndLists × List EndLists). HavePulled c.args.terms.now x.0 x.1 c.args.queues.now) (λ i. (sym c.in-Some.ensures.items i, sym c.in_ok-push.ensures.items i))
+    (pulled-at c.args.terms.now c.pop.new.self.items c.in-Some.its_ends c.pop.new.self.items c.in_ok-into_ends.field-0 c.args.queues.now c.len.result c.index-queues-len.result c.deref.result.now c.in_ok-consumer.consumer c.in_ok-pull_all.field-0
     (omega (arith, c.len.ensures)) c.index-queues-len.is (omega (arith, c.len.ensures, lt)) c.deref.ensures.value c.in_ok-consumer.ensures.consumer c.in_ok-pull_all.ensures.pulled c.in_ok-into_ends.ensures.ends
-    (none-pulled c.args.course.now c.pop.new.self.items c.args.queues.now (search rules)))
+    (none-pulled c.args.terms.now c.pop.new.self.items c.args.queues.now (search rules)))
 
 pub start_pulling-requires-clause-unpulled : goal.start_pulling-requires-clause-unpulled
 start_pulling-requires-clause-unpulled g t c κs within =
@@ -44,8 +44,8 @@ pull_each-pulled-requires-clause-unpulled g t c κs within = (placed-of IsUnpull
 pub returns-clause-pulled : goal.returns-clause-pulled
 returns-clause-pulled g t c =
     let lt = (placed-of IsUnpulledOver c.args.ends.items c.pop.new.self.items c.in-Some.its_ends c.args.queues.now c.in-Some.ensures.items c.requires.unpulled).within in
-    subst (λ (x : List EndLists × List EndLists). HavePulled c.args.course.now x.0 x.1 c.args.queues.now) (λ i. (sym c.in-Some.ensures.items i, sym c.in_ok-push-2.ensures.items i))
-    (pulled-at c.args.course.now c.pop.new.self.items c.in-Some.its_ends c.in_ok-pulled.pulled.items c.in_ok-into_ends-2.field-0 c.args.queues.now c.len.result c.index-queues-len.result c.deref.result.now c.in_ok-consumer.consumer c.in_ok-consumer-2.field-0
+    subst (λ (x : List EndLists × List EndLists). HavePulled c.args.terms.now x.0 x.1 c.args.queues.now) (λ i. (sym c.in-Some.ensures.items i, sym c.in_ok-push-2.ensures.items i))
+    (pulled-at c.args.terms.now c.pop.new.self.items c.in-Some.its_ends c.in_ok-pulled.pulled.items c.in_ok-into_ends-2.field-0 c.args.queues.now c.len.result c.index-queues-len.result c.deref.result.now c.in_ok-consumer.consumer c.in_ok-consumer-2.field-0
     (omega (arith, c.len.ensures)) c.index-queues-len.is (omega (arith, c.len.ensures, lt)) c.deref.ensures.value c.in_ok-consumer.ensures.consumer
-    (subst (λ (x : Terms × Feed). IsPulled x.0 x.1 c.in_ok-consumer-2.field-0) (λ i. (c.in_ok-handle.ensures.course i, c.in_ok-handle.ensures.consumer i)) c.in_ok-consumer-2.ensures.0) c.in_ok-into_ends-2.ensures.ends
+    (subst (λ (x : Terms × Feed). IsPulled x.0 x.1 c.in_ok-consumer-2.field-0) (λ i. (c.in_ok-handle.ensures.terms i, c.in_ok-handle.ensures.consumer i)) c.in_ok-consumer-2.ensures.0) c.in_ok-into_ends-2.ensures.ends
     c.in_ok-pulled.ensures.pulled)

@@ -8,7 +8,7 @@ use std::sync::atomic::{AtomicU64, Ordering};
 
 /// What all threads of a run share: what is sent, at which moments devices are pulled, and how many producers are done.
 #[derive(Drop)]
-pub struct Course<'a, W: Wait, G: Gate> {
+pub struct RunTerms<'a, W: Wait, G: Gate> {
     pub wait: &'a W,
     pub traces: &'a Traces,
     pub gate: &'a G,
@@ -21,7 +21,7 @@ pub struct Course<'a, W: Wait, G: Gate> {
     pub through: AtomicU64,
 }
 
-impl<'a, W: Wait, G: Gate> Model for Course<'a, W, G> {
+impl<'a, W: Wait, G: Gate> Model for RunTerms<'a, W, G> {
     ghost use Rattle.std.specs.Prelude.{◌≤◌};
     ghost use Rattle.clk_gate.specs.Limits.{most_step, most_limit};
     ghost use Rattle.clk_drain.specs.inside.Threads.{Terms};
@@ -33,7 +33,7 @@ impl<'a, W: Wait, G: Gate> Model for Course<'a, W, G> {
     ghost invariant = { λ c. (c.step ≤ most_step) × (c.limit ≤ most_limit) };
 }
 
-impl<'a, W: Wait, G: Gate> Course<'a, W, G> {
+impl<'a, W: Wait, G: Gate> RunTerms<'a, W, G> {
     ghost use Rattle.std.specs.Prelude.{◌≡◌, ◌≤◌, ◌*◌, ◌<◌};
     ghost use Rattle.clk_sched.specs.Limits.{end_of_moments};
     ghost use Rattle.clk_gate.specs.Limits.{most_step, most_limit};
@@ -46,12 +46,12 @@ impl<'a, W: Wait, G: Gate> Course<'a, W, G> {
         step: u32,
         limit: u32,
         producers: usize,
-    ) -> Course<'a, W, G>
+    ) -> RunTerms<'a, W, G>
         requires step { step ≤ most_step }
         requires limit { limit ≤ most_limit }
         ensures { result ≡ record { traces = traces.now; step = step; limit = limit } }
     {
-        Course {
+        RunTerms {
             wait,
             traces,
             gate,
