@@ -7,7 +7,7 @@ ghost use Rattle.clickpull_c.specs.inside.Handle.{handle_owns, router_coded};
 
 mod place;
 
-use crate::parts::Parts;
+use crate::parts::BoxParts;
 use clk_router::CountingRouter;
 pub use place::Place;
 use std::alloc::Global;
@@ -32,7 +32,7 @@ impl Handle {
     pub(crate) fn of(router: Box<CountingRouter>) -> Handle
         ensures { result.router ≡ router.value }
     {
-        Handle::of_parts(Parts::of(router))
+        Handle::of_parts(BoxParts::of(router))
     }
 
     /// The router of a handle.
@@ -50,21 +50,21 @@ impl Handle {
         unsafe { &mut *self.at.cast() }
     }
 
-    fn of_parts(parts: Parts<CountingRouter, Global>) -> Handle
+    fn of_parts(parts: BoxParts<CountingRouter, Global>) -> Handle
         ensures { result.router ≡ parts.value }
     {
-        let Parts { ptr, alloc } = parts;
+        let BoxParts { ptr, alloc } = parts;
         Handle {
             at: ptr.cast(),
             alloc,
         }
     }
 
-    fn into_parts(self) -> Parts<CountingRouter, Global>
+    fn into_parts(self) -> BoxParts<CountingRouter, Global>
         ensures { result.value ≡ self.router }
     {
         let Handle { at, alloc } = self;
-        Parts {
+        BoxParts {
             ptr: at.cast(),
             alloc,
         }

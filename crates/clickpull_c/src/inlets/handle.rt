@@ -7,7 +7,7 @@ ghost use Rattle.clickpull_c.specs.inside.inlets.Handle.{inlet_handle_owns, inle
 
 mod place;
 
-use crate::parts::Parts;
+use crate::parts::BoxParts;
 use clk_inlet::Inlet;
 pub use place::InletPlace;
 use std::alloc::Global;
@@ -32,7 +32,7 @@ impl InletHandle {
     pub(crate) fn of(inlet: Box<Inlet>) -> InletHandle
         ensures { result.inlet ≡ inlet.value }
     {
-        InletHandle::of_parts(Parts::of(inlet))
+        InletHandle::of_parts(BoxParts::of(inlet))
     }
 
     /// The inlet of a handle.
@@ -50,21 +50,21 @@ impl InletHandle {
         unsafe { &mut *self.at.cast() }
     }
 
-    fn of_parts(parts: Parts<Inlet, Global>) -> InletHandle
+    fn of_parts(parts: BoxParts<Inlet, Global>) -> InletHandle
         ensures { result.inlet ≡ parts.value }
     {
-        let Parts { ptr, alloc } = parts;
+        let BoxParts { ptr, alloc } = parts;
         InletHandle {
             at: ptr.cast(),
             alloc,
         }
     }
 
-    fn into_parts(self) -> Parts<Inlet, Global>
+    fn into_parts(self) -> BoxParts<Inlet, Global>
         ensures { result.value ≡ self.inlet }
     {
         let InletHandle { at, alloc } = self;
-        Parts {
+        BoxParts {
             ptr: at.cast(),
             alloc,
         }

@@ -8,7 +8,7 @@ ghost use Rattle.clickpull_c.specs.inside.live.Handle.{live_handle_owns, live_co
 mod place;
 
 use super::router::LiveRouter;
-use crate::parts::Parts;
+use crate::parts::BoxParts;
 pub use place::LivePlace;
 use std::alloc::Global;
 use std::marker::Model;
@@ -32,7 +32,7 @@ impl LiveHandle {
     pub(crate) fn of(router: Box<LiveRouter>) -> LiveHandle
         ensures { result.router ≡ router.value }
     {
-        LiveHandle::of_parts(Parts::of(router))
+        LiveHandle::of_parts(BoxParts::of(router))
     }
 
     /// The live router of a handle.
@@ -50,21 +50,21 @@ impl LiveHandle {
         unsafe { &mut *self.at.cast() }
     }
 
-    fn of_parts(parts: Parts<LiveRouter, Global>) -> LiveHandle
+    fn of_parts(parts: BoxParts<LiveRouter, Global>) -> LiveHandle
         ensures { result.router ≡ parts.value }
     {
-        let Parts { ptr, alloc } = parts;
+        let BoxParts { ptr, alloc } = parts;
         LiveHandle {
             at: ptr.cast(),
             alloc,
         }
     }
 
-    fn into_parts(self) -> Parts<LiveRouter, Global>
+    fn into_parts(self) -> BoxParts<LiveRouter, Global>
         ensures { result.value ≡ self.router }
     {
         let LiveHandle { at, alloc } = self;
-        Parts {
+        BoxParts {
             ptr: at.cast(),
             alloc,
         }

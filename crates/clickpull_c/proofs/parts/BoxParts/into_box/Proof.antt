@@ -35,14 +35,14 @@ use Rattle.std.proofs.alloc.Calls.{token, Goes-blank}
 use Rattle.std.specs.Box.Ownership.{box_owns}
 use Rattle.std_alloc.proofs.BoxSteps.Form.{Bx, D, R, P, B, args, box_ty, word, box_typed}
 use Rattle.std_alloc.proofs.BoxSteps.Steps.{box_out, box_in}
-use Rattle.clickpull_c.specs.contracts.parts.Parts as parts
+use Rattle.clickpull_c.specs.contracts.parts.BoxParts as parts
 use Rattle.std_alloc.specs.contracts.boxed.Box.from_raw as Fr
 use Rattle.std_alloc.proofs.boxed.Box.from_raw.Symbol as raw_sym
 use Rattle.std_alloc.proofs.boxed.Box.from_raw.Met as raw_met
-use Rattle.clickpull_c.specs.contracts.parts.Parts.into_box as F
-use Rattle.clickpull_c.specs.contracts.parts.Parts.into_box.Key.{name as #self}
-use Rattle.clickpull_c.proofs.parts.Parts.into_box.Statement as stated
-use Rattle.clickpull_c.proofs.parts.Parts.into_box.Code as code
+use Rattle.clickpull_c.specs.contracts.parts.BoxParts.into_box as F
+use Rattle.clickpull_c.specs.contracts.parts.BoxParts.into_box.Key.{name as #self}
+use Rattle.clickpull_c.proofs.parts.BoxParts.into_box.Statement as stated
+use Rattle.clickpull_c.proofs.parts.BoxParts.into_box.Code as code
 
 abbrev rest : Body
 rest = seq (assign (place 0 []) (rv_opd (copy (place 4 [])))) return
