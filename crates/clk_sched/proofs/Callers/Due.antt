@@ -1,5 +1,5 @@
 -- Whether a pull could emit a packet follows from which of the tree's own queues are backlogged.
-use Rattle.std.proofs.Common.{◌≡◌, ℕ, suc, ◌+◌, ◌==◌, ◌&&◌, ◌||◌, Bool, true, false, List, refl, ap, ap₂, ◌∙◌, arith}
+use Rattle.std.proofs.Common.{◌≡◌, ℕ, suc, ◌+◌, ◌==◌, ◌&&◌, ◌||◌, Bool, true, List, refl, ap, ap₂, ◌∙◌, arith, rules}
 use Rattle.std.proofs.lemmas.Bool.Decides.{nat_tests}
 use Rattle.clk_packet.specs.Lists.{stands_in}
 use Rattle.clk_sched.specs.Tree.{Row, end, leaf, node, nodes, width, leaves}
@@ -12,8 +12,7 @@ or-first : (a b : Bool) → a ≡ true → (a || b) ≡ true
 or-first a b e = ap (λ x. x || b) e
 
 or-second : (a b : Bool) → b ≡ true → (a || b) ≡ true
-or-second true b e = refl
-or-second false b e = e
+or-second a b e = search rules
 
 pub could-same : (turns : ℕ → List Turn) (some other : ℕ → Bool) (moment next : ℕ) (row : Row) → ((q : ℕ) → stands_in q (leaves row) ≡ true → some q ≡ other q)
     → could_emit turns some moment next row ≡ could_emit turns other moment next row

@@ -1,10 +1,9 @@
 -- No law takes notice of a turn without visits: what it allows after some turns follows from those that have visits.
-use Rattle.std.proofs.Common.{◌≡◌, ◌&&◌, ℕ, Bool, true, false, if◌then◌else◌, List, [], ◌∷◌, ◌++◌, map, filter, reverse, inl, inr, refl, sym, ap, ◌∙◌, subst}
+use Rattle.std.proofs.Common.{◌≡◌, ◌&&◌, ℕ, Bool, true, false, if◌then◌else◌, List, [], ◌∷◌, ◌++◌, map, filter, reverse, inl, inr, refl, sym, ap, ◌∙◌, rules}
 use Rattle.std.specs.Bool.{⊤}
 use Rattle.clk_sched.specs.declared.visit.Visit.{Visit}
-use Rattle.clk_sched.specs.Turns.{Turn, EachAfter, AsksInOrder, visits_before}
+use Rattle.clk_sched.specs.Turns.{Turn, visits_before}
 use Rattle.clk_sched.specs.Log.{visits_of, moment_of, turn}
-use Rattle.clk_sched.specs.Heads.{LooksAtHeads}
 use Rattle.clk_sched.specs.Laws.{Manner, in_order, with_heads, Follows}
 use Rattle.clk_sched.specs.Laws.Stride.{passes_after, passes_of}
 use Rattle.clk_sched.specs.Laws.Shaper.{has_passed, keeps_since, keeps_since_each}
@@ -31,18 +30,13 @@ busy-filtered test x (p ∷ earlier) none = by_test (test p) (none p (inl refl))
   where
     by_test : (b : Bool) → (b ≡ false → visits_of x p ≡ []) → busy (map (turn x) earlier) ≡ busy (map (turn x) (filter test earlier))
         → with_turn (moment_of p) (visits_of x p) (busy (map (turn x) earlier)) ≡ busy (map (turn x) (if b then p ∷ filter test earlier else filter test earlier))
-    by_test true e rest = ap (with_turn (moment_of p) (visits_of x p)) rest
-    by_test false e rest = ap (λ vs. with_turn (moment_of p) vs (busy (map (turn x) earlier))) (e refl) ∙ rest
+    by_test b e rest = search rules
 
 -- what is told from turns one by one, and stays at a turn without visits, is told from those with visits
 pub busy-tells : {X : Type 0} (tell : List Turn → X) → ((t : Turn) (us ts : List Turn) → tell us ≡ tell ts → tell (t ∷ us) ≡ tell (t ∷ ts)) → ((moment : ℕ) (ts : List Turn) → tell (as_turn moment [] ∷ ts) ≡ tell ts)
     → (ts : List Turn) → tell (busy ts) ≡ tell ts
 busy-tells tell step stays [] = refl
-busy-tells tell step stays (t ∷ ts) = by_visits t.moment t.visits (busy-tells tell step stays ts)
-  where
-    by_visits : (moment : ℕ) (visits : List Visit) → tell (busy ts) ≡ tell ts → tell (with_turn moment visits (busy ts)) ≡ tell (as_turn moment visits ∷ ts)
-    by_visits moment [] e = e ∙ sym (stays moment ts)
-    by_visits moment (v ∷ visits) e = step (as_turn moment (v ∷ visits)) (busy ts) ts e
+busy-tells tell step stays (t ∷ ts) = search (rules, (busy-tells tell step stays ts))
 
 pub busy-visits : (ts : List Turn) → visits_before (busy ts) ≡ visits_before ts
 busy-visits = busy-tells visits_before (λ t us ts e. ap (λ vs. reverse t.visits ++ vs) e) (λ moment ts. refl)
@@ -66,5 +60,4 @@ TakesNoNotice (in_order order) = (earlier : List Turn) (moment : ℕ) → order 
 TakesNoNotice (with_heads turn_of covers) = ⊤
 
 pub follows-busy : (m : Manner) (inputs : ℕ) (earlier : List Turn) (t : Turn) → TakesNoNotice m → Follows m inputs (busy earlier) t → Follows m inputs earlier t
-follows-busy (in_order order) inputs earlier t same h = subst (λ inputs. AsksInOrder inputs t.visits) (same earlier t.moment) h
-follows-busy (with_heads turn_of covers) inputs earlier t same h = (subst (λ vs. EachAfter (LooksAtHeads turn_of covers) vs t.visits) (busy-visits earlier) h.0, h.1)
+follows-busy m inputs earlier t same h = search (rules, busy-visits)

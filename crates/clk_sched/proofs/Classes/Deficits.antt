@@ -1,5 +1,6 @@
 -- The row and the cursor of a DRRSched from visit to visit.
-use Rattle.std.proofs.Common.{◌≡◌, ◌≢◌, ℕ, zero, suc, ◌+◌, ◌-◌, ◌*◌, ◌%◌, ◌≤◌, ◌<◌, ◌==◌, nat_le, if◌then◌else◌, Bool, true, false, List, [], ◌∷◌, map, length, slice_get, slice_set, get_or, Option, Some, None, is_some, option_map, unwrap_or, refl, sym, ap, ap₂, ◌∙◌, subst, mul-add, zero-add, arith}
+use Rattle.std.proofs.lemmas.Grind.{common_steps, elements}
+use Rattle.std.proofs.Common.{◌≡◌, ◌≢◌, ℕ, zero, suc, ◌+◌, ◌%◌, ◌≤◌, ◌<◌, ◌==◌, if◌then◌else◌, true, false, List, [], ◌∷◌, map, length, slice_get, slice_set, get_or, Option, Some, is_some, unwrap_or, refl, sym, ap, ap₂, ◌∙◌, subst, arith, rules}
 use Rattle.std.specs.List.{AllByRecursion}
 use Rattle.std.proofs.lemmas.Bool.{false≢true}
 use Rattle.std.proofs.lemmas.Bool.Decides.{nat_tests}
@@ -13,7 +14,7 @@ use Rattle.clk_sched.specs.declared.session.drr.Served.{Served}
 use Rattle.clk_sched.specs.declared.session.drr.Deficits.{Deficits}
 use Rattle.clk_sched.specs.declared.visit.Visit.{Visit}
 use Rattle.clk_sched.specs.Heads.{head_at, is_covered}
-use Rattle.clk_sched.specs.Laws.Deficit.{next_input, arrives, arrivals, bytes_of, passed_bytes, quantum_at, deficit_covers}
+use Rattle.clk_sched.specs.Laws.Deficit.{next_input, arrives, deficit_covers}
 use Rattle.clk_sched.specs.inside.Holds.Served.{AreQuantaWithin, AreDeficitsWithin, AreIdleWithoutDeficits, IsWithoutDeficit, IsArrivedAt, waiting, with_quantum, covers, settled}
 use Rattle.clk_sched.specs.inside.Holds.Deficit.{HoldsInput, ahead_at, HoldsDeficits}
 use Rattle.clk_sched.specs.inside.Looking.{IsHead}
@@ -24,27 +25,15 @@ pub row-read : (row lent : List Served) (i place : ℕ) (s : Served) → lent �
 row-read row lent i place s same at within is = slice_get_read row (length row) i s refl within (is ∙ ap₂ (λ xs j. get_or xs j s) same at)
 
 pub read-same : (row : List Served) (i : ℕ) (y s : Served) → slice_get (slice_set row i y) i ≡ Some s → y ≡ s
-read-same [] i y s e = absurd (false≢true (ap is_some e))
-read-same (x ∷ row) zero y s e = ap (λ o. unwrap_or o y) e
-read-same (x ∷ row) (suc i) y s e = read-same row i y s e
+read-same row i y s e = grind (arith, common_steps, elements, nat_tests, false≢true)
 
 pub read-other : (row : List Served) (i j : ℕ) (y : Served) → j ≢ i → slice_get (slice_set row i y) j ≡ slice_get row j
-read-other [] i j y d = refl
-read-other (x ∷ row) zero zero y d = absurd (d refl)
-read-other (x ∷ row) zero (suc j) y d = refl
-read-other (x ∷ row) (suc i) zero y d = refl
-read-other (x ∷ row) (suc i) (suc j) y d = read-other row i j y (λ e. d (ap suc e))
+read-other row i j y d = grind (arith, common_steps, elements, nat_tests)
 
 -- what holds of what is written, and of the others, holds of the row
 pub each-written : (P : ℕ → Served → Type 0) (row : List Served) (i : ℕ) (y : Served) → P i y → ((j : ℕ) (s : Served) → j ≢ i → slice_get row j ≡ Some s → P j s)
     → (j : ℕ) (s : Served) → slice_get (slice_set row i y) j ≡ Some s → P j s
-each-written P row i y here others j s e = by_place (j == i) refl
-  where
-    by_place : (b : Bool) → (j == i) ≡ b → P j s
-    by_place true f =
-        let same : j ≡ i = grind (arith, nat_tests) in
-        subst (λ k. P k s) (sym same) (subst (P i) (read-same row i y s (subst (λ k. slice_get (slice_set row i y) k ≡ Some s) same e)) here)
-    by_place false f = let other : j ≢ i = grind (arith, nat_tests) in others j s other (sym (read-other row i j y other) ∙ e)
+each-written P row i y here others j s e = search (rules, read-same, read-other)
 
 -- each place within a row has an input
 pub read-some : (row : List Served) (i : ℕ) → i < length row → (s : Served) × (slice_get row i ≡ Some s)
@@ -54,8 +43,7 @@ read-some (x ∷ row) (suc i) l = read-some row i (omega arith)
 
 -- What is added through the slice is added to the row.
 pub adds-within : (row : SmallVec Served) (lent new : List Served) (place i : ℕ) → lent ≡ row.items → length new ≡ small_vec_len row → place ≡ i → IsArrivedAt place lent new → IsArrivedAt i row.items (with_items row new).items
-adds-within row lent new place i same long at adds =
-    subst (λ (x : List Served × ℕ). IsArrivedAt x.1 x.0 (with_items row new).items) (λ j. (same j, at j)) (λ s e. items-with_items row new long ∙ adds s e)
+adds-within row lent new place i same long at adds = search (rules, items-with_items)
 
 -- And so is what is settled at a place.
 pub settled-within : (row : SmallVec Served) (lent : List Served) (place i : ℕ) (new after : Served) → lent ≡ row.items → place ≡ i → new ≡ after → (with_items row (slice_set lent place new)).items ≡ slice_set row.items i after
@@ -74,11 +62,7 @@ limits-of d = record { few = d.few; cursor_within = d.cursor_within; quanta_with
 
 -- the sum of deficit and quantum fits
 pub sum-fits : (cursor : ℕ) (row : List Served) (i : ℕ) (s : Served) → KeepsLimits cursor row → slice_get row i ≡ Some s → s.deficit + s.quantum < 4294967296
-sum-fits cursor row i s h e = by_place (i == cursor) (h.quanta_within i s e) (h.deficits_within i s e)
-  where
-    by_place : (b : Bool) → s.quantum ≤ most_quantum → s.deficit < most_length + (if b then s.quantum else 0) → s.deficit + s.quantum < 4294967296
-    by_place true q d = omega arith
-    by_place false q d = omega arith
+sum-fits cursor row i s h e = search (rules, (h.quanta_within i s e), (h.deficits_within i s e))
 
 -- the limits after a move
 pub limits-moved : (cursor : ℕ) (row after : List Served) (i : ℕ) → KeepsLimits cursor row → ((t : Served) → slice_get row cursor ≡ Some t → IsWithoutDeficit t × (t.deficit < most_length)) → i < length row → IsArrivedAt i row after
@@ -103,32 +87,17 @@ limits-moved cursor row after i h left within adds =
     e = (read-some row i within).1
 
     below : (j : ℕ) (t : Served) → slice_get row j ≡ Some t → t.deficit < most_length
-    below j t f = by_place (j == cursor) refl (h.deficits_within j t f)
-      where
-        by_place : (b : Bool) → (j == cursor) ≡ b → t.deficit < most_length + (if b then t.quantum else 0) → t.deficit < most_length
-        by_place true g l = let same : j ≡ cursor = grind (arith, nat_tests) in (left t (subst (λ k. slice_get row k ≡ Some t) same f)).1
-        by_place false g l = omega (arith, l)
+    below j t f = search (rules, (h.deficits_within j t f))
 
     without : (j : ℕ) (t : Served) → slice_get row j ≡ Some t → IsWithoutDeficit t
-    without j t f = by_place (j == cursor) refl
-      where
-        by_place : (b : Bool) → (j == cursor) ≡ b → IsWithoutDeficit t
-        by_place true g = let same : j ≡ cursor = grind (arith, nat_tests) in (left t (subst (λ k. slice_get row k ≡ Some t) same f)).0
-        by_place false g = let other : j ≢ cursor = grind (arith, nat_tests) in h.idle_without j t f other
+    without j t f = search rules
 
 -- an input of a row before the first arrival
 at-waiting : (quanta : List ℕ) (i : ℕ) (s : Served) → slice_get (map waiting quanta) i ≡ Some s → (q : ℕ) × (slice_get quanta i ≡ Some q) × (waiting q ≡ s)
-at-waiting quanta i s e = by_quantum (slice_get quanta i) refl (sym (slice_get-map waiting quanta i) ∙ e)
-  where
-    by_quantum : (o : Option ℕ) → slice_get quanta i ≡ o → option_map waiting o ≡ Some s → (q : ℕ) × (slice_get quanta i ≡ Some q) × (waiting q ≡ s)
-    by_quantum None f g = absurd (false≢true (ap is_some g))
-    by_quantum (Some q) f g = (q, f, ap (λ o. unwrap_or o s) g)
+at-waiting quanta i s e = search (rules, slice_get-map, false≢true)
 
 pub none-left : (quanta : List ℕ) (row : List Served) (i : ℕ) (s : Served) → row ≡ map waiting quanta → slice_get row i ≡ Some s → IsWithoutDeficit s × (s.deficit < most_length)
-none-left quanta row i s all e =
-    let is = at-waiting quanta i s (subst (λ xs. slice_get xs i ≡ Some s) all e) in
-    let none : s.deficit ≡ 0 = sym (ap (λ (t : Served). t.deficit) is.2) in
-    (λ head. none, omega (arith, none))
+none-left quanta row i s all e = search (rules, at-waiting)
 
 quantum-within : (quanta : List ℕ) (i q : ℕ) → AllByRecursion (λ n. (1 ≤ n) × (n ≤ most_quantum)) quanta → slice_get quanta i ≡ Some q → q ≤ most_quantum
 quantum-within [] i q h e = absurd (false≢true (ap is_some e))
@@ -137,108 +106,33 @@ quantum-within (n ∷ quanta) (suc i) q h e = quantum-within quanta i q h.1 e
 
 pub limits-first : (quanta : List ℕ) (row : List Served) → row ≡ map waiting quanta → 1 ≤ length quanta → length quanta ≤ most_inputs → AllByRecursion (λ n. (1 ≤ n) × (n ≤ most_quantum)) quanta
     → KeepsLimits 0 row
-limits-first quanta row all some few within = record {
-  few = subst (λ n. n ≤ most_inputs) (sym long) few;
-  cursor_within = subst (λ n. 1 ≤ n) (sym long) some;
-  quanta_within = λ i s e.
-      let is = at-waiting quanta i s (subst (λ xs. slice_get xs i ≡ Some s) all e) in
-      subst (λ n. n ≤ most_quantum) (ap (λ (t : Served). t.quantum) is.2) (quantum-within quanta i is.0 within is.1);
-  deficits_within = λ i s e. let left = none-left quanta row i s all e in omega (arith, left.1);
-  idle_without = λ i s e other. (none-left quanta row i s all e).0;
-}
-  where
-    long : length row ≡ length quanta
-    long = ap length all ∙ length-map quanta waiting
+limits-first quanta row all some few within = search (rules, at-waiting, quantum-within, none-left, length-map)
 
 -- an input before its first arrival
 input-waiting : (quanta : List ℕ) (i : ℕ) (s : Served) → slice_get (map waiting quanta) i ≡ Some s → HoldsInput quanta [] 0 i s
-input-waiting quanta i s e =
-    let is = at-waiting quanta i s e in
-    subst (HoldsInput quanta [] 0 i) is.2 (record { quantum_is = sym (ap (λ o. unwrap_or o 0) is.1); head_is = refl; deficit_is = omega arith })
+input-waiting quanta i s e = search (rules, at-waiting)
 
 -- an input that is arrived at
 input-arrived : (quanta : List ℕ) (before : List Visit) (i : ℕ) (s : Served) → HoldsInput quanta before 0 i s → HoldsInput quanta before 1 i (with_quantum s)
-input-arrived quanta before i s h =
-    record {
-      quantum_is = h.quantum_is;
-      head_is = h.head_is;
-      deficit_is = let q = h.quantum_is in let d = h.deficit_is in let one = mul-add (quantum_at quanta i) 1 (arrivals i before) in let none = mul-add (quantum_at quanta i) 0 (arrivals i before) in omega (arith, q, d, one, none);
-    }
+input-arrived quanta before i s h = search rules
 
 -- an input that isn't visited
 input-other : (quanta : List ℕ) (before : List Visit) (v : Visit) (i : ℕ) (s : Served) → (v.input == i) ≡ false → HoldsInput quanta before 0 i s → HoldsInput quanta (v ∷ before) 0 i s
-input-other quanta before v i s other h =
-    record {
-      quantum_is = h.quantum_is;
-      head_is = h.head_is ∙ sym (ap (λ b. if b then (if v.passed then None else v.got) else head_at i before) other);
-      deficit_is =
-          ap (λ n. s.deficit + n) (ap (λ b. if b then (if is_some v.got then (if v.passed then bytes_of v.got else 0) + passed_bytes i before else 0) else passed_bytes i before) other) ∙ h.deficit_is
-          ∙ sym (ap (λ n. quantum_at quanta i * (0 + n)) (ap (λ b. if b then (if is_some v.got then arrives before + arrivals i before else 0) else arrivals i before) other));
-    }
+input-other quanta before v i s other h = search rules
 
 -- the input that is visited
 input-settled : (quanta : List ℕ) (before : List Visit) (v : Visit) (i : ℕ) (s : Served) → (v.input == i) ≡ true → v.passed ≡ covers s v.got → HoldsInput quanta before (arrives before) i s
     → HoldsInput quanta (v ∷ before) 0 i (settled s v.got)
-input-settled quanta before v i s here passes h = record {
-  quantum_is = by_quantum v.got ∙ h.quantum_is;
-  head_is = by_head v.got v.passed passes ∙ sym (ap (λ b. if b then (if v.passed then None else v.got) else head_at i before) here);
-  deficit_is =
-      ap (λ n. (settled s v.got).deficit + n) (ap (λ b. if b then (if is_some v.got then (if v.passed then bytes_of v.got else 0) + passed_bytes i before else 0) else passed_bytes i before) here)
-      ∙ by_deficit v.got v.passed passes
-      ∙ sym (ap (λ n. quantum_at quanta i * (0 + n)) (ap (λ b. if b then (if is_some v.got then arrives before + arrivals i before else 0) else arrivals i before) here));
-}
-  where
-    q : ℕ
-    q = quantum_at quanta i
-
-    sent : ℕ
-    sent = passed_bytes i before
-
-    arrived : ℕ
-    arrived = arrives before + arrivals i before
-
-    after : Packet → Bool → Served
-    after p b = if b then record { quantum = s.quantum; deficit = s.deficit - p.length; head = None } else record { quantum = s.quantum; deficit = s.deficit; head = Some p }
-
-    by_quantum : (o : Option Packet) → (settled s o).quantum ≡ s.quantum
-    by_quantum None = refl
-    by_quantum (Some p) = by_test (nat_le p.length s.deficit)
-      where
-        by_test : (b : Bool) → (after p b).quantum ≡ s.quantum
-        by_test true = refl
-        by_test false = refl
-
-    by_head : (o : Option Packet) (passed : Bool) → passed ≡ covers s o → (settled s o).head ≡ (if passed then None else o)
-    by_head None passed e = ap (λ b. if b then None else None) (sym e)
-    by_head (Some p) passed e = by_test (nat_le p.length s.deficit) ∙ sym (ap (λ b. if b then None else Some p) e)
-      where
-        by_test : (b : Bool) → (after p b).head ≡ (if b then None else Some p)
-        by_test true = refl
-        by_test false = refl
-
-    by_deficit : (o : Option Packet) (passed : Bool) → passed ≡ covers s o
-        → (settled s o).deficit + (if is_some o then (if passed then bytes_of o else 0) + sent else 0) ≡ q * (0 + (if is_some o then arrived else 0))
-    by_deficit None passed e = omega arith
-    by_deficit (Some p) passed e = ap (λ b. (settled s (Some p)).deficit + ((if b then p.length else 0) + sent)) e ∙ by_test (nat_le p.length s.deficit) refl ∙ sym (ap (λ n. q * n) (zero-add arrived))
-      where
-        by_test : (b : Bool) → nat_le p.length s.deficit ≡ b → (after p b).deficit + ((if b then p.length else 0) + sent) ≡ q * arrived
-        by_test true f = let within : p.length ≤ s.deficit = grind (arith, nat_tests) in let d = h.deficit_is in omega (arith, within, d)
-        by_test false f = ap (λ n. s.deficit + n) (zero-add sent) ∙ h.deficit_is
+input-settled quanta before v i s here passes h = search rules
 
 -- whether what was got is covered
 input-covers : (quanta : List ℕ) (before : List Visit) (i : ℕ) (s : Served) (got : Option Packet) → HoldsInput quanta before (arrives before) i s → covers s got ≡ is_covered (deficit_covers quanta before i) got
-input-covers quanta before i s None h = refl
-input-covers quanta before i s (Some p) h = more p.length s.deficit (passed_bytes i before) ∙ ap (nat_le (p.length + passed_bytes i before)) h.deficit_is
-  where
-    more : (m n k : ℕ) → nat_le m n ≡ nat_le (m + k) (n + k)
-    more m n k = grind (arith, nat_tests)
+input-covers quanta before i s got h = search rules
 
 -- the input at the cursor
 at-cursor : (quanta : List ℕ) (inputs : ℕ) (before : List Visit) (d : Deficits) (s : Served) → HoldsDeficits quanta inputs before d → slice_get d.row.items d.cursor ≡ Some s
     → HoldsInput quanta before (arrives before) (next_input inputs before) s
-at-cursor quanta inputs before d s h e =
-    let turn = next_input inputs before in
-    subst (λ n. HoldsInput quanta before n turn s) (ap (λ b. if b then arrives before else 0) (equal turn turn refl)) (h.each turn s (subst (λ k. slice_get d.row.items k ≡ Some s) h.cursor_is e))
+at-cursor quanta inputs before d s h e = grind (arith, nat_tests)
 
 -- the head held there is that of the visits before
 pub head-held : (quanta : List ℕ) (inputs : ℕ) (before : List Visit) (d : Deficits) (head : Option Packet) → IsHead d head → HoldsDeficits quanta inputs before d → head ≡ head_at (next_input inputs before) before
@@ -299,15 +193,8 @@ pub deficits-passed : (quanta : List ℕ) (inputs : ℕ) (before : List Visit) (
 deficits-passed quanta inputs before v d e s h read at passes passed stays is = record {
   length_is = ap length is ∙ length-set d.row.items d.cursor (settled s v.got) ∙ h.length_is;
   cursor_is = stays ∙ h.cursor_is ∙ sym at ∙ sym (ap (λ b. if b then v.input else (v.input + 1) % inputs) passed);
-  each = λ i t f. subst (λ n. HoldsInput quanta (v ∷ before) n i t) (sym (none i)) (row-settled quanta inputs before v d s h read at passes i t (subst (λ xs. slice_get xs i ≡ Some t) is f));
+  each = λ i t f. subst (λ n. HoldsInput quanta (v ∷ before) n i t) (sym (search rules)) (row-settled quanta inputs before v d s h read at passes i t (subst (λ xs. slice_get xs i ≡ Some t) is f));
 }
-  where
-    none : (i : ℕ) → ahead_at inputs (v ∷ before) i ≡ 0
-    none i = ap (λ n. if i == next_input inputs (v ∷ before) then n else 0) (ap (λ b. if b then 0 else 1) passed) ∙ by_place (i == next_input inputs (v ∷ before))
-      where
-        by_place : (b : Bool) → (let n : ℕ = if b then 0 else 0 in n) ≡ 0
-        by_place true = refl
-        by_place false = refl
 
 -- after any other the turn moves on
 pub deficits-moved-on : (quanta : List ℕ) (inputs : ℕ) (before : List Visit) (v : Visit) (d e : Deficits) (row : List Served) (s : Served) → HoldsDeficits quanta inputs before d → slice_get d.row.items d.cursor ≡ Some s

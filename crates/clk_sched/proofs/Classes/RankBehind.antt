@@ -1,5 +1,6 @@
 -- A rank that is put among others that are in order: where one of them stands before it, so do all before that one.
-use Rattle.std.proofs.Common.{◌≡◌, ℕ, zero, suc, ◌+◌, ◌-◌, ◌<◌, Bool, true, false, List, [], ◌∷◌, ◌++◌, length, take, drop, get_or, refl, sym, ap, ap₂, ◌∙◌, subst, true≢false, append_assoc, arith}
+use Rattle.std.proofs.lemmas.Grind.{common_steps}
+use Rattle.std.proofs.Common.{◌≡◌, ℕ, zero, suc, ◌+◌, ◌-◌, ◌<◌, false, List, [], ◌∷◌, ◌++◌, length, take, drop, get_or, sym, ap, ap₂, ◌∙◌, subst, append_assoc, arith}
 use Rattle.std.specs.List.{AllByRecursion}
 use Rattle.std.proofs.Math.Seq.{paste}
 use Rattle.std.proofs.lemmas.List.{drop-drop, get_or-drop, length-append, length-drop, length-take-le}
@@ -9,19 +10,13 @@ use Rattle.clk_sched.proofs.Classes.RankLemmas.{StandBefore, put-past}
 use Rattle.clk_sched.proofs.Classes.RankMerge.{up-then, parts}
 
 all-at : (P : Rank → Type 0) (others : List Rank) (n : ℕ) (d : Rank) → n < length others → AllByRecursion P others → P (get_or others n d)
-all-at P [] n d l h = absurd (omega arith)
-all-at P (o ∷ others) zero d l h = h.0
-all-at P (o ∷ others) (suc n) d l h = all-at P others n d (omega arith) h.1
+all-at P others n d l h = grind (arith, common_steps)
 
 -- Where one doesn't stand before the rank at a place, so many stand before it.
 pub stand-past : (r : Rank) (others : List Rank) (n : ℕ) (d : Rank) → n < length others → AreUpTo others → is_up_to r (get_or others n d) ≡ false → StandBefore r others (suc n)
 stand-past r [] n d l h e = absurd (omega arith)
 stand-past r (o ∷ others) zero d l h e = put-past r o others e
-stand-past r (o ∷ others) (suc n) d l h e = by_test (is_up_to r o) refl (stand-past r others n d (omega arith) h.1 e)
-  where
-    by_test : (b : Bool) → is_up_to r o ≡ b → StandBefore r others (suc n) → StandBefore r (o ∷ others) (suc (suc n))
-    by_test true f rest = absurd (true≢false (sym (up-then r o (get_or others n d) f (all-at (λ x. is_up_to o x ≡ true) others n d (omega arith) h.0)) ∙ e))
-    by_test false f rest = put-past r o others f ∙ ap (λ xs. o ∷ xs) rest
+stand-past r (o ∷ others) (suc n) d l h e = grind (arith, up-then, all-at, put-past, (stand-past r others n d (omega arith) h.1 e))
 
 -- what is in order is so from a place on
 up-after : (n : ℕ) (ranks : List Rank) → AreUpTo ranks → AreUpTo (drop n ranks)

@@ -1,10 +1,11 @@
 -- The ranks of a StrideSched: how they are put in their places, and what stays true of them.
-use Rattle.std.proofs.Common.{◌≡◌, ℕ, zero, suc, ◌+◌, ◌-◌, ◌<◌, ◌≤◌, if◌then◌else◌, Bool, true, false, List, [], ◌∷◌, ◌++◌, length, map, take, drop, set, get_or, slice_get, Some, refl, sym, ap, ap₂, ◌∙◌, subst, append_assoc, arith, drop-cons}
+use Rattle.std.proofs.lemmas.Grind.{common_steps}
+use Rattle.std.proofs.Common.{◌≡◌, ℕ, zero, suc, ◌+◌, ◌-◌, ◌<◌, ◌≤◌, if◌then◌else◌, Bool, true, false, List, [], ◌∷◌, ◌++◌, length, map, take, drop, set, get_or, slice_get, Some, refl, sym, ap, ap₂, ◌∙◌, subst, append_assoc, arith, drop-cons, rules}
 use Rattle.std.specs.List.{AllByRecursion, range_with_len}
 use Rattle.std.proofs.lemmas.Bool.Decides.{nat_tests}
 use Rattle.std.proofs.Math.Seq.{paste, set_at, length_paste_head, take-suc}
 use Rattle.std.proofs.Math.ListN.{drop_of_length-le}
-use Rattle.std.proofs.lemmas.List.{drop-drop, drop-map, get_or-drop, length-append, length-drop, length-take-le, set_split, take_all}
+use Rattle.std.proofs.lemmas.List.{drop-drop, drop-map, get_or-drop, length-drop, set_split, take_all}
 use Rattle.std.proofs.lemmas.List.Edits.{drop-paste}
 use Rattle.std.proofs.lemmas.Option.{slice_get_within, get_or_from_slice_get}
 use Rattle.clk_sched.specs.declared.session.stride.Rank.{Rank}
@@ -28,13 +29,10 @@ pub put-past : (r other : Rank) (others : List Rank) → is_up_to r other ≡ fa
 put-past r other others e = ap (λ b. if b then r ∷ other ∷ others else other ∷ put_rank r others) e
 
 pub before-next : (r : Rank) (row : List Rank) (n : ℕ) (d other : Rank) → n < length row → other ≡ get_or row n d → is_up_to r other ≡ false → StandBefore r row n → StandBefore r row (n + 1)
-before-next r row n d other l at test so =
-    so ∙ ap (λ x. take n row ++ x) (ap (put_rank r) (from-place row n d other l at) ∙ put-past r other (drop (suc n) row) test) ∙ sym (append_assoc (take n row) (other ∷ []) (put_rank r (drop (suc n) row)))
-    ∙ ap (λ x. x ++ put_rank r (drop (suc n) row)) (ap (λ y. take n row ++ y ∷ []) at ∙ sym (take-suc row n d l)) ∙ ap (λ k. take k row ++ put_rank r (drop k row)) (let same : suc n ≡ n + 1 = omega arith in same)
+before-next r row n d other l at test so = grind (arith, common_steps, from-place, put-past, append_assoc, take-suc)
 
 pub before-found : (r : Rank) (row : List Rank) (n : ℕ) (d other : Rank) → n < length row → other ≡ get_or row n d → is_up_to r other ≡ true → StandBefore r row n → put_rank r row ≡ take n row ++ r ∷ drop n row
-before-found r row n d other l at test so =
-    let from = from-place row n d other l at in so ∙ ap (λ x. take n row ++ x) (ap (put_rank r) from ∙ put-here r other (drop (suc n) row) test ∙ ap (λ x. r ∷ x) (sym from))
+before-found r row n d other l at test so = search (rules, from-place, put-here)
 
 pub before-all : (r : Rank) (row : List Rank) (n : ℕ) → length row ≤ n → StandBefore r row n → put_rank r row ≡ take n row ++ r ∷ drop n row
 before-all r row n l so = let none = drop_of_length-le row l in so ∙ ap (λ x. take n row ++ x) (ap (put_rank r) none ∙ ap (λ x. r ∷ x) (sym none))
@@ -57,17 +55,11 @@ put-moved r row from before l m put =
 
 -- Of a row whose ranks after a place moved down, so many so far: the next that may move.
 pub next-moved : (row : List Rank) (from k : ℕ) (d : Rank) → from + k + 1 < length row → get_or (paste row from (drop (from + 1) row) k) (from + k + 1) d ≡ get_or (drop (from + 1) row) k d
-next-moved row from k d l =
-    let long = length-drop (from + 1) row in
-    let same : from + k + 1 ≡ from + 1 + k = omega arith in
-    sym (get_or-drop (from + k) (paste row from (drop (from + 1) row) k) 1 d)
-    ∙ ap (λ xs. get_or xs 1 d) (drop-paste row from (drop (from + 1) row) k (omega (arith, l)) (omega (arith, l, long)))
-    ∙ get_or-drop (from + k) row 1 d ∙ ap (λ i. get_or row i d) same ∙ sym (get_or-drop (from + 1) row k d)
+next-moved row from k d l = grind (arith, common_steps, length-drop, get_or-drop, paste, drop-paste)
 
 -- A rank stays in its place.
 pub put-first : (r : Rank) (row : List Rank) (from : ℕ) → from < length row → put_rank r (drop (from + 1) row) ≡ r ∷ drop (from + 1) row → set row from r ≡ take from row ++ put_rank r (drop (from + 1) row)
-put-first r row from l first =
-    set_split row from r l ∙ ap (λ k. take from row ++ r ∷ drop k row) (let same : suc from ≡ from + 1 = omega arith in same) ∙ ap (λ xs. take from row ++ xs) (sym first)
+put-first r row from l first = search (rules, set_split)
 
 -- the row from a place on, where it is known what stands there
 from-rank : (row : List Rank) (n : ℕ) (r : Rank) → slice_get row n ≡ Some r → drop n row ≡ r ∷ drop (suc n) row
@@ -75,25 +67,11 @@ from-rank row n r e = from-place row n r r (slice_get_within row n r e) (sym (ge
 
 -- A rank stays in its place, since it stands before the next.
 pub put-next : (r next : Rank) (row : List Rank) (from : ℕ) → slice_get row (from + 1) ≡ Some next → is_up_to r next ≡ true → set row from r ≡ take from row ++ put_rank r (drop (from + 1) row)
-put-next r next row from e test =
-    let after = from-rank row (from + 1) next e in
-    put-first r row from (let l = slice_get_within row (from + 1) next e in omega (arith, l)) (ap (put_rank r) after ∙ put-here r next (drop (suc (from + 1)) row) test ∙ ap (λ x. r ∷ x) (sym after))
+put-next r next row from e test = search (rules, from-rank, put-first, slice_get_within, put-here)
 
 pub put-some : (r : Rank) (others : List Rank) → 0 < length (put_rank r others)
 put-some r [] = omega arith
-put-some r (other ∷ others) = by_test (is_up_to r other)
-  where
-    by_test : (b : Bool) → 0 < length (if b then r ∷ other ∷ others else other ∷ put_rank r others)
-    by_test true = omega arith
-    by_test false = omega arith
-
--- Something stands at the place then.
-pub put-there : (r : Rank) (row now : List Rank) (from : ℕ) → from < length row → now ≡ take from row ++ put_rank r (drop (from + 1) row) → from < length now
-put-there r row now from l is =
-    let all = ap length is ∙ length-append (take from row) (put_rank r (drop (from + 1) row)) in
-    let front = length-take-le from row (omega arith) in
-    let some = put-some r (drop (from + 1) row) in
-    omega (arith, all, front, some)
+put-some r (other ∷ others) = search rules
 
 -- what stands after a place, as a slice has it
 pub after-place : (row : List Rank) (n : ℕ) → take (length row - n) (drop n row) ≡ drop n row
@@ -101,15 +79,6 @@ after-place row n = take_all (length row - n) (drop n row) (let l = length-drop 
 
 pub inputs-after : (row : List Rank) (n : ℕ) → inputs_in (take (length row - n) (drop n row)) ≡ drop n (inputs_in row)
 inputs-after row n = ap inputs_in (after-place row n) ∙ sym (drop-map (λ (r : Rank). r.input) n row)
-
--- The winner is put in its place.
-pub win-first : (pass stride place : ℕ) (row now : List Rank) (d : Rank) → place < length row → now ≡ take place row ++ put_rank (at_pass (pass + stride) (get_or row place d)) (drop (place + 1) row)
-    → now ≡ take place row ++ after_win pass stride (place - place) (drop place row)
-win-first pass stride place row now d l is =
-    let none : place - place ≡ 0 = omega arith in
-    let next : suc place ≡ place + 1 = omega arith in
-    is ∙ ap (λ n. take place row ++ put_rank (at_pass (pass + stride) (get_or row place d)) (drop n row)) (sym next) ∙ ap (λ xs. take place row ++ after_win pass stride 0 xs) (sym (drop-cons row place d l))
-    ∙ ap (λ k. take place row ++ after_win pass stride k (drop place row)) (sym none)
 
 -- of those before the winner, one more is put in its place
 win-step : (pass stride idle k : ℕ) (row : List Rank) (d r : Rank) → idle < length row → r ≡ get_or (take (suc idle) row ++ after_win pass stride k (drop (suc idle) row)) idle d
@@ -122,23 +91,12 @@ win-step pass stride (suc idle) k (x ∷ row) d r l e = ap (λ xs. x ∷ xs) (wi
 pub win-next : (pass stride : ℕ) (row now : List Rank) (place idle above : ℕ) (d r : Rank) → above ≡ idle + 1 → idle < place → place < length row → r ≡ get_or now idle d
     → now ≡ take above row ++ after_win pass stride (place - above) (drop above row)
     → take idle now ++ put_rank (at_pass pass r) (drop (idle + 1) now) ≡ take idle row ++ after_win pass stride (place - idle) (drop idle row)
-win-next pass stride row now place idle above d r next l m e is =
-    let here : above ≡ suc idle = omega arith in
-    let after : idle + 1 ≡ suc idle = omega arith in
-    let more : place - idle ≡ suc (place - suc idle) = omega arith in
-    let now_is = is ∙ ap (λ n. take n row ++ after_win pass stride (place - n) (drop n row)) here in
-    ap₂ (λ xs n. take idle xs ++ put_rank (at_pass pass r) (drop n xs)) now_is after
-    ∙ win-step pass stride idle (place - suc idle) row d r (omega arith) (e ∙ ap (λ xs. get_or xs idle d) now_is)
-    ∙ sym (ap (λ k. take idle row ++ after_win pass stride k (drop idle row)) more)
+win-next pass stride row now place idle above d r next l m e is = search (rules, win-step)
 
 -- what holds of a rank that is put among others that it holds of
 pub put-holds : (P : Rank → Type 0) (r : Rank) (others : List Rank) → P r → AllByRecursion P others → AllByRecursion P (put_rank r others)
 put-holds P r [] one h = (one, tt)
-put-holds P r (other ∷ others) one h = by_test (is_up_to r other) (put-holds P r others one h.1)
-  where
-    by_test : (b : Bool) → AllByRecursion P (put_rank r others) → AllByRecursion P (if b then r ∷ other ∷ others else other ∷ put_rank r others)
-    by_test true rest = (one, h)
-    by_test false rest = (h.0, rest)
+put-holds P r (other ∷ others) one h = search (rules, (put-holds P r others one h.1))
 
 win-all : (P Q : Rank → Type 0) (pass stride place : ℕ) (row : List Rank) → ((r : Rank) → Q r → P (at_pass pass r) × P (at_pass (pass + stride) r))
     → AllByRecursion Q row → AllByRecursion P (drop (suc place) row) → AllByRecursion P (after_win pass stride place row)
@@ -176,9 +134,7 @@ abbrev pub IsWonRank : ℕ → ℕ → Rank → Type 0
 IsWonRank inputs pass r = (r.input < inputs) × (pass ≤ r.pass) × (r.pass ≤ pass + greatest_stride)
 
 all-drop : (P : Rank → Type 0) (n : ℕ) (ranks : List Rank) → AllByRecursion P ranks → AllByRecursion P (drop n ranks)
-all-drop P zero ranks h = h
-all-drop P (suc n) [] h = tt
-all-drop P (suc n) (r ∷ ranks) h = all-drop P n ranks h.1
+all-drop P n ranks h = grind (arith, common_steps)
 
 all-two : (P Q : Rank → Type 0) (ranks : List Rank) → AllByRecursion P ranks → AllByRecursion Q ranks → AllByRecursion (λ r. P r × Q r) ranks
 all-two P Q [] h k = tt
@@ -197,29 +153,18 @@ first-least [] h = tt
 first-least (r ∷ ranks) h = (omega arith, h.0)
 
 pub first-below : (ranks : List Rank) → HasRisingPasses ranks → (place : ℕ) (d : Rank) → place < length ranks → first_pass ranks ≤ (get_or ranks place d).pass
-first-below [] h place d l = absurd (omega arith)
-first-below (r ∷ ranks) h place d l = below (r ∷ ranks) (omega arith, h.0) place l
-  where
-    below : (others : List Rank) → AllByRecursion (λ (o : Rank). r.pass ≤ o.pass) others → (place : ℕ) → place < length others → r.pass ≤ (get_or others place d).pass
-    below [] k place m = absurd (omega arith)
-    below (o ∷ others) k zero m = k.0
-    below (o ∷ others) k (suc place) m = below others k.1 place (omega arith)
+first-below ranks h place d l = grind (arith, common_steps)
 
 pub less-rises : (least : ℕ) (ranks : List Rank) → HasRisingPasses ranks → HasRisingPasses (map (less least) ranks)
 less-rises least [] h = tt
-less-rises least (r ∷ ranks) h =
-    (all-map (λ (o : Rank). r.pass - least ≤ o.pass) (less least) ranks (all-weaker (λ (o : Rank). r.pass ≤ o.pass) (λ (o : Rank). r.pass - least ≤ o.pass - least) ranks (λ o k. omega arith) h.0), less-rises least ranks h.1)
+less-rises least (r ∷ ranks) h = search (rules, all-map, all-weaker, (less-rises least ranks h.1))
 
 less-ranks : (inputs pass : ℕ) (ranks : List Rank) → AllByRecursion (IsWonRank inputs pass) ranks → AllByRecursion (IsRankOf inputs) (from_least ranks)
-less-ranks inputs pass [] h = tt
-less-ranks inputs pass (r ∷ ranks) h =
-    all-map (IsRankOf inputs) (less r.pass) (r ∷ ranks)
-    (all-weaker (IsWonRank inputs pass) (λ (o : Rank). IsRankOf inputs (less r.pass o)) (r ∷ ranks) (λ o k. (k.0, let a = h.0.1 in let b = k.2 in omega (arith, a, b))) h)
+less-ranks inputs pass ranks h = search (rules, all-map, all-weaker)
 
 -- then the least pass is 0
 pub least-none : (ranks : List Rank) → first_pass (from_least ranks) ≡ 0
-least-none [] = refl
-least-none (r ∷ ranks) = omega arith
+least-none ranks = search rules
 
 pub less-none : (ranks : List Rank) → map (less 0) ranks ≡ ranks
 less-none [] = refl
@@ -239,25 +184,17 @@ win-least pass stride place row rises = first-least (after_win pass stride place
 
 -- a row of which the first so many are changed, and one more
 pub changed-read : {X : Type 0} (f : X → X) (n : ℕ) (xs : List X) (d : X) → get_or (map f (take n xs) ++ drop n xs) n d ≡ get_or xs n d
-changed-read f zero xs d = refl
-changed-read f (suc n) [] d = refl
-changed-read f (suc n) (x ∷ xs) d = changed-read f n xs d
+changed-read f n xs d = grind (arith, common_steps)
 
 pub changed-more : {X : Type 0} (f : X → X) (n : ℕ) (xs : List X) (d : X) → n < length xs → set (map f (take n xs) ++ drop n xs) n (f (get_or xs n d)) ≡ map f (take (suc n) xs) ++ drop (suc n) xs
 changed-more f n [] d l = absurd (omega arith)
 changed-more f zero (x ∷ xs) d l = refl
 changed-more f (suc n) (x ∷ xs) d l = ap (λ ys. f x ∷ ys) (changed-more f n xs d (omega arith))
 
-pub first-is : (row : List Rank) (d : Rank) → 0 < length row → (get_or row 0 d).pass ≡ first_pass row
-first-is [] d l = absurd (omega arith)
-first-is (r ∷ row) d l = refl
-
 -- the new row, in words of the row and the strides that it was made of
 pub win-from : (row now : List Rank) (strides read : List ℕ) (place input : ℕ) (d : Rank) (new : List Rank) → now ≡ row → read ≡ strides → input ≡ (get_or now place d).input
     → new ≡ after_win (get_or now place d).pass (get_or read input 0) place now → new ≡ after_win (get_or row place d).pass (get_or strides (get_or row place d).input 0) place row
-win-from row now strides read place input d new e f g h =
-    h ∙ ap (λ i. after_win (get_or now place d).pass (get_or read i 0) place now) g
-    ∙ ap₂ (λ (xs : List Rank) (ns : List ℕ). after_win (get_or xs place d).pass (get_or ns (get_or xs place d).input 0) place xs) e f
+win-from row now strides read place input d new e f g h = search
 
 -- Ranks that are in order rise by their passes.
 pub in_order-rises : (ranks : List Rank) → AreInOrder ranks → HasRisingPasses ranks
@@ -278,18 +215,11 @@ win-each pass stride (suc place) (r ∷ row) d l = ap (put_rank (at_pass pass r)
 pub in_order-front : (n : ℕ) (row : List Rank) → AreInOrder row → AreInOrder (take n row)
 in_order-front zero row h = tt
 in_order-front (suc n) [] h = tt
-in_order-front (suc n) (r ∷ row) h = (all-front n row h.0, in_order-front n row h.1)
-  where
-    all-front : (n : ℕ) (others : List Rank) → AllByRecursion (IsBefore r) others → AllByRecursion (IsBefore r) (take n others)
-    all-front zero others k = tt
-    all-front (suc n) [] k = tt
-    all-front (suc n) (o ∷ others) k = (k.0, all-front n others k.1)
+in_order-front (suc n) (r ∷ row) h = grind (arith, common_steps, (in_order-front n row h.1))
 
 -- what stands before a place and from it on, where the row was changed from there on
 pub front-kept : (n : ℕ) (row rest : List Rank) → n ≤ length row → (take n (take n row ++ rest) ≡ take n row) × (drop n (take n row ++ rest) ≡ rest)
-front-kept zero row rest l = (refl, refl)
-front-kept (suc n) [] rest l = absurd (omega arith)
-front-kept (suc n) (r ∷ row) rest l = let h = front-kept n row rest (omega arith) in (ap (λ xs. r ∷ xs) h.0, h.1)
+front-kept n row rest l = grind (arith, common_steps)
 
 -- Of ranks in order that have one pass the inputs rise by one at least.
 inputs-climb : (ranks : List Rank) (d : Rank) (k : ℕ) → AreInOrder ranks → length ranks ≡ suc k → (get_or ranks 0 d).pass ≡ (get_or ranks k d).pass → (get_or ranks 0 d).input + k ≤ (get_or ranks k d).input
@@ -298,9 +228,8 @@ inputs-climb (r ∷ ranks) d zero h l e = omega arith
 inputs-climb (r ∷ []) d (suc k) h l e = absurd (omega (arith, l))
 inputs-climb (r ∷ s ∷ ranks) d (suc k) h l e =
     let same = second-same r s ranks d k h (omega (arith, l)) e in
-    let first = h.0.0.1 (sym same) in
     let rest = inputs-climb (s ∷ ranks) d k h.1 (omega (arith, l)) (same ∙ e) in
-    omega (arith, first, rest)
+    omega (arith, rest)
 
 -- They follow one another where the last is so far behind the first.
 pub ends-follow : (ranks : List Rank) (d : Rank) (k : ℕ) → AreInOrder ranks → length ranks ≡ suc k → (get_or ranks 0 d).pass ≡ (get_or ranks k d).pass → (get_or ranks k d).input ≡ (get_or ranks 0 d).input + k → FollowOneAnother ranks
@@ -309,9 +238,8 @@ ends-follow (r ∷ []) d k h l e far = refl
 ends-follow (r ∷ s ∷ ranks) d zero h l e far = absurd (omega (arith, l))
 ends-follow (r ∷ s ∷ ranks) d (suc k) h l e far =
     let same = second-same r s ranks d k h (omega (arith, l)) e in
-    let first = h.0.0.1 (sym same) in
     let climb = inputs-climb (s ∷ ranks) d k h.1 (omega (arith, l)) (same ∙ e) in
-    let next : s.input ≡ r.input + 1 = omega (arith, first, climb, far) in
+    let next : s.input ≡ r.input + 1 = omega (arith, climb, far) in
     ap (λ is. r.input ∷ is) (ends-follow (s ∷ ranks) d k h.1 (omega (arith, l)) (same ∙ e) (omega (arith, next, far)) ∙ ap (λ n. range_with_len n (length (s ∷ ranks))) next)
 
 -- what is in order is so from a place on

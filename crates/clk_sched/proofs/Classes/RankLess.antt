@@ -1,10 +1,9 @@
 -- The ranks of a row in a pull: the winner's pass is subtracted before the winner is put in its place.
-use Rattle.std.proofs.Common.{◌≡◌, ℕ, zero, suc, ◌+◌, ◌-◌, ◌<◌, ◌≤◌, if◌then◌else◌, Bool, true, false, List, [], ◌∷◌, ◌++◌, length, map, take, drop, get_or, refl, sym, ap, ap₂, ◌∙◌, subst, arith, drop-cons, append-nil}
+use Rattle.std.proofs.Common.{◌≡◌, ℕ, zero, suc, ◌+◌, ◌-◌, ◌<◌, ◌≤◌, true, List, [], ◌∷◌, ◌++◌, length, map, take, drop, get_or, refl, sym, ap, ap₂, ◌∙◌, subst, arith, drop-cons, append-nil, rules}
 use Rattle.std.specs.List.{All, AllByRecursion}
 use Rattle.std.proofs.lemmas.List.Elements.{All-from_recursion}
 use Rattle.std.proofs.Math.ListN.{drop_of_length-le}
 use borrow.Rule.Slice.PartMut.{put_mid}
-use Rattle.std.proofs.lemmas.Bool.Decides.{nat_tests}
 use Rattle.std.proofs.lemmas.List.{drop-drop, length-append, length-drop, length-map, length-take-le}
 use Rattle.clk_sched.specs.declared.session.stride.Rank.{Rank}
 use Rattle.clk_sched.specs.inside.Ranks.{HasRisingPasses, AreInOrder, AreUpTo, is_up_to, put_rank, at_pass, after_win, first_pass, from_least, less}
@@ -13,22 +12,11 @@ use Rattle.clk_sched.proofs.Classes.RankMerge.{in_order-up}
 
 -- Subtracting as much from all passes changes no order.
 up-less : (least : ℕ) (r o : Rank) → least ≤ r.pass → least ≤ o.pass → is_up_to r o ≡ is_up_to (less least r) (less least o)
-up-less least r o l m = by_test (is_up_to r o) refl
-  where
-    by_test : (b : Bool) → is_up_to r o ≡ b → b ≡ is_up_to (less least r) (less least o)
-    by_test true e = grind (arith, nat_tests)
-    by_test false e = grind (arith, nat_tests)
+up-less least r o l m = search rules
 
 less-put : (least : ℕ) (r : Rank) (others : List Rank) → least ≤ r.pass → AllByRecursion (λ (o : Rank). least ≤ o.pass) others → map (less least) (put_rank r others) ≡ put_rank (less least r) (map (less least) others)
 less-put least r [] l h = refl
-less-put least r (o ∷ others) l h =
-    by_test (is_up_to r o) (less-put least r others l h.1)
-    ∙ ap (λ b. if b then less least r ∷ less least o ∷ map (less least) others else less least o ∷ put_rank (less least r) (map (less least) others)) (up-less least r o l h.0)
-  where
-    by_test : (b : Bool) → map (less least) (put_rank r others) ≡ put_rank (less least r) (map (less least) others)
-        → map (less least) (if b then r ∷ o ∷ others else o ∷ put_rank r others) ≡ (if b then less least r ∷ less least o ∷ map (less least) others else less least o ∷ put_rank (less least r) (map (less least) others))
-    by_test true rest = refl
-    by_test false rest = ap (λ xs. less least o ∷ xs) rest
+less-put least r (o ∷ others) l h = search (rules, up-less, (less-put least r others l h.1))
 
 pub less-up : (least : ℕ) (ranks : List Rank) → AllByRecursion (λ (o : Rank). least ≤ o.pass) ranks → AreUpTo ranks → AreUpTo (map (less least) ranks)
 less-up least [] l h = tt
@@ -49,12 +37,8 @@ less-win : (pass stride place : ℕ) (row : List Rank) → AllByRecursion (λ (r
     → map (less pass) (after_win pass stride place row) ≡ after_win 0 stride place (take place row ++ map (less pass) (drop place row))
 less-win pass stride zero [] h = refl
 less-win pass stride (suc place) [] h = refl
-less-win pass stride zero (r ∷ others) h =
-    less-put pass (at_pass (pass + stride) r) others (omega arith) h
-    ∙ ap (λ n. put_rank (at_pass n r) (map (less pass) others)) (let same : pass + stride - pass ≡ 0 + stride = omega arith in same)
-less-win pass stride (suc place) (r ∷ others) h =
-    less-put pass (at_pass pass r) (after_win pass stride place others) (omega arith) (all-least pass stride place others h)
-    ∙ ap₂ (λ n xs. put_rank (at_pass n r) xs) (let none : pass - pass ≡ 0 = omega arith in none) (less-win pass stride place others h)
+less-win pass stride zero (r ∷ others) h = search (rules, less-put)
+less-win pass stride (suc place) (r ∷ others) h = search (rules, less-put, all-least, (less-win pass stride place others h))
 
 -- What was subtracted before is subtracted from the least too.
 less-again : (least : ℕ) (ranks : List Rank) → least ≤ first_pass ranks → from_least (map (less least) ranks) ≡ from_least ranks
@@ -66,13 +50,11 @@ less-again least (r ∷ ranks) l = both (r ∷ ranks)
     both (x ∷ xs) = ap₂ (λ y ys. y ∷ ys) (ap (λ pass. at_pass pass x) (let same : x.pass - least - (r.pass - least) ≡ x.pass - r.pass = omega (arith, l) in same)) (both xs)
 
 first-holds : (least : ℕ) (ranks : List Rank) → 0 < length ranks → AllByRecursion (λ (r : Rank). least ≤ r.pass) ranks → least ≤ first_pass ranks
-first-holds least [] l h = absurd (omega arith)
-first-holds least (r ∷ ranks) l h = h.0
+first-holds least ranks l h = search rules
 
 win-some : (pass stride place : ℕ) (row : List Rank) → place < length row → 0 < length (after_win pass stride place row)
 win-some pass stride place [] l = absurd (omega arith)
-win-some pass stride zero (r ∷ others) l = put-some (at_pass (pass + stride) r) others
-win-some pass stride (suc place) (r ∷ others) l = put-some (at_pass pass r) (after_win pass stride place others)
+win-some pass stride place (r ∷ others) l = search (rules, put-some)
 
 -- the row of which the winner's pass was subtracted from its place on
 abbrev pub taken_from : ℕ → ℕ → List Rank → List Rank
@@ -113,9 +95,7 @@ taken pass stride place row d l e order =
 
 -- the same row, as a slice that was changed from a place on
 pub taken-slice : (pass place : ℕ) (row less_now : List Rank) → less_now ≡ map (less pass) (take (length row - place) (drop place row)) → put_mid place (length row - place) row less_now ≡ taken_from pass place row
-taken-slice pass place row less_now e =
-    ap₂ (λ xs ys. take place row ++ (xs ++ ys)) (e ∙ ap (map (less pass)) (after-place row place)) (drop_of_length-le (drop place row) (let size = length-drop place row in omega (arith, size)))
-    ∙ ap (λ xs. take place row ++ xs) (append-nil (map (less pass) (drop place row)))
+taken-slice pass place row less_now e = search (rules, after-place, drop_of_length-le, length-drop, append-nil)
 
 -- No rank from a place on has a lower pass than the one there.
 pub none-lower : (row : List Rank) (place : ℕ) (d : Rank) → place < length row → AreInOrder row → All (λ (r : Rank). (get_or row place d).pass ≤ r.pass) (take (length row - place) (drop place row))

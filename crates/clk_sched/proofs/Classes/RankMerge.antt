@@ -1,7 +1,7 @@
 -- Ranks in order that are put among others in order: it makes no difference which are put first.
-use Rattle.std.proofs.Common.{◌≡◌, ℕ, zero, suc, ◌+◌, ◌-◌, ◌<◌, ◌≤◌, if◌then◌else◌, Bool, true, false, List, [], ◌∷◌, ◌++◌, length, map, take, drop, set, get_or, refl, sym, ap, ap₂, ◌∙◌, subst, append_assoc, arith}
+use Rattle.std.proofs.lemmas.Grind.{common_steps}
+use Rattle.std.proofs.Common.{◌≡◌, ℕ, zero, suc, ◌+◌, ◌-◌, ◌<◌, ◌≤◌, if◌then◌else◌, Bool, true, false, List, [], ◌∷◌, ◌++◌, length, map, take, drop, set, get_or, refl, sym, ap, ap₂, ◌∙◌, subst, append_assoc, arith, rules}
 use Rattle.std.specs.List.{AllByRecursion}
-use Rattle.std.proofs.lemmas.Bool.Decides.{nat_tests}
 use Rattle.std.proofs.Math.Seq.{paste, take-add}
 use Rattle.std.proofs.lemmas.List.{length-append, length-take-le, drop-take, take-append-drop}
 use Rattle.clk_sched.specs.declared.session.stride.Rank.{Rank}
@@ -44,34 +44,15 @@ put-among r (s ∷ ranks) others = by_test (is_up_to r s) (put-among r ranks oth
     by_test false rest = ap (put_rank s) rest
 
 pub up-then : (r s o : Rank) → is_up_to r s ≡ true → is_up_to s o ≡ true → is_up_to r o ≡ true
-up-then r s o e f = by_test (is_up_to r o) refl
-  where
-    by_test : (b : Bool) → is_up_to r o ≡ b → b ≡ true
-    by_test true g = refl
-    by_test false g = absurd (grind (arith, nat_tests))
-
-up-other : (r s : Rank) → is_up_to r s ≡ false → is_up_to s r ≡ true
-up-other r s e = by_test (is_up_to s r) refl
-  where
-    by_test : (b : Bool) → is_up_to s r ≡ b → b ≡ true
-    by_test true g = refl
-    by_test false g = absurd (grind (arith, nat_tests))
+up-then r s o e f = search rules
 
 -- Ranks that are in order stay so when one is put among them.
 pub put-up : (r : Rank) (others : List Rank) → AreUpTo others → AreUpTo (put_rank r others)
 put-up r [] h = (tt, tt)
-put-up r (s ∷ others) h = by_test (is_up_to r s) refl (put-up r others h.1)
-  where
-    by_test : (b : Bool) → is_up_to r s ≡ b → AreUpTo (put_rank r others) → AreUpTo (if b then r ∷ s ∷ others else s ∷ put_rank r others)
-    by_test true e rest = ((e, all-weaker (λ o. is_up_to s o ≡ true) (λ o. is_up_to r o ≡ true) others (λ o k. up-then r s o e k) h.0), h)
-    by_test false e rest = (put-holds (λ o. is_up_to s o ≡ true) r others (up-other r s e) h.0, rest)
+put-up r (s ∷ others) h = search (rules, all-weaker, up-then, put-holds, (put-up r others h.1))
 
 before-up : (r s : Rank) → IsBefore r s → is_up_to r s ≡ true
-before-up r s h = by_test (is_up_to r s) refl
-  where
-    by_test : (b : Bool) → is_up_to r s ≡ b → b ≡ true
-    by_test true g = refl
-    by_test false g = absurd (let l = h.0 in let same : r.pass ≡ s.pass = grind (arith, nat_tests, l, g) in let i = h.1 same in grind (arith, nat_tests, g, i, same))
+before-up r s h = grind arith
 
 pub in_order-up : (ranks : List Rank) → AreInOrder ranks → AreUpTo ranks
 in_order-up [] h = tt
@@ -92,18 +73,11 @@ all-stay (r ∷ s ∷ ranks) others d (suc k) l h last = ap (put_rank r) (all-st
 
 pub put-size : (r : Rank) (others : List Rank) → length (put_rank r others) ≡ suc (length others)
 put-size r [] = refl
-put-size r (o ∷ others) = by_test (is_up_to r o) (put-size r others)
-  where
-    by_test : (b : Bool) → length (put_rank r others) ≡ suc (length others) → length (if b then r ∷ o ∷ others else o ∷ put_rank r others) ≡ suc (suc (length others))
-    by_test true rest = refl
-    by_test false rest = ap suc rest
+put-size r (o ∷ others) = search (rules, (put-size r others))
 
 -- two lists, one after the other
 pub parts : (n : ℕ) (xs ys : List Rank) → length xs ≡ n → (take n (xs ++ ys) ≡ xs) × (drop n (xs ++ ys) ≡ ys)
-parts zero [] ys l = (refl, refl)
-parts zero (x ∷ xs) ys l = absurd (omega (arith, l))
-parts (suc n) [] ys l = absurd (omega (arith, l))
-parts (suc n) (x ∷ xs) ys l = let h = parts n xs ys (omega (arith, l)) in (ap (λ zs. x ∷ zs) h.0, h.1)
+parts n xs ys l = grind (arith, common_steps)
 
 -- The ranks before a place and those from it on are in order, and give these when the former are put among the latter.
 pub record AreMerging (target row : List Rank) (place : ℕ) : Type 0 where
@@ -164,10 +138,7 @@ put-fronted r row from before l m put =
     rest = ap (λ n. drop before (take n row)) whole ∙ drop-take before moved row
 
 get-front : (n k : ℕ) (row : List Rank) (d : Rank) → k < n → get_or (take n row) k d ≡ get_or row k d
-get-front zero k row d l = absurd (omega arith)
-get-front (suc n) k [] d l = refl
-get-front (suc n) zero (x ∷ row) d l = refl
-get-front (suc n) (suc k) (x ∷ row) d l = get-front n k row d (omega arith)
+get-front n k row d l = grind (arith, common_steps)
 
 -- No rank is left that stands before the last of those before the place.
 pub merging-end : (target row : List Rank) (place k : ℕ) (d : Rank) → place ≡ suc k → place ≤ length row → put_rank (get_or row k d) (drop place row) ≡ get_or row k d ∷ drop place row → AreMerging target row place → row ≡ target
@@ -175,12 +146,6 @@ merging-end target row place k d after l last h =
     sym (take-append-drop place row)
     ∙ sym (all-stay (take place row) (drop place row) d k (length-take-le place row l ∙ after) h.front (subst (λ r. put_rank r (drop place row) ≡ r ∷ drop place row) (sym (get-front place k row d (omega (arith, after)))) last))
     ∙ h.same
-
--- None stands before the winner.
-pub win-alone : (pass stride place : ℕ) (row : List Rank) (d : Rank) → place < length row → place ≡ 0 → after_win pass stride place row ≡ take place row ++ put_rank (at_pass (pass + stride) (get_or row place d)) (drop (place + 1) row)
-win-alone pass stride place [] d l e = absurd (omega arith)
-win-alone pass stride zero (r ∷ row) d l e = refl
-win-alone pass stride (suc place) (r ∷ row) d l e = absurd (omega (arith, e))
 
 -- The winner of a row was put in its place, and those before it have 0.
 pub record IsPassed (stride place : ℕ) (row now : List Rank) : Type 0 where

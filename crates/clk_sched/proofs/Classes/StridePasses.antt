@@ -1,6 +1,7 @@
 -- What the row of a StrideSched holds: before the first pull, after a pull that an input won, and after one that none won.
-use Rattle.std.proofs.Common.{◌≡◌, ◌≢◌, ℕ, nat_lt, zero, suc, ◌+◌, ◌-◌, ◌<◌, ◌≤◌, ◌==◌, ◌||◌, if◌then◌else◌, inl, inr, Bool, true, false, List, [], ◌∷◌, length, map, take, drop, get_or, Some, None, slice_get, unwrap_or, refl, sym, ap, ap₂, ◌∙◌, subst, arith}
-use Rattle.std.specs.List.{enumerate_from, range_with_len, list_any, All, AllByRecursion}
+use Rattle.std.proofs.lemmas.Grind.{common_steps, elements}
+use Rattle.std.proofs.Common.{◌≡◌, ◌≢◌, ℕ, zero, suc, ◌+◌, ◌-◌, ◌<◌, ◌≤◌, ◌==◌, ◌||◌, if◌then◌else◌, inl, inr, Bool, true, false, List, [], ◌∷◌, length, map, take, drop, get_or, Some, slice_get, refl, sym, ap, ap₂, ◌∙◌, subst, arith, rules}
+use Rattle.std.specs.List.{enumerate_from, range_with_len, list_any, AllByRecursion}
 use Rattle.std.proofs.lemmas.List.{length-map}
 use Rattle.std.proofs.lemmas.List.FromFn.{length-enumerate_from}
 use Rattle.std.proofs.lemmas.Bool.Decides.{nat_tests}
@@ -10,7 +11,7 @@ use Rattle.clk_sched.specs.declared.session.stride.Rank.{Rank}
 use Rattle.clk_sched.specs.declared.session.stride.Passes.{Passes}
 use Rattle.clk_sched.specs.Turns.{Turn, giver}
 use Rattle.clk_sched.specs.Laws.Stride.{stride_of, stride_at, pass_in, visits_input, passes_after, passes_of, put_in_order, in_rising_order, stride_order}
-use Rattle.clk_sched.specs.inside.Ranks.{with_pass, greatest_stride, IsRankOf, HasRisingPasses, IsBefore, AreInOrder, is_up_to, put_rank, at_pass, after_win, first_pass, from_least, first_rank, less}
+use Rattle.clk_sched.specs.inside.Ranks.{with_pass, greatest_stride, IsRankOf, HasRisingPasses, AreInOrder, put_rank, at_pass, after_win, first_pass, from_least, first_rank, less}
 use Rattle.clk_sched.specs.inside.Holds.Stride.{HoldsPasses}
 use Rattle.clk_packet.specs.Lists.{In}
 use Rattle.clk_sched.proofs.Lists.Members.{of-all, to-all, any-in, all-weaker, in-slice}
@@ -18,28 +19,12 @@ use Rattle.clk_sched.specs.inside.Pulling.{AreApart}
 use Rattle.clk_sched.proofs.Lists.Apart.{all-map}
 use Rattle.clk_sched.proofs.Classes.Orders.{paired_input, rising-apart, enumerated, passes-length}
 use Rattle.clk_sched.proofs.Classes.Enumerated.{enumerated-at}
-use Rattle.clk_sched.proofs.Lists.Rising.{up_to, put-first, put-later, IsInOrder, rising-is, rising-same, rising-length, mapped-rising, ordered-in}
+use Rattle.clk_sched.proofs.Lists.Rising.{put-first, IsInOrder, rising-is, rising-same, rising-length, mapped-rising, ordered-in}
 use Rattle.clk_sched.proofs.Classes.RankLemmas.{win-least}
-
--- a rank that is put among others, as a pair among pairs
-same-order : (taken : ℕ) (r other : Rank) → is_up_to r other ≡ up_to (with_pass taken r) (with_pass taken other)
-same-order taken r other = by_test (is_up_to r other) refl
-  where
-    by_test : (b : Bool) → is_up_to r other ≡ b → b ≡ up_to (with_pass taken r) (with_pass taken other)
-    by_test true e = grind (arith, nat_tests)
-    by_test false e = grind (arith, nat_tests)
 
 pub put-pairs : (taken : ℕ) (r : Rank) (others : List Rank) → map (with_pass taken) (put_rank r others) ≡ put_in_order (with_pass taken r) (map (with_pass taken) others)
 put-pairs taken r [] = refl
-put-pairs taken r (other ∷ others) =
-    by_test (is_up_to r other) (put-pairs taken r others)
-    ∙ ap (λ b. if b then with_pass taken r ∷ with_pass taken other ∷ map (with_pass taken) others else with_pass taken other ∷ put_in_order (with_pass taken r) (map (with_pass taken) others)) (same-order taken r other)
-  where
-    by_test : (b : Bool) → map (with_pass taken) (put_rank r others) ≡ put_in_order (with_pass taken r) (map (with_pass taken) others)
-        → map (with_pass taken) (if b then r ∷ other ∷ others else other ∷ put_rank r others)
-        ≡ (if b then with_pass taken r ∷ with_pass taken other ∷ map (with_pass taken) others else with_pass taken other ∷ put_in_order (with_pass taken r) (map (with_pass taken) others))
-    by_test true rest = refl
-    by_test false rest = ap (λ pairs. with_pass taken other ∷ pairs) rest
+put-pairs taken r (other ∷ others) = search (rules, (put-pairs taken r others))
 
 -- what is taken from each pass is added again
 taken-more : (taken least : ℕ) (ranks : List Rank) → AllByRecursion (λ (r : Rank). least ≤ r.pass) ranks → map (with_pass (taken + least)) (map (less least) ranks) ≡ map (with_pass taken) ranks
@@ -60,11 +45,8 @@ moved-rising : (f : ℕ × ℕ → ℕ × ℕ) (taken pass stride place : ℕ) (
     → map (with_pass taken) (after_win pass stride place row) ≡ in_rising_order (map f (map (with_pass taken) row))
 moved-rising f taken pass stride zero [] h order = refl
 moved-rising f taken pass stride (suc place) [] h order = refl
-moved-rising f taken pass stride zero (r ∷ others) h order =
-    put-pairs taken (at_pass (pass + stride) r) others
-    ∙ ap₂ put_in_order (sym h.0) (sym (ap in_rising_order (fixed f taken others h.1) ∙ rising-same (map (with_pass taken) others) order.1))
-moved-rising f taken pass stride (suc place) (r ∷ others) h order =
-    put-pairs taken (at_pass pass r) (after_win pass stride place others) ∙ ap₂ put_in_order (sym h.0) (moved-rising f taken pass stride place others h.1 order.1)
+moved-rising f taken pass stride zero (r ∷ others) h order = search (rules, put-pairs, fixed, rising-same)
+moved-rising f taken pass stride (suc place) (r ∷ others) h order = search (rules, put-pairs, (moved-rising f taken pass stride place others h.1 order.1))
 
 -- the change that a pull makes, by the winner, its stride, the pass that it had, and whether an input was visited
 abbrev moved : ℕ → ℕ → ℕ → (ℕ → Bool) → ℕ × ℕ → ℕ × ℕ
@@ -74,26 +56,7 @@ moved-ranks : (taken stride w place : ℕ) (visited : ℕ → Bool) (row : List 
     → ((i : ℕ) → In i (take (suc place) (map (λ (r : Rank). r.input) row)) → visited i ≡ true) → AllByRecursion (λ (r : Rank). visited r.input ≡ false) (drop (suc place) row)
     → (pass : ℕ) → (get_or row place d).pass ≡ pass → AreMoved (moved w stride (pass + taken) visited) taken pass stride place row
 moved-ranks taken stride w place visited [] d at apart front behind pass e = tt
-moved-ranks taken stride w zero visited (r ∷ others) d at apart front behind pass e = (
-  ap (λ (b : Bool). (r.input, if b then r.pass + taken + stride else (if visited r.input then pass + taken else r.pass + taken))) here
-      ∙ ap (λ n. (r.input, n)) (let sum : r.pass + taken + stride ≡ pass + stride + taken = omega arith in sum),
-  to-all (λ (o : Rank). moved w stride (pass + taken) visited (with_pass taken o) ≡ with_pass taken o) others (λ o m. after o (of-all (λ (y : Rank). y.input ≢ r.input) o others apart.0 m) (of-all (λ (y : Rank). visited y.input ≡ false) o others behind m)),
-)
-  where
-    is : r.input ≡ w
-    is = ap (λ o. unwrap_or o 0) at
-
-    here : (r.input == w) ≡ true
-    here = grind (arith, nat_tests)
-
-    after : (o : Rank) → o.input ≢ r.input → visited o.input ≡ false → moved w stride (pass + taken) visited (with_pass taken o) ≡ with_pass taken o
-    after o differs none =
-        let other : (o.input == w) ≡ false = by_test (o.input == w) refl in
-        ap₂ (λ (a b : Bool). (o.input, if a then o.pass + taken + stride else (if b then pass + taken else o.pass + taken))) other none
-      where
-        by_test : (b : Bool) → (o.input == w) ≡ b → b ≡ false
-        by_test true t = absurd (differs (let same : o.input ≡ w = grind (arith, nat_tests) in same ∙ sym is))
-        by_test false t = refl
+moved-ranks taken stride w zero visited (r ∷ others) d at apart front behind pass e = search (rules, to-all, of-all)
 moved-ranks taken stride w (suc place) visited (r ∷ others) d at apart front behind pass e = (
   ap₂ (λ (a b : Bool). (r.input, if a then r.pass + taken + stride else (if b then pass + taken else r.pass + taken))) other (front r.input (inl refl)),
   moved-ranks taken stride w place visited others d at apart.1 (λ i m. front i (inr m)) behind pass e,
@@ -103,11 +66,7 @@ moved-ranks taken stride w (suc place) visited (r ∷ others) d at apart front b
     differs = of-all (λ n. n ≢ r.input) w (map (λ (o : Rank). o.input) others) (all-map (λ n. n ≢ r.input) (λ (o : Rank). o.input) others apart.0) (in-slice (map (λ (o : Rank). o.input) others) place w at)
 
     other : (r.input == w) ≡ false
-    other = by_test (r.input == w) refl
-      where
-        by_test : (b : Bool) → (r.input == w) ≡ b → b ≡ false
-        by_test true t = absurd (differs (let same : w ≡ r.input = grind (arith, nat_tests) in same))
-        by_test false t = refl
+    other = search (rules, differs)
 
 -- of inputs that differ, those after a place stand in no part before it
 all-drop_both : (P Q : Rank → Type 0) (n : ℕ) (ranks : List Rank) → AllByRecursion P ranks → AllByRecursion Q (drop n ranks) → AllByRecursion (λ r. P r × Q r) (drop n ranks)
@@ -122,14 +81,10 @@ apart-none zero row h = to-all (λ (r : Rank). list_any (λ j. j == r.input) [] 
 apart-none (suc n) [] h = tt
 apart-none (suc n) (o ∷ row) h =
     all-weaker (λ (r : Rank). (r.input ≢ o.input) × (list_any (λ j. j == r.input) inputs ≡ false)) (λ (r : Rank). ((o.input == r.input) || list_any (λ j. j == r.input) inputs) ≡ false) (drop n row)
-    (λ r k. by_test r (o.input == r.input) refl k.0 k.1) (all-drop_both (λ (r : Rank). r.input ≢ o.input) (λ (r : Rank). list_any (λ j. j == r.input) inputs ≡ false) n row h.0 (apart-none n row h.1))
+    (λ r k. search rules) (all-drop_both (λ (r : Rank). r.input ≢ o.input) (λ (r : Rank). list_any (λ j. j == r.input) inputs ≡ false) n row h.0 (apart-none n row h.1))
   where
     inputs : List ℕ
     inputs = take n (map (λ (r : Rank). r.input) row)
-
-    by_test : (r : Rank) (b : Bool) → (o.input == r.input) ≡ b → r.input ≢ o.input → list_any (λ j. j == r.input) inputs ≡ false → (b || list_any (λ j. j == r.input) inputs) ≡ false
-    by_test r true e differs none = absurd (differs (let same : r.input ≡ o.input = grind (arith, nat_tests) in same))
-    by_test r false e differs none = none
 
 any-map : {X Y : Type 0} (test : Y → Bool) (f : X → Y) (xs : List X) → list_any test (map f xs) ≡ list_any (λ x. test (f x)) xs
 any-map test f [] = refl
@@ -146,43 +101,16 @@ apart-ranks taken (r ∷ row) h = (unmapped row h.0, apart-ranks taken row h.1)
 
 -- no input has two ranks
 row-apart : (tickets : List ℕ) (turns : List Turn) (taken : ℕ) (row : List Rank) → map (with_pass taken) row ≡ in_rising_order (enumerate_from 0 (passes_of tickets turns)) → AreApart (λ (r : Rank). r.input) row
-row-apart tickets turns taken row is =
-    let passes = passes_of tickets turns in
-    apart-ranks taken row (subst (AreApart paired_input) (sym is) (rising-apart (enumerate_from 0 passes) (enumerated 0 (length passes) passes (omega arith)).1))
-
--- A rank whose pair stands before that of another input stands before its rank.
-next-before : (taken : ℕ) (r s : Rank) (others : List (ℕ × ℕ)) → put_in_order (with_pass taken r) (with_pass taken s ∷ others) ≡ with_pass taken r ∷ with_pass taken s ∷ others → s.input ≢ r.input → IsBefore r s
-next-before taken r s others e differs = (grind (arith, nat_tests, before), λ same. by_input same (nat_lt r.input s.input) refl)
-  where
-    by_order : (b : Bool) → up_to (with_pass taken r) (with_pass taken s) ≡ b → b ≡ true
-    by_order true f = refl
-    by_order false f = absurd (differs (ap (λ (xs : List (ℕ × ℕ)). (get_or xs 0 (0, 0)).0) (sym (put-later (with_pass taken r) (with_pass taken s) others f) ∙ e)))
-
-    before : up_to (with_pass taken r) (with_pass taken s) ≡ true
-    before = by_order (up_to (with_pass taken r) (with_pass taken s)) refl
-
-    by_input : r.pass ≡ s.pass → (b : Bool) → nat_lt r.input s.input ≡ b → r.input < s.input
-    by_input same true f = grind (arith, nat_tests, f)
-    by_input same false f = absurd (differs (let equal : s.input ≡ r.input = grind (arith, nat_tests, before, same, f) in equal))
+row-apart tickets turns taken row is = search (rules, apart-ranks, rising-apart, enumerated)
 
 ranks-in_order : (taken : ℕ) (row : List Rank) → IsInOrder (map (with_pass taken) row) → AreApart (λ (r : Rank). r.input) row → AreInOrder row
 ranks-in_order taken [] order apart = tt
 ranks-in_order taken (r ∷ []) order apart = (tt, tt)
-ranks-in_order taken (r ∷ s ∷ row) order apart =
-    let rest = ranks-in_order taken (s ∷ row) order.1 apart.1 in
-    let first = next-before taken r s (map (with_pass taken) row) order.0 apart.0.0 in
-    ((first, all-weaker (IsBefore s) (IsBefore r) row (λ o k. later o first k) rest.0), rest)
-  where
-    later : (o : Rank) → IsBefore r s → IsBefore s o → IsBefore r o
-    later o h k =
-        let a = h.0 in
-        let b = k.0 in
-        (omega (arith, a, b), λ e. let i = h.1 (omega (arith, a, b, e)) in let j = k.1 (omega (arith, a, b, e)) in omega (arith, i, j))
+ranks-in_order taken (r ∷ s ∷ row) order apart = search (rules, all-weaker, (ranks-in_order taken (s ∷ row) order.1 apart.1))
 
 -- The row that is held is in order.
 pub row-in_order : (tickets : List ℕ) (turns : List Turn) (p : Passes) → HoldsPasses tickets turns p → AreInOrder p.row.items
-row-in_order tickets turns p holds =
-    ranks-in_order holds.taken p.row.items (subst IsInOrder (sym holds.row_is) (rising-is (enumerate_from 0 (passes_of tickets turns)))) (row-apart tickets turns holds.taken p.row.items holds.row_is)
+row-in_order tickets turns p holds = search (rules, ranks-in_order, rising-is, row-apart)
 
 -- the rank at a place
 in-pairs : (taken place : ℕ) (row : List Rank) (d : Rank) → place < length row → In (with_pass taken (get_or row place d)) (map (with_pass taken) row)
@@ -191,14 +119,10 @@ in-pairs taken zero (r ∷ row) d l = inl refl
 in-pairs taken (suc place) (r ∷ row) d l = inr (in-pairs taken place row d (omega arith))
 
 pub input-at : (place : ℕ) (row : List Rank) (d : Rank) → place < length row → slice_get (map (λ (r : Rank). r.input) row) place ≡ Some (get_or row place d).input
-input-at place [] d l = absurd (omega arith)
-input-at zero (r ∷ row) d l = refl
-input-at (suc place) (r ∷ row) d l = input-at place row d (omega arith)
+input-at place row d l = grind (arith, common_steps, elements, nat_tests)
 
 stride-read : (tickets : List ℕ) (w d : ℕ) → w < length tickets → get_or (map stride_of tickets) w d ≡ stride_at tickets w
-stride-read [] w d l = absurd (omega arith)
-stride-read (t ∷ tickets) zero d l = refl
-stride-read (t ∷ tickets) (suc w) d l = stride-read tickets w d (omega arith)
+stride-read tickets w d l = grind (arith, common_steps, elements, nat_tests)
 
 -- passes that are changed, with their inputs
 enumerated-again : (h : ℕ × ℕ → ℕ) (n : ℕ) (passes : List ℕ) → enumerate_from n (map h (enumerate_from n passes)) ≡ map (λ (i : ℕ × ℕ). (i.0, h i)) (enumerate_from n passes)
@@ -207,8 +131,7 @@ enumerated-again h n (p ∷ passes) = ap (λ pairs. (n, h (n, p)) ∷ pairs) (en
 
 passes-moved : (tickets passes : List ℕ) (t : Turn) (w : ℕ) → giver t.visits ≡ Some w
     → enumerate_from 0 (passes_after tickets passes t) ≡ map (moved w (stride_at tickets w) (pass_in passes w) (λ i. visits_input i t.visits)) (enumerate_from 0 passes)
-passes-moved tickets passes t w e =
-    rw e (enumerated-again (λ (i : ℕ × ℕ). if i.0 == w then i.1 + stride_at tickets w else (if visits_input i.0 t.visits then pass_in passes w else i.1)) 0 passes)
+passes-moved tickets passes t w e = search (rules, enumerated-again)
 
 -- what is known where an input won: the row and its place there, and what was visited
 record IsWin (tickets : List ℕ) (turns : List Turn) (t : Turn) (taken place : ℕ) (row : List Rank) (d : Rank) : Type 0 where
@@ -298,31 +221,13 @@ passes-won tickets turns t p q place d holds l rises visits gives pass stride pa
     won = after_win pass stride place p.row.items
 
     win : IsWin tickets turns t holds.taken place p.row.items d
-    win =
-        record {
-          within = l;
-          row_is = holds.row_is;
-          visited = visits ∙ ap (λ n. take n (map (λ (o : Rank). o.input) p.row.items)) (let next : place + 1 ≡ suc place = omega arith in next);
-          won = gives ∙ input-at place p.row.items d l;
-        }
+    win = search (rules, input-at, won)
 
     stride_at_is : stride ≡ stride_at tickets r.input
     stride_at_is = stride_is ∙ ap (λ xs. get_or xs r.input 0) holds.strides_are ∙ stride-read tickets r.input 0 (winner tickets turns t holds.taken place p.row.items d win).has_tickets
 
     won_is : map (with_pass holds.taken) won ≡ in_rising_order (enumerate_from 0 (passes_of tickets (t ∷ turns)))
     won_is = ap₂ (λ a b. map (with_pass holds.taken) (after_win a b place p.row.items)) pass_is stride_at_is ∙ won-row tickets turns t holds.taken place p.row.items d win
-
--- A pull that none won changes nothing.
-pub passes-none : (tickets : List ℕ) (turns : List Turn) (t : Turn) (p : Passes) → HoldsPasses tickets turns p → giver t.visits ≡ None → HoldsPasses tickets (t ∷ turns) p
-passes-none tickets turns t p holds e =
-    record {
-      taken = holds.taken;
-      strides_are = holds.strides_are;
-      row_is = holds.row_is ∙ ap (λ passes. in_rising_order (enumerate_from 0 passes)) (sym none);
-    }
-  where
-    none : passes_of tickets (t ∷ turns) ≡ passes_of tickets turns
-    none = rw e refl
 
 -- The row is in the order in which a StrideSched asks.
 pub order-is : (tickets : List ℕ) (turns : List Turn) (p : Passes) → HoldsPasses tickets turns p → map (λ (r : Rank). r.input) p.row.items ≡ stride_order tickets turns
@@ -332,14 +237,9 @@ order-is tickets turns p holds = firsts p.row.items ∙ ap (map (λ (i : ℕ × 
     firsts [] = refl
     firsts (r ∷ row) = ap (λ xs. r.input ∷ xs) (firsts row)
 
--- each input has one rank, and each rank is of an input that there is
-pub inputs-within : (tickets : List ℕ) (turns : List Turn) (p : Passes) → HoldsPasses tickets turns p → All (λ (r : Rank). r.input < length tickets) p.row.items
-inputs-within tickets turns p holds k d l = let same = ap length holds.strides_are ∙ length-map tickets stride_of in let within = (p.ranks k d l).0 in omega (arith, same, within)
-
+-- each input has one rank
 pub inputs-all : (tickets : List ℕ) (turns : List Turn) (p : Passes) → HoldsPasses tickets turns p → length p.row.items ≡ length tickets
-inputs-all tickets turns p holds =
-    sym (length-map p.row.items (with_pass holds.taken)) ∙ ap length holds.row_is ∙ rising-length (enumerate_from 0 (passes_of tickets turns))
-    ∙ length-enumerate_from 0 (passes_of tickets turns) ∙ passes-length tickets turns
+inputs-all tickets turns p holds = search (rules, length-map, rising-length, length-enumerate_from, passes-length)
 
 -- before the first pull
 first-pairs : (n : ℕ) (tickets : List ℕ) → map (with_pass 0) (map first_rank (range_with_len n (length tickets))) ≡ enumerate_from n (map (λ _. 0) tickets)
@@ -355,28 +255,18 @@ first-order n (t ∷ tickets) = (first n tickets, first-order (n + 1) tickets)
     first n (o ∷ others) = put-first (n, 0) (n + 1, 0) (enumerate_from (n + 1 + 1) (map (λ _. 0) others)) (grind (arith, nat_tests))
 
 pub passes-first : (tickets : List ℕ) (p : Passes) → p.strides.items ≡ map stride_of tickets → p.row.items ≡ map first_rank (range_with_len 0 (length tickets)) → HoldsPasses tickets [] p
-passes-first tickets p strides row =
-    record {
-      taken = 0;
-      strides_are = strides;
-      row_is = ap (map (with_pass 0)) row ∙ first-pairs 0 tickets ∙ sym (rising-same (enumerate_from 0 (map (λ _. 0) tickets)) (first-order 0 tickets));
-    }
+passes-first tickets p strides row = search (rules, first-pairs, rising-same, first-order)
 
 pub first-ranks : (n count inputs : ℕ) → n + count ≤ inputs → AllByRecursion (IsRankOf inputs) (map first_rank (range_with_len n count))
 first-ranks n zero inputs l = tt
 first-ranks n (suc count) inputs l = ((omega arith, omega arith), first-ranks (n + 1) count inputs (omega arith))
 
 pub first-least : (n count : ℕ) → first_pass (map first_rank (range_with_len n count)) ≡ 0
-first-least n zero = refl
-first-least n (suc count) = refl
+first-least n count = search rules
 
 pub first-rises : (n count : ℕ) → HasRisingPasses (map first_rank (range_with_len n count))
 first-rises n zero = tt
-first-rises n (suc count) = (none (n + 1) count, first-rises (n + 1) count)
-  where
-    none : (n count : ℕ) → AllByRecursion (λ (r : Rank). 0 ≤ r.pass) (map first_rank (range_with_len n count))
-    none n zero = tt
-    none n (suc count) = (omega arith, none (n + 1) count)
+first-rises n (suc count) = grind (arith, common_steps, elements, nat_tests, (first-rises (n + 1) count))
 
 pub strides-bounded : (tickets : List ℕ) → AllByRecursion (λ stride. stride ≤ greatest_stride) (map stride_of tickets)
 strides-bounded [] = tt

@@ -1,18 +1,15 @@
 -- What is known of each class of scheduler: a line for each.
-use Rattle.std.proofs.Common.{◌≡◌, ℕ, ◌+◌, ◌%◌, ◌≤◌, Bool, List, [], ◌∷◌, length, map, if◌then◌else◌, true, refl, sym, ap, ◌∙◌, arith}
+use Rattle.std.proofs.Common.{◌≡◌, ℕ, ◌+◌, ◌%◌, ◌≤◌, List, [], ◌∷◌, length, map, if◌then◌else◌, true, refl, ap, rules}
 use Rattle.std.specs.Bool.{⊤}
 use Rattle.std.specs.List.{range_with_len, enumerate_from}
 use Rattle.std.proofs.lemmas.List.{length-map}
 use Rattle.std.proofs.lemmas.List.FromFn.{length-range_with_len, length-enumerate_from}
-use Rattle.clk_sched.specs.declared.session.state.State.{State}
-use Rattle.clk_sched.specs.declared.session.state.State.TheVariants.{Prio, RoundRobin, Drr, Stride, Shaper}
 use Rattle.clk_packet.specs.Scheduler.{Scheduler, prio, round_robin, drr, stride, shaper, HasArguments}
 use Rattle.clk_sched.specs.Turns.{Turn}
 use Rattle.clk_sched.specs.Laws.{Manner, in_order, with_heads, manner, AllowsTurn}
-use Rattle.clk_sched.specs.Laws.Stride.{passes_of, in_rising_order}
+use Rattle.clk_sched.specs.Laws.Stride.{in_rising_order}
 use Rattle.clk_sched.specs.Laws.Shaper.{has_room}
-use Rattle.clk_sched.specs.inside.Holds.OfClass.{Fits, Holds}
-use Rattle.clk_sched.proofs.Classes.Orders.{IsOrderOf, priority-order, stride-order, shaper-order, passes-length}
+use Rattle.clk_sched.proofs.Classes.Orders.{IsOrderOf, priority-order, stride-order, passes-length}
 use Rattle.clk_sched.proofs.Lists.Rising.{rising-length}
 use Rattle.clk_sched.proofs.Classes.RoundRobinTurns.{round_robin-order, busy-beginning}
 use Rattle.clk_sched.proofs.Classes.BusyTurns.{busy, busy-passes, busy-room, TakesNoNotice, follows-busy}
@@ -33,21 +30,10 @@ AsksRight class inputs (with_heads turn_of covers) = ⊤
 
 pub asks-right : (class : Scheduler) (inputs : ℕ) → 1 ≤ inputs → HasArguments class inputs → AsksRight class inputs (manner class inputs)
 asks-right prio inputs some args = record { orders = λ earlier moment. priority-order inputs; whole = λ earlier moment may. length-range_with_len 0 inputs }
-asks-right round_robin inputs some args =
-    record { orders = λ earlier moment. round_robin-order inputs earlier some; whole = λ earlier moment may. length-map (range_with_len 0 inputs) _ ∙ length-range_with_len 0 inputs }
+asks-right round_robin inputs some args = search (rules, round_robin-order, length-map, length-range_with_len)
 asks-right (drr quanta) inputs some args = tt
-asks-right (stride tickets) inputs some args =
-    record {
-      orders = λ earlier moment. stride-order tickets inputs earlier args.0;
-      whole = λ earlier moment may.
-          length-map (in_rising_order (enumerate_from 0 (passes_of tickets earlier))) _ ∙ rising-length (enumerate_from 0 (passes_of tickets earlier)) ∙ length-enumerate_from 0 (passes_of tickets earlier)
-          ∙ passes-length tickets earlier ∙ args.0;
-    }
-asks-right (shaper rate burst) inputs some args =
-    record { orders = λ earlier moment. shaper-order rate burst inputs earlier moment some; whole = λ earlier moment may. ap (λ b. length (asked b)) may ∙ sym args.0 }
-  where
-    asked : Bool → List ℕ
-    asked b = if b then 0 ∷ [] else []
+asks-right (stride tickets) inputs some args = search (rules, stride-order, length-map, rising-length, length-enumerate_from, passes-length)
+asks-right (shaper rate burst) inputs some args = search rules
 
 -- No law takes notice of turns without visits.
 no-notice : (class : Scheduler) (inputs : ℕ) → TakesNoNotice (manner class inputs)
@@ -60,12 +46,3 @@ no-notice (shaper rate burst) inputs = λ earlier moment. ap (λ room. if room t
 -- a turn that is allowed after those with visits is allowed after all
 pub allows-busy : (class : Scheduler) (inputs : ℕ) (earlier : List Turn) (t : Turn) → AllowsTurn class inputs (busy earlier) t → AllowsTurn class inputs earlier t
 allows-busy class inputs earlier t h = record { within = h.within; follows = follows-busy (manner class inputs) inputs earlier t (no-notice class inputs) h.follows }
-
--- what a node holds before its first turn fits its inputs
-pub fits-first : (class : Scheduler) (inputs : ℕ) (s : State) → 1 ≤ inputs → HasArguments class inputs → Holds class inputs [] s → Fits s inputs
-fits-first prio inputs Prio some a h = tt
-fits-first round_robin inputs (RoundRobin b) some a h = omega (arith, h)
-fits-first (drr quanta) inputs (Drr d) some a h = h.length_is
-fits-first (stride tickets) inputs (Stride p) some a h = record { tickets = tickets; turns = []; inputs_are = a.0; holds = h }
-fits-first (shaper rate burst) inputs (Shaper b) some a h = some
-fits-first class inputs s some a h = absurd h

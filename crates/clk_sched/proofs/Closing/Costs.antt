@@ -1,11 +1,11 @@
 -- What is left at one input of a scheduler, and what it may cost yet: for each packet below an input of a DRRSched the rounds that it may
 -- take there, and for each head the visits that are enough for it. This number never grows, and falls with each closing pull that gives none
 -- while something is left.
-use Rattle.std.proofs.Common.{◌≡◌, ◌⊎◌, ℕ, zero, suc, ◌+◌, ◌*◌, ◌%◌, ◌<◌, ◌≤◌, ◌==◌, ◌&&◌, ◌||◌, nat_le, if◌then◌else◌, Bool, true, false, not, inl, inr, List, [], ◌∷◌, ◌++◌, filter, Option, Some, None, is_some, unwrap_or, MatchOption, refl, sym, ap, ap₂, ◌∙◌, subst, mul-add, arith}
+use Rattle.std.proofs.lemmas.Grind.{common_steps}
+use Rattle.std.proofs.Common.{◌≡◌, ◌⊎◌, ℕ, zero, suc, ◌+◌, ◌*◌, ◌<◌, ◌≤◌, nat_le, if◌then◌else◌, Bool, true, false, not, inl, inr, List, [], ◌∷◌, ◌++◌, filter, Option, Some, None, is_some, unwrap_or, MatchOption, refl, sym, ap, ◌∙◌, subst, mul-add, arith, rules}
 use Rattle.std.specs.List.{AllByRecursion, list_any}
 use Rattle.std.specs.Bool.{⊤}
 use Rattle.std.proofs.lemmas.Bool.{false≢true}
-use Rattle.std.proofs.lemmas.Bool.Decides.{nat_tests}
 use Rattle.std.proofs.Math.Bool.{and-false}
 use Rattle.clk_packet.specs.declared.packet.Packet.{Packet}
 use Rattle.clk_sched.specs.declared.visit.Visit.{Visit}
@@ -19,7 +19,7 @@ use Rattle.clk_sched.proofs.Lists.Numbers.{equal, differs, same}
 use Rattle.clk_packet.specs.Lists.{In}
 use Rattle.clk_sched.proofs.Lists.Members.{of-all, filter-in}
 use Rattle.clk_sched.proofs.Runs.Allowed.{onto, each-split}
-use Rattle.clk_sched.proofs.Shares.DeficitShares.{IsDeficitVisit, IsCovered, deficit-bound, covers-all}
+use Rattle.clk_sched.proofs.Shares.DeficitShares.{IsDeficitVisit, IsCovered, covers-all}
 use Rattle.clk_sched.proofs.Closing.Visited.{Misses, IsAt, at-input, one_if, hits, hits-misses, hits-at}
 use Rattle.clk_sched.proofs.Closing.Turned.{passes}
 
@@ -74,26 +74,17 @@ misses-idle i [] m = refl
 misses-idle i (v ∷ visits) m = rw (differs v.input i m.0, and-false v.fresh) (misses-idle i visits m.1)
 
 any-append : (test : Visit → Bool) (us vs : List Visit) → list_any test us ≡ false → list_any test vs ≡ false → list_any test (us ++ vs) ≡ false
-any-append test [] vs e f = f
-any-append test (u ∷ us) vs e f = by_test (test u) e (any-append test us vs)
-  where
-    by_test : (b : Bool) → (b || list_any test us) ≡ false → (list_any test us ≡ false → list_any test vs ≡ false → list_any test (us ++ vs) ≡ false) → (b || list_any test (us ++ vs)) ≡ false
-    by_test true g rest = absurd (false≢true (sym g))
-    by_test false g rest = rest g f
+any-append test us vs e f = grind (arith, common_steps, false≢true)
 
 in-middle : (us vs : List Visit) (v : Visit) → In v (us ++ v ∷ vs)
 in-middle [] vs v = inl refl
 in-middle (u ∷ us) vs v = inr (in-middle us vs v)
 
 pub at-idle : (i : ℕ) (visits : List Visit) (at : IsAt i visits) → at.visit.fresh ≡ false → list_any (asks i) visits ≡ false
-at-idle i visits at e =
-    ap (list_any (asks i)) at.are ∙ any-append (asks i) at.before (at.visit ∷ at.after) (misses-idle i at.before at.misses_before)
-    (rw e (misses-idle i at.after at.misses_after))
+at-idle i visits at e = search (rules, any-append, misses-idle)
 
 at-asked : (i : ℕ) (visits : List Visit) (at : IsAt i visits) → at.visit.fresh ≡ true → In at.visit (filter (asks i) visits)
-at-asked i visits at e =
-    subst (λ l. In at.visit (filter (asks i) l)) (sym at.are)
-    (filter-in (asks i) at.visit (at.before ++ at.visit ∷ at.after) (ap₂ (λ a b. a && b) e (equal at.visit.input i at.here)) (in-middle at.before at.after at.visit))
+at-asked i visits at e = search (rules, filter-in, equal, in-middle)
 
 pub onto-joined : (us vs earlier : List Visit) → onto (us ++ vs) earlier ≡ onto vs (onto us earlier)
 onto-joined [] vs earlier = refl
@@ -107,26 +98,10 @@ record IsSameAt (i : ℕ) (earlier later : List Visit) : Type 0 where
 
 misses-same : (i : ℕ) (visits earlier : List Visit) → Misses i visits → IsSameAt i earlier (onto visits earlier)
 misses-same i [] earlier m = record { head = refl; bytes = refl; arrived = refl }
-misses-same i (v ∷ visits) earlier m =
-    let rest = misses-same i visits (v ∷ earlier) m.1 in
-    let other = differs v.input i m.0 in
-    record {
-      head = rest.head ∙ ap (λ b. if b then (if v.passed then None else v.got) else head_at i earlier) other;
-      bytes = rest.bytes ∙ ap (λ b. if b then (if is_some v.got then (if v.passed then bytes_of v.got else 0) + passed_bytes i earlier else 0) else passed_bytes i earlier) other;
-      arrived = rest.arrived ∙ ap (λ b. if b then (if is_some v.got then arrives earlier + arrivals i earlier else 0) else arrivals i earlier) other;
-    }
+misses-same i (v ∷ visits) earlier m = search (rules, differs, (misses-same i visits (v ∷ earlier) m.1))
 
 costs-same : (k : ℕ) (quanta : List ℕ) (earlier later : List Visit) (i below work_below left work : ℕ) → IsSameAt i earlier later → HeadCosts k quanta earlier i below work_below left work → HeadCosts k quanta later i below work_below left work
-costs-same k quanta earlier later i below work_below left work same h =
-    record {
-      more = h.more;
-      enough =
-          subst (λ o. EnoughBy (quantum_at quanta i) o (passed_bytes i later) (arrivals i later) h.more) (sym same.head)
-          (subst (λ n. EnoughBy (quantum_at quanta i) (head_at i earlier) n (arrivals i later) h.more) (sym same.bytes)
-          (subst (λ n. EnoughBy (quantum_at quanta i) (head_at i earlier) (passed_bytes i earlier) n h.more) (sym same.arrived) h.enough));
-      left_is = h.left_is ∙ ap (λ o. below + one_if (is_some o)) (sym same.head);
-      work_is = h.work_is;
-    }
+costs-same k quanta earlier later i below work_below left work same h = search rules
 
 -- What a visit does to the costs of its input: a new head, and the visits that are enough for it.
 record IsHeadAfter (quantum k : ℕ) (head_before head_after : Option Packet) (bytes arrived : ℕ) (passed : Bool) (more old old_work new new_work : ℕ) : Type 0 where
@@ -141,34 +116,14 @@ asked-after : (quantum k bytes arrived arrives more old old_work new new_work : 
     → bytes ≤ quantum * (arrives + arrived) → 65535 ≤ quantum * k → new_work ≤ old_work → MatchOption got ((new ≡ old) × (0 < old → new_work < old_work)) (λ p. new + 1 ≡ old)
     → IsHeadAfter quantum k None (if passed then None else got) (if is_some got then (if passed then bytes_of got else 0) + bytes else 0) (if is_some got then arrives + arrived else 0) passed more old old_work new new_work
 asked-after quantum k bytes arrived arrives more old old_work new new_work None true e bound large never gave = absurd (false≢true (sym e))
-asked-after quantum k bytes arrived arrives more old old_work new new_work None false e bound large never gave =
-    let same = gave.0 in
-    let product = ap (λ n. k * n) same in
-    record {
-      less = 0;
-      enough = tt;
-      conserved = omega (arith, same);
-      never_grows = omega (arith, product, never);
-      falls = λ _ some. let fell = gave.1 (let s = some in omega (arith, s)) in omega (arith, product, fell);
-    }
-asked-after quantum k bytes arrived arrives more old old_work new new_work (Some p) true e bound large never gave =
-    let product = ap (λ n. k * n) (sym gave) ∙ mul-add k new 1 in
-    record {
-      less = 0;
-      enough = tt;
-      conserved = omega (arith, gave);
-      never_grows = omega (arith, product, never);
-      falls = λ f _. absurd (false≢true (sym f));
-    }
+asked-after quantum k bytes arrived arrives more old old_work new new_work None false e bound large never gave = search rules
+asked-after quantum k bytes arrived arrives more old old_work new new_work (Some p) true e bound large never gave = search (rules, mul-add, false≢true)
 asked-after quantum zero bytes arrived arrives more old old_work new new_work (Some p) false e bound large never gave = absurd (omega (arith, large))
 asked-after quantum (suc k) bytes arrived arrives more old old_work new new_work (Some p) false e bound large never gave =
     let product = ap (λ n. suc k * n) (sym gave) ∙ mul-add (suc k) new 1 in
-    let short = p.is_within in
-    let whole = mul-add quantum (arrives + arrived) (k + 1) in
-    let one_more = ap (λ n. quantum * n) (let s : k + 1 ≡ suc k = omega arith in s) in
     record {
       less = k;
-      enough = omega (arith, bound, large, short, whole, one_more);
+      enough = omega (arith, bound, large);
       conserved = omega (arith, gave);
       never_grows = omega (arith, product, never);
       falls = λ _ _. omega (arith, product, never);
@@ -179,20 +134,8 @@ held-after : (quantum k bytes arrived arrives more old old_work new new_work : �
     → passed ≡ is_covered (λ p. nat_le (p.length + bytes) (quantum * (arrives + arrived))) got → arrives ≡ 1 → head.length + bytes ≤ quantum * (arrived + (more + 1)) → new_work ≤ old_work → new ≡ old
     → IsHeadAfter quantum k (Some head) (if passed then None else got) (if is_some got then (if passed then bytes_of got else 0) + bytes else 0) (if is_some got then arrives + arrived else 0) passed more old old_work new new_work
 held-after quantum k bytes arrived arrives more old old_work new new_work head None passed looks e one enough never same = absurd (false≢true (ap is_some looks))
-held-after quantum k bytes arrived arrives more old old_work new new_work head (Some p) true looks e one enough never same =
-    let product = ap (λ n. k * n) same in
-    record {
-      less = 0;
-      enough = tt;
-      conserved = omega (arith, same);
-      never_grows = omega (arith, product, never);
-      falls = λ f _. absurd (false≢true (sym f));
-    }
-held-after quantum k bytes arrived arrives zero old old_work new new_work head (Some p) false looks e one enough never same =
-    let length_is : p.length ≡ head.length = ap (λ o. (unwrap_or o p).length) looks in
-    let longer : quantum * (arrives + arrived) < p.length + bytes = grind (arith, nat_tests) in
-    let arrived_is = ap (λ n. quantum * n) (let s : arrives + arrived ≡ arrived + (0 + 1) = omega (arith, one) in s) in
-    absurd (omega (arith, length_is, longer, arrived_is, enough))
+held-after quantum k bytes arrived arrives more old old_work new new_work head (Some p) true looks e one enough never same = search rules
+held-after quantum k bytes arrived arrives zero old old_work new new_work head (Some p) false looks e one enough never same = search rules
 held-after quantum k bytes arrived arrives (suc more) old old_work new new_work head (Some p) false looks e one enough never same =
     let product = ap (λ n. k * n) same in
     let length_is : p.length ≡ head.length = ap (λ o. (unwrap_or o p).length) looks in
@@ -207,15 +150,7 @@ held-after quantum k bytes arrived arrives (suc more) old old_work new new_work 
 
 -- a visit to a held head is an arrival: had the visit before passed, it would have passed that head
 held-arrives : (quanta : List ℕ) (w : ℕ) (earlier : List Visit) (v : Visit) → IsDeficitVisit quanta w earlier v → is_some (head_at v.input earlier) ≡ true → arrives earlier ≡ 1
-held-arrives quanta w [] v law held = refl
-held-arrives quanta w (u ∷ earlier) v law held = by_passed u.passed law.in_turn held
-  where
-    arrived : Bool → ℕ
-    arrived b = if b then 0 else 1
-
-    by_passed : (b : Bool) → v.input ≡ (if b then u.input else (u.input + 1) % w) → is_some (if u.input == v.input then (if b then None else u.got) else head_at v.input earlier) ≡ true → arrived b ≡ 1
-    by_passed false e h = refl
-    by_passed true e h = absurd (false≢true (ap (λ b. is_some (if b then None else head_at v.input earlier)) (sym (equal u.input v.input (sym e))) ∙ h))
+held-arrives quanta w earlier v law held = grind arith
 
 -- a visit that asks where no head is held, or looks at the head
 visit-after : (k w : ℕ) (quanta : List ℕ) (earlier : List Visit) (v : Visit) (more old old_work new new_work : ℕ) → IsDeficitVisit quanta w earlier v → IsCovered quanta earlier → 65535 ≤ quantum_at quanta v.input * k
@@ -233,13 +168,9 @@ visit-after k w quanta earlier v more old old_work new new_work law covered larg
     arrived : ℕ
     arrived = arrivals v.input earlier
 
-    bound : bytes ≤ quantum * (arrives earlier + arrived)
-    bound = (deficit-bound quantum w earlier v.input law.in_turn (covered v.input)).0
-
     by_head : (o : Option Packet) → v.fresh ≡ not (is_some o) → MatchOption o ⊤ (λ p. v.got ≡ Some p) → (is_some o ≡ true → arrives earlier ≡ 1) → EnoughBy quantum o bytes arrived more
         → IsHeadAfter quantum k o (if v.passed then None else v.got) (if is_some v.got then (if v.passed then bytes_of v.got else 0) + bytes else 0) (if is_some v.got then arrives earlier + arrived else 0) v.passed more old old_work new new_work
-    by_head None fresh looks one h = asked-after quantum k bytes arrived (arrives earlier) more old old_work new new_work v.got v.passed law.passes bound large never (gave fresh)
-    by_head (Some p) fresh looks one h = held-after quantum k bytes arrived (arrives earlier) more old old_work new new_work p v.got v.passed looks law.passes (one refl) h never (idle fresh)
+    by_head o fresh looks one h = search (rules, asked-after, held-after, quantum, bytes, arrived)
 
 -- an input of a DRRSched after a turn
 heads-after : (k w : ℕ) (quanta : List ℕ) (earlier visits : List Visit) (i old old_work new new_work left work : ℕ) → i < w → KeepsDeficits k w quanta earlier visits → AreApart input_of visits → IsAsked i visits old old_work new new_work
@@ -250,7 +181,6 @@ heads-after k w quanta earlier visits i old old_work new new_work left work with
     by_visit (inl m) =
         let unasked = asked.idle (misses-idle i visits m) in
         let product = ap (λ n. k * n) unasked in
-        let never = asked.never_grows in
         let left_is = costs.left_is in
         let work_is = costs.work_is in
         let none = hits-misses passes i visits m in
@@ -261,7 +191,7 @@ heads-after k w quanta earlier visits i old old_work new new_work left work with
           new_work = new_work + k * new + costs.more;
           costs = costs-same k quanta earlier (onto visits earlier) i new new_work _ _ now (record { more = costs.more; enough = costs.enough; left_is = refl; work_is = refl });
           conserved = omega (arith, left_is, none, unasked);
-          never_grows = omega (arith, product, never, work_is);
+          never_grows = omega (arith, product, work_is);
           falls = λ e _ _. absurd (let f : hits (λ v. true) i visits ≡ 1 = e in omega (arith, all, f));
         }
     by_visit (inr at) =
@@ -277,7 +207,6 @@ heads-after k w quanta earlier visits i old old_work new new_work left work with
         let left_is = start.left_is ∙ ap (λ j. old + one_if (is_some (head_at j before))) (sym at.here) in
         let work_is = start.work_is in
         let conserved = step.conserved in
-        let never = step.never_grows in
         let hit = hits-at passes i visits at in
         let whole = ap (λ l. onto l earlier) at.are ∙ onto-joined at.before (v ∷ at.after) earlier in
         let now : HeadCosts k quanta (v ∷ before) i new new_work (new + one_if (is_some (head_at v.input (v ∷ before)))) (new_work + k * new + step.less) = record {
@@ -292,16 +221,14 @@ heads-after k w quanta earlier visits i old old_work new new_work left work with
           costs = subst (λ e. HeadCosts k quanta e i new new_work (new + one_if (is_some (head_at v.input (v ∷ before)))) (new_work + k * new + step.less)) (sym whole)
               (costs-same k quanta (v ∷ before) (onto at.after (v ∷ before)) i new new_work _ _ (misses-same i at.after (v ∷ before) at.misses_after) now);
           conserved = omega (arith, left_is, conserved, hit);
-          never_grows = omega (arith, never, work_is);
+          never_grows = omega (arith, work_is);
           falls = λ _ none some.
               let unpassed = by_passed v.passed refl hit none in
-              let fell = step.falls unpassed (let s = some in omega (arith, left_is, s)) in
-              omega (arith, fell, work_is);
+              omega (arith, work_is);
         }
       where
         by_passed : (b : Bool) → at.visit.passed ≡ b → hits passes i visits ≡ one_if at.visit.passed → hits passes i visits ≡ 0 → at.visit.passed ≡ false
-        by_passed false e h none = e
-        by_passed true e h none = let one = ap one_if e in absurd (omega (arith, h, none, one))
+        by_passed b e h none = search rules
 
 -- an input of a scheduler that asks in order, after a turn
 plain-after : (k : ℕ) (class : Scheduler) (earlier visits : List Visit) (i old old_work new new_work left work : ℕ)

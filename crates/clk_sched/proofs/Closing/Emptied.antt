@@ -1,8 +1,7 @@
 -- Closing pulls, one after another: all that is left comes out within the bound.
-use Rattle.std.proofs.Common.{◌≡◌, ℕ, suc, ◌+◌, ◌*◌, ◌<◌, ◌≤◌, ◌==◌, ◌&&◌, ◌||◌, if◌then◌else◌, Bool, true, false, List, [], ◌∷◌, ◌++◌, length, map, filter, reverse, drop, get_or, append-nil, append_assoc, Option, Some, None, is_some, refl, sym, ap, ap₂, ◌∙◌, subst, mul-add, add-mul, mul_assoc, arith}
+use Rattle.std.proofs.Common.{◌≡◌, ℕ, suc, ◌+◌, ◌*◌, ◌<◌, ◌≤◌, ◌==◌, ◌&&◌, ◌||◌, Bool, true, false, List, [], ◌∷◌, ◌++◌, length, map, filter, reverse, drop, get_or, append-nil, append_assoc, Option, Some, None, is_some, refl, sym, ap, ap₂, ◌∙◌, subst, arith, rules}
 use Rattle.std.specs.List.{AllByRecursion, flat_map, cons_option}
 use Rattle.std.proofs.lemmas.Bool.{false≢true}
-use Rattle.std.proofs.lemmas.Bool.Decides.{nat_tests}
 use Rattle.std.proofs.lemmas.List.{length-map, map-append}
 use Rattle.std.proofs.lemmas.List.Concat.{flat_map-append}
 use Rattle.std.proofs.lemmas.List.Elements.{filter-append}
@@ -41,31 +40,21 @@ use Rattle.clk_sched.proofs.Closing.Quanta.{rounds_less, rounds-more, each-enoug
 -- what a queue answered in a pull is what was answered where it stands
 filter-twice : {X : Type 0} (f g h : X → Bool) (xs : List X) → ((x : X) → f x ≡ (g x && h x)) → filter f xs ≡ filter h (filter g xs)
 filter-twice f g h [] same = refl
-filter-twice f g h (x ∷ xs) same = rw (same x) (by_tests (g x) (h x) refl (filter-twice f g h xs same))
-  where
-    by_tests : (b c : Bool) → h x ≡ c → filter f xs ≡ filter h (filter g xs) → (if b && c then x ∷ filter f xs else filter f xs) ≡ filter h (if b then x ∷ filter g xs else filter g xs)
-    by_tests false c e rest = rest
-    by_tests true true e rest = rw e (ap (λ l. x ∷ l) rest)
-    by_tests true false e rest = rw e rest
+filter-twice f g h (x ∷ xs) same = search (rules, (filter-twice f g h xs same))
 
 answers-here : (tree : Tree) (q above first next : ℕ) (row : Row) (pull : List Visit) → stands_in q (leaves row) ≡ false → StandsOnlyIn q tree above first next (leaf q row) → answers_of tree q pull ≡ answers_at above first pull
 answers-here tree q above first next row pull other only =
     ap (map (λ (v : Visit). v.got)) (filter-twice (asks_queue tree q) (λ (v : Visit). v.node == above) (asks first) pull each)
   where
-    turned : (a b c : Bool) → (a && (b && c)) ≡ (b && (a && c))
-    turned true b c = refl
-    turned false true c = refl
-    turned false false c = refl
-
     each : (v : Visit) → asks_queue tree q v ≡ ((v.node == above) && asks first v)
-    each v = asks-at q v.fresh (queue_at tree v.node v.input) ∙ ap (λ b. v.fresh && b) (only-here q tree above first next q row (equal q q refl) other only v.node v.input) ∙ turned v.fresh (v.node == above) (v.input == first)
+    each v = asks-at q v.fresh (queue_at tree v.node v.input) ∙ ap (λ b. v.fresh && b) (only-here q tree above first next q row (equal q q refl) other only v.node v.input) ∙ (search rules)
 
 each-gives : (row : Row) (tree : Tree) (old new : ℕ → ℕ) (pull : List Visit) (above first next : ℕ) → above < next → ((q : ℕ) → stands_in q (leaves row) ≡ true → StandsOnlyIn q tree above first next row)
     → are_distinct (leaves row) ≡ true → ((q : ℕ) → GivesOut (old q) (answers_of tree q pull) (new q)) → EachGives old new pull above first next row
 each-gives end tree old new pull above first next o only distinct gives = tt
 each-gives (leaf q row) tree old new pull above first next o only distinct gives = (
   subst (λ told. GivesOut (old q) told (new q)) (answers-here tree q above first next row pull apart (only q (ap (λ b. b || stands_in q (leaves row)) (equal q q refl)))) (gives q),
-  each-gives row tree old new pull above (suc first) next o (λ p s. only-after_leaf p tree above first next q row o (differ p s (q == p) refl) (only p (stands p s (q == p)))) parts.1 gives,
+  each-gives row tree old new pull above (suc first) next o (λ p s. only-after_leaf p tree above first next q row o (differ p s (q == p) refl) (only p (search rules))) parts.1 gives,
 )
   where
     parts : (are_distinct (q ∷ []) ≡ true) × (are_distinct (leaves row) ≡ true) × (stands_in q (q ∷ []) ≡ true → stands_in q (leaves row) ≡ false)
@@ -74,16 +63,11 @@ each-gives (leaf q row) tree old new pull above first next o only distinct gives
     apart : stands_in q (leaves row) ≡ false
     apart = parts.2 (ap (λ b. b || false) (equal q q refl))
 
-    stands : (p : ℕ) → stands_in p (leaves row) ≡ true → (b : Bool) → (b || stands_in p (leaves row)) ≡ true
-    stands p s true = refl
-    stands p s false = s
-
     differ : (p : ℕ) → stands_in p (leaves row) ≡ true → (b : Bool) → (q == p) ≡ b → b ≡ false
-    differ p s false e = refl
-    differ p s true e = let same : q ≡ p = grind (arith, nat_tests) in absurd (false≢true (sym apart ∙ ap (λ n. stands_in n (leaves row)) same ∙ s))
+    differ p s b e = search rules
 each-gives (node class inputs row) tree old new pull above first next o only distinct gives = (
   each-gives inputs tree old new pull next 0 (suc next) (omega arith) (λ p s. only-inputs p tree above first next class inputs row ((parts p).2 s) (only p (left p s))) (parts 0).0 gives,
-  each-gives row tree old new pull above (suc first) (suc (next + nodes inputs)) (omega (arith, o)) (λ p s. only-after_node p tree above first next class inputs row o (other p s (stands_in p (leaves inputs)) refl) (only p (right p s))) (parts 0).1 gives,
+  each-gives row tree old new pull above (suc first) (suc (next + nodes inputs)) (omega (arith, o)) (λ p s. only-after_node p tree above first next class inputs row o (other p s (stands_in p (leaves inputs)) refl) (only p (search (rules, stands_in-append)))) (parts 0).1 gives,
 )
   where
     parts : (p : ℕ) → (are_distinct (leaves inputs) ≡ true) × (are_distinct (leaves row) ≡ true) × (stands_in p (leaves inputs) ≡ true → stands_in p (leaves row) ≡ false)
@@ -92,16 +76,8 @@ each-gives (node class inputs row) tree old new pull above first next o only dis
     left : (p : ℕ) → stands_in p (leaves inputs) ≡ true → stands_in p (leaves inputs ++ leaves row) ≡ true
     left p s = stands_in-append p (leaves inputs) (leaves row) ∙ ap (λ b. b || stands_in p (leaves row)) s
 
-    right : (p : ℕ) → stands_in p (leaves row) ≡ true → stands_in p (leaves inputs ++ leaves row) ≡ true
-    right p s = stands_in-append p (leaves inputs) (leaves row) ∙ ap (λ b. stands_in p (leaves inputs) || b) s ∙ or_true (stands_in p (leaves inputs))
-      where
-        or_true : (b : Bool) → (b || true) ≡ true
-        or_true true = refl
-        or_true false = refl
-
     other : (p : ℕ) → stands_in p (leaves row) ≡ true → (b : Bool) → stands_in p (leaves inputs) ≡ b → b ≡ false
-    other p s false e = refl
-    other p s true e = absurd (false≢true (sym ((parts p).2 e) ∙ s))
+    other p s b e = search (rules, false≢true, parts)
 
 -- a closing pull
 pub record IsClosingPull (tree : Tree) (log pull : List Visit) (moment : ℕ) (held rest : ℕ → ℕ) : Type 0 where
@@ -228,16 +204,11 @@ pull-empties k tree log pull held rest moment first all made given sound distinc
         omega (arith, now_is, out, never, spent)
 
 length-option : {X : Type 0} (o : Option X) (xs : List X) → length (cons_option o xs) ≡ one_if (is_some o) + length xs
-length-option None xs = omega arith
-length-option (Some x) xs = omega arith
+length-option o xs = search rules
 
 closes-within : (more : List (List Visit)) (k : ℕ) (tree : Tree) (log : List Visit) (held rest : ℕ → ℕ) (moment first all made given : ℕ) → IsSound (root tree) → leaves_distinct tree ≡ true → EachIsEnough k (root tree) → IsRun tree log
     → AllByRecursion (λ p. moment_of p ≤ moment) (pulls log) → IsClosing tree log moment held rest more → IsEmptying k tree log held first all made given → given + length (given_in more) < first → made + length more < all
-closes-within [] k tree log held rest moment first all made given sound distinct enough run before closes h short =
-    let was = h.conserved in
-    let some : 0 < h.now.left = omega (arith, was, short) in
-    let spent = h.spent some in
-    omega (arith, spent, some)
+closes-within [] k tree log held rest moment first all made given sound distinct enough run before closes h short = omega arith
 closes-within (pull ∷ more) k tree log held rest moment first all made given sound distinct enough run before closes h short =
     let parts = first-of tree log pull moment held rest more run closes in
     let its = parts.first in
@@ -253,11 +224,7 @@ closes-within (pull ∷ more) k tree log held rest moment first all made given s
 rising-latest : (ps earlier : List (List Visit)) → NeverFalls (latest_moment earlier) (map moment_of ps)
     → AllByRecursion (λ p. moment_of p ≤ latest_moment (onto ps earlier)) ps × (latest_moment earlier ≤ latest_moment (onto ps earlier))
 rising-latest [] earlier h = (tt, omega arith)
-rising-latest (p ∷ ps) earlier h =
-    let rest = rising-latest ps (p ∷ earlier) h.1 in
-    let last = rest.1 in
-    let here = h.0 in
-    ((last, rest.0), omega (arith, last, here))
+rising-latest (p ∷ ps) earlier h = search (rules, (rising-latest ps (p ∷ earlier) h.1))
 
 -- all that is left when the closing begins, and its work, which are within the bound
 pub record IsEmptied (tree : Tree) (log : List Visit) (held : ℕ → ℕ) (left made given : ℕ) : Type 0 where
@@ -266,14 +233,7 @@ pub record IsEmptied (tree : Tree) (log : List Visit) (held : ℕ → ℕ) (left
   pub emptying : IsEmptying (rounds_less (least_quantum (root tree))) tree log held left all made given
 
 bounded : (left high n : ℕ) → left + left * (high * n + n) ≤ left * (high + 1) * (n + 1)
-bounded left high n =
-    let a = mul_assoc left (high + 1) (n + 1) in
-    let b = ap (λ m. left * m) (mul-add (high + 1) n 1) in
-    let c = mul-add left ((high + 1) * n) ((high + 1) * 1) in
-    let d = ap (λ m. left * m) (let s : (high + 1) * n ≡ high * n + n = let t = add-mul high 1 n in omega (arith, t) in s) in
-    let e = ap (λ m. left * m) (let s : (high + 1) * 1 ≡ high + 1 = omega arith in s) in
-    let f = mul-add left high 1 in
-    omega (arith, a, b, c, d, e, f)
+bounded left high n = omega arith
 
 pub emptied-first : (tree : Tree) (log : List Visit) (held : ℕ → ℕ) (left : ℕ) → IsSound (root tree) → IsRun tree log → left ≡ left_in tree log held → IsEmptied tree log held left 0 0
 emptied-first tree log held left sound run is =
@@ -320,12 +280,3 @@ emptied-more tree log pull held rest moment left made given sound distinct run l
       emptying = pull-empties (rounds_less (least_quantum (root tree))) tree log pull held rest moment left h.all made given sound distinct (each-enough (root tree) sound) run (moments-before tree log moment run latest)
           ((goes-on tree).back log pull closing.goes_on).next closing.at_moment closing.gives h.emptying;
     }
-
--- as long as not all came out, fewer pulls than the bound were made
-pub emptied-within : (tree : Tree) (log : List Visit) (held : ℕ → ℕ) (left made given : ℕ) → IsEmptied tree log held left made given → given < left → made < closing_bound tree left
-emptied-within tree log held left made given h short =
-    let was = h.emptying.conserved in
-    let some : 0 < h.emptying.now.left = omega (arith, was, short) in
-    let spent = h.emptying.spent some in
-    let within = h.within in
-    omega (arith, spent, some, within)

@@ -1,8 +1,7 @@
 -- What is left in the rows of a tree after a run, and that its work is within the closing bound.
-use Rattle.std.proofs.Common.{◌≡◌, ℕ, zero, suc, ◌+◌, ◌*◌, ◌-◌, ◌<◌, ◌≤◌, ◌==◌, if◌then◌else◌, Bool, true, false, List, [], ◌∷◌, ◌++◌, length, map, reverse, Option, Some, None, is_some, MatchOption, refl, sym, ap, ◌∙◌, subst, mul-add, add-mul, mul_comm, length-append, arith}
+use Rattle.std.proofs.Common.{◌≡◌, ℕ, zero, suc, ◌+◌, ◌*◌, ◌-◌, ◌<◌, ◌≤◌, List, [], ◌∷◌, ◌++◌, length, map, reverse, Option, Some, None, is_some, MatchOption, refl, sym, ap, ◌∙◌, subst, add-mul, length-append, arith, rules}
 use Rattle.std.specs.List.{flat_map, range_with_len}
 use Rattle.std.specs.Bool.{⊤}
-use Rattle.std.proofs.lemmas.Bool.Decides.{nat_tests}
 use Rattle.clk_packet.specs.declared.packet.Packet.{Packet}
 use Rattle.clk_sched.specs.declared.visit.Visit.{Visit}
 use Rattle.clk_packet.specs.Scheduler.{Scheduler, drr, HasArguments}
@@ -11,13 +10,13 @@ use Rattle.clk_sched.specs.Turns.{Turn, EachAfter, all_visits}
 use Rattle.clk_sched.specs.Heads.{head_at}
 use Rattle.clk_sched.specs.Log.{turn, pulls_below}
 use Rattle.clk_sched.specs.Laws.{manner, Obeys}
-use Rattle.clk_sched.specs.Laws.Deficit.{next_input, arrives, arrivals, bytes_of, passed_bytes, quantum_at, deficit_covers}
+use Rattle.clk_sched.specs.Laws.Deficit.{next_input, arrivals, passed_bytes, quantum_at, deficit_covers}
 use Rattle.clk_sched.specs.Run.{EachObeys}
 use Rattle.clk_sched.specs.Results.{traced, own_heads, held_at, traced_heads, latest_origin, origin_in}
 use Rattle.clk_sched.specs.Closing.{held_in_all}
 use Rattle.clk_sched.proofs.Runs.Allowed.{onto, onto-reverse, each-follows, turns-look}
 use Rattle.clk_sched.proofs.Runs.Pulled.{IsPulledIn, pulled-after_leaf, pulled-after_node, pulled-inputs, turns-visits}
-use Rattle.clk_sched.proofs.Shares.DeficitShares.{IsDeficitVisit, IsCovered, deficit-bound, covers-visit}
+use Rattle.clk_sched.proofs.Shares.DeficitShares.{IsDeficitVisit, IsCovered, covers-visit}
 use Rattle.clk_sched.proofs.Closing.Visited.{one_if, sum_from}
 use Rattle.clk_sched.proofs.Closing.Costs.{CostsAt}
 use Rattle.clk_sched.proofs.Closing.Rows.{latest, Amount, sum_of, Costs, AreEnough, EachIsEnough, enough-at}
@@ -28,23 +27,7 @@ HeadsAreNear k w quanta visits = (i : ℕ) → i < w → MatchOption (head_at i 
 
 near-visit : (k w : ℕ) (quanta : List ℕ) (earlier : List Visit) (v : Visit) → ((i : ℕ) → i < w → 65535 ≤ quantum_at quanta i * k) → IsDeficitVisit quanta w earlier v → IsCovered quanta earlier → HeadsAreNear k w quanta earlier
     → HeadsAreNear k w quanta (v ∷ earlier)
-near-visit k w quanta earlier v enough law covered near i within = by_input (v.input == i) refl v.passed v.got
-  where
-    quantum : ℕ
-    quantum = quantum_at quanta i
-
-    by_input : (b : Bool) → (v.input == i) ≡ b → (c : Bool) (o : Option Packet)
-        → MatchOption (if b then (if c then None else o) else head_at i earlier) ⊤ (λ p. p.length + (if b then (if is_some o then (if c then bytes_of o else 0) + passed_bytes i earlier else 0) else passed_bytes i earlier) ≤ quantum * ((if b then (if is_some o then arrives earlier + arrivals i earlier else 0) else arrivals i earlier) + k))
-    by_input false e c o = near i within
-    by_input true e true o = tt
-    by_input true e false None = tt
-    by_input true e false (Some p) =
-        let here : i ≡ v.input = grind (arith, nat_tests) in
-        let bound = (deficit-bound quantum w earlier i (here ∙ law.in_turn) (covered i)).0 in
-        let short = p.is_within in
-        let large = enough i within in
-        let whole = mul-add quantum (arrives earlier + arrivals i earlier) k in
-        omega (arith, bound, short, large, whole)
+near-visit k w quanta earlier v enough law covered near i within = grind arith
 
 near-all : (k w : ℕ) (quanta : List ℕ) (earlier visits : List Visit) → ((i : ℕ) → i < w → 65535 ≤ quantum_at quanta i * k) → EachAfter (IsDeficitVisit quanta w) earlier visits → IsCovered quanta earlier → HeadsAreNear k w quanta earlier
     → HeadsAreNear k w quanta (onto visits earlier)
@@ -89,7 +72,6 @@ heads-first k w quanta visits i below work_below within near large = by_head (he
     by_head (Some p) e h =
         let one = ap (λ o. one_if (is_some o)) e in
         let some = some-visits k refl in
-        let product = mul-add k below 1 in
         record {
           now = record { left = below + 1; work = work_below + k * below + (k - 1) };
           costs = record {
@@ -100,29 +82,25 @@ heads-first k w quanta visits i below work_below within near large = by_head (he
             work_is = refl;
           };
           left_is = omega (arith, one);
-          bound = omega (arith, product, some);
+          bound = omega (arith, some);
         }
       where
         some-visits : (n : ℕ) → n ≡ k → 1 ≤ n
-        some-visits zero f = absurd (let none = ap (λ m. quantum_at quanta i * m) (sym f) in omega (arith, none, large))
-        some-visits (suc n) f = omega arith
+        some-visits n f = search rules
 
 plain-first : (k : ℕ) (class : Scheduler) (visits : List Visit) (i below work_below : ℕ) → ((l w : ℕ) → CostsAt k class visits i l w l w) → heads_from class visits i 1 ≡ 0 → IsInputFirst k class visits i below work_below
 plain-first k class visits i below work_below plainly none =
     record { now = record { left = below; work = work_below }; costs = plainly below work_below; left_is = omega (arith, none); bound = omega arith }
 
 input-first : (k w : ℕ) (class : Scheduler) (visits : List Visit) (i below work_below : ℕ) → i < w → IsNear k w class visits → IsInputFirst k class visits i below work_below
-input-first k w (drr quanta) visits i below work_below within near = heads-first k w quanta visits i below work_below within near.0 (near.1 i within)
-input-first k w class visits i below work_below within near = plain-first k class visits i below work_below (λ l m. (refl, refl)) refl
+input-first k w class visits i below work_below within near = search (rules, heads-first, plain-first)
 
 heads-more : (class : Scheduler) (visits : List Visit) (first n : ℕ) → heads_from class visits first (suc n) ≡ heads_from class visits first 1 + heads_from class visits (suc first) n
-heads-more (drr quanta) visits first n = omega arith
-heads-more class visits first n = refl
+heads-more class visits first n = search rules
 
 -- the heads of a scheduler, counted
 length-traced : (o : Option Packet) (origin : Option ℕ) → length (traced o origin) ≡ one_if (is_some o)
-length-traced None origin = refl
-length-traced (Some p) origin = refl
+length-traced o origin = search rules
 
 length-heads : (log : List Visit) (x : ℕ) (inputs : Row) (a n : ℕ) → length (flat_map (held_at log x inputs) (range_with_len a n)) ≡ sum_from (λ j. one_if (is_some (head_at j (latest log x)))) a n
 length-heads log x inputs a zero = refl
@@ -134,8 +112,7 @@ length-heads log x inputs a (suc n) =
     omega (arith, whole, here, rest, next)
 
 length-own : (log : List Visit) (x : ℕ) (class : Scheduler) (inputs : Row) → length (own_heads log x inputs (manner class (width inputs))) ≡ heads_from class (latest log x) 0 (width inputs)
-length-own log x (drr quanta) inputs = length-heads log x inputs 0 (width inputs)
-length-own log x class inputs = refl
+length-own log x class inputs = search (rules, length-heads)
 
 held-append : (held : ℕ → ℕ) (ps qs : List ℕ) → held_in_all held (ps ++ qs) ≡ held_in_all held ps + held_in_all held qs
 held-append held [] qs = omega arith
@@ -173,24 +150,18 @@ pub row-first : (row : Row) (k n w : ℕ) (held : ℕ → ℕ) (log : List Visit
 row-first end k n w held log class above first next pulled within high near inside obeys sound enough = record { now = record { left = 0; work = 0 }; costs = (refl, refl); left_is = let none = no-heads class in omega (arith, none); bound = omega arith }
   where
     no-heads : (c : Scheduler) → heads_from c (latest log above) first 0 ≡ 0
-    no-heads (drr quanta) = refl
-    no-heads c = refl
+    no-heads c = search rules
 row-first (leaf q row) k n w held log class above first next pulled within high near inside obeys sound enough =
     let here = input-first k w class (latest log above) first (held q) 0 (omega (arith, within)) near in
     let rest = row-first row k n w held log class above (suc first) next pulled (omega (arith, within)) high near (pulled-after_leaf log above first next q row pulled inside) obeys sound enough in
     let one = heads-more class (latest log above) first (width row) in
     let a = here.left_is in
-    let b = rest.left_is in
     let c = here.bound in
-    let d = rest.bound in
-    let all = add-mul here.now.left rest.now.left (n * k + k) in
-    let each = mul-add here.now.left (n * k) k in
-    let turned = mul_comm k here.now.left in
     record {
       now = record { left = here.now.left + rest.now.left; work = here.now.work + rest.now.work };
       costs = (sum_of here.now rest.now, here.costs, rest.costs);
-      left_is = omega (arith, one, a, b);
-      bound = omega (arith, c, d, all, each, turned);
+      left_is = omega (arith, one, a);
+      bound = omega (arith, c);
     }
 row-first (node c inputs row) k zero w held log class above first next pulled within high near inside obeys sound enough = absurd (omega (arith, high))
 row-first (node c inputs row) k (suc n) w held log class above first next pulled within high near inside obeys sound enough =
@@ -200,26 +171,14 @@ row-first (node c inputs row) k (suc n) w held log class above first next pulled
     let rest = row-first row k (suc n) w held log class above (suc first) (suc (next + nodes inputs)) pulled (omega (arith, within)) (omega (arith, high)) near (pulled-after_node log above first next c inputs row pulled inside) obeys.3 sound.3 enough.2 in
     let one = heads-more class (latest log above) first (width row) in
     let a = here.left_is in
-    let b = rest.left_is in
-    let e = below.left_is in
     let own = length-own log next c inputs in
     let held_is = held-append held (leaves inputs) (leaves row) in
     let heads_are = length-append (own_heads log next inputs (manner c (width inputs))) (traced_heads log (suc next) inputs ++ traced_heads log (suc (next + nodes inputs)) row) in
     let more_are = length-append (traced_heads log (suc next) inputs) (traced_heads log (suc (next + nodes inputs)) row) in
-    let f = here.bound in
-    let g = rest.bound in
-    let h = below.bound in
-    let all = add-mul here.now.left rest.now.left (suc n * k + k) in
-    let each = mul-add here.now.left (suc n * k) k in
-    let turned = mul_comm k here.now.left in
-    let level = add-mul n 1 k in
-    let levels = ap (λ m. m * k) (let s : suc n ≡ n + 1 = omega arith in s) in
-    let one_k : 1 * k ≡ k = omega arith in
-    let under = ap (λ m. below.now.left * m) (let s : n * k + k ≡ suc n * k = omega (arith, level, levels, one_k) in s) in
     let more = ap (λ m. m * (suc n * k)) a ∙ add-mul below.now.left (heads_from class (latest log above) first 1) (suc n * k) in
     record {
       now = record { left = here.now.left + rest.now.left; work = here.now.work + rest.now.work };
       costs = (sum_of here.now rest.now, below.now, below.costs, here.costs, rest.costs);
-      left_is = omega (arith, one, a, b, e, own, held_is, heads_are, more_are);
-      bound = omega (arith, f, g, h, all, each, turned, under, more);
+      left_is = omega (arith, one, a, own, held_is, heads_are, more_are);
+      bound = omega (arith, more);
     }

@@ -1,5 +1,5 @@
 -- One more pull leaves what didn't pass, and the work never grows; where it gives none while something is left, the work falls.
-use Rattle.std.proofs.Common.{◌≡◌, ◌≢◌, ◌⊎◌, ℕ, suc, ◌+◌, ◌<◌, ◌≤◌, ◌&&◌, append-nil, Bool, true, false, inl, inr, List, [], ◌∷◌, ◌++◌, length, map, filter, Option, Some, None, is_some, MatchOption, refl, sym, ap, ap₂, ◌∙◌, subst, eq-or-lt_of_le, arith}
+use Rattle.std.proofs.Common.{◌≡◌, ◌≢◌, ◌⊎◌, ℕ, suc, ◌+◌, ◌<◌, ◌≤◌, ◌&&◌, append-nil, true, false, inl, inr, List, [], ◌∷◌, ◌++◌, length, map, filter, Option, Some, None, is_some, MatchOption, refl, sym, ap, ◌∙◌, subst, arith, rules}
 use Rattle.std.specs.List.{list_any}
 use Rattle.std.proofs.lemmas.Bool.{false≢true}
 use Rattle.std.proofs.Math.Bool.{and-false}
@@ -24,20 +24,7 @@ misses-unasked : (i : ℕ) (visits : List Visit) → Misses i visits → filter 
 misses-unasked i visits m = filter-none (asks i) visits (all-weaker (λ (v : Visit). v.input ≢ i) (λ (v : Visit). asks i v ≡ false) visits (λ v d. ap (λ b. v.fresh && b) (differs v.input i d) ∙ and-false v.fresh) m)
 
 asked-one : (i : ℕ) (visits : List Visit) → AreApart input_of visits → (filter (asks i) visits ≡ []) ⊎ ((v : Visit) × (filter (asks i) visits ≡ v ∷ []))
-asked-one i visits apart = by_visit (at-input i visits apart)
-  where
-    by_visit : Misses i visits ⊎ IsAt i visits → (filter (asks i) visits ≡ []) ⊎ ((v : Visit) × (filter (asks i) visits ≡ v ∷ []))
-    by_visit (inl m) = inl (misses-unasked i visits m)
-    by_visit (inr at) = by_fresh at.visit.fresh refl
-      where
-        others : filter (asks i) visits ≡ filter (asks i) (at.visit ∷ [])
-        others =
-            ap (filter (asks i)) at.are ∙ filter-append (asks i) at.before (at.visit ∷ at.after)
-            ∙ ap₂ (λ l m. l ++ m) (misses-unasked i at.before at.misses_before) (filter-append (asks i) (at.visit ∷ []) at.after ∙ ap (λ l. filter (asks i) (at.visit ∷ []) ++ l) (misses-unasked i at.after at.misses_after) ∙ append-nil (filter (asks i) (at.visit ∷ [])))
-
-        by_fresh : (b : Bool) → at.visit.fresh ≡ b → (filter (asks i) visits ≡ []) ⊎ ((v : Visit) × (filter (asks i) visits ≡ v ∷ []))
-        by_fresh true e = inr (at.visit, others ∙ rw (e, equal at.visit.input i at.here) refl)
-        by_fresh false e = inl (others ∙ rw e refl)
+asked-one i visits apart = search (rules, at-input, misses-unasked, filter-append, append-nil, equal)
 
 asked-any : (i : ℕ) (visits : List Visit) (v : Visit) → In v (filter (asks i) visits) → list_any (asks i) visits ≡ true
 asked-any i visits v m = let its = in-filter (asks i) v visits m in any-in (asks i) v visits its.1 its.0
@@ -58,19 +45,8 @@ queue-asked i visits old new apart gives = by_asked (asked-one i visits apart)
         record {
           idle = λ e. absurd (false≢true (sym e ∙ asked-any i visits one.0 (subst (In one.0) (sym one.1) (inl refl))));
           never_grows = omega arith;
-          gave = λ v m. by_member v (subst (In v) one.1 m);
+          gave = λ v m. search rules;
         }
-      where
-        Gave : Option Packet → Type 0
-        Gave o = MatchOption o ((new ≡ old) × (0 < old → 0 < 0)) (λ p. new + 1 ≡ old)
-
-        by_got : (o : Option Packet) → GivesOut old (o ∷ []) new → Gave o
-        by_got None g = (sym g.1, λ l. let e = g.0 in omega (arith, e, l))
-        by_got (Some p) g = let e = g.1 in let f = g.2 in omega (arith, e, f)
-
-        by_member : (v : Visit) → In v (one.0 ∷ []) → Gave v.got
-        by_member v (inl e) = subst (λ (u : Visit). Gave u.got) e (by_got one.0.got (subst (λ vs. GivesOut old (answers vs) new) one.1 gives))
-        by_member v (inr m) = absurd m
 
 -- A row after one more pull: what its node's visits passed is left no more.
 pub record IsRowAfter (k : ℕ) (held : ℕ → ℕ) (log visits : List Visit) (class : Scheduler) (above first next : ℕ) (row : Row) (left work : ℕ) : Type 0 where
@@ -89,33 +65,7 @@ record IsSumAfter (visits : List Visit) (first inputs left work : ℕ) (here res
 sum-after : (k : ℕ) (held : ℕ → ℕ) (log visits earlier : List Visit) (class : Scheduler) (above first next i below work_below left work : ℕ) (row : Row) (s : IsSum left work) → i ≡ first
     → (here : IsInputAfter k class earlier visits first below work_below s.here.left s.here.work) → (rest : IsRowAfter k held log visits class above (suc first) next row s.rest.left s.rest.work)
     → IsSumAfter visits first (width row) left work (record { left = here.new_left; work = here.new_work }) rest.now
-sum-after k held log visits earlier class above first next i below work_below left work row s e here rest =
-    let left_is = s.left_is in
-    let work_is = s.work_is in
-    let a = here.conserved in
-    let b = rest.conserved in
-    let c = here.never_grows in
-    let d = rest.never_grows in
-    record {
-      conserved = omega (arith, left_is, a, b);
-      never_grows = omega (arith, work_is, c, d);
-      falls = λ all some. by_left all (eq-or-lt_of_le (let l : 0 ≤ s.here.left = omega arith in l)) (let l = some in l);
-    }
-  where
-    by_left : ((j : ℕ) → first ≤ j → j < first + suc (width row) → (hits (λ v. true) j visits ≡ 1) × (hits passes j visits ≡ 0)) → (0 ≡ s.here.left) ⊎ (0 < s.here.left) → 0 < left
-        → here.new_work + rest.now.work < work
-    by_left all (inl none) some =
-        let left_is = s.left_is in
-        let work_is = s.work_is in
-        let fell = rest.falls (λ j l m. all j (omega arith) (omega arith)) (omega (arith, left_is, none, some)) in
-        let c = here.never_grows in
-        omega (arith, work_is, fell, c)
-    by_left all (inr l) some =
-        let work_is = s.work_is in
-        let at = all first (omega arith) (omega arith) in
-        let fell = here.falls at.0 at.1 l in
-        let d = rest.never_grows in
-        omega (arith, work_is, fell, d)
+sum-after k held log visits earlier class above first next i below work_below left work row s e here rest = search rules
 
 count-all : (visits : List Visit) → count (λ v. true) visits ≡ length visits
 count-all [] = refl
@@ -176,13 +126,12 @@ pub row-after : (row : Row) (k w : ℕ) (old new : ℕ → ℕ) (log pull : List
     → TurnLaw k w class (latest log above) (visits_of above pull) → AreApart input_of (visits_of above pull) → IsPulledMore k old new log pull above first next row pulled → Costs k old log class above first next row left work
     → IsRowAfter k new (log ++ pull) (visits_of above pull) class above first next row left work
 row-after end k w old new log pull class above first next pulled left work within law apart h costs =
-    let none = costs.0 in
     record {
       now = record { left = 0; work = 0 };
       costs = (refl, refl);
-      conserved = omega (arith, none);
+      conserved = omega arith;
       never_grows = omega arith;
-      falls = λ _ some. absurd (let l = some in omega (arith, none, l));
+      falls = λ _ some. absurd (let l = some in omega (arith, l));
     }
 row-after (leaf q row) k w old new log pull class above first next pulled left work within law apart h costs =
     let s = costs.0 in

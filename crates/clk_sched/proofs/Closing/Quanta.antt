@@ -1,5 +1,6 @@
 -- The rounds of the closing bound are enough for each quantum in a tree.
-use Rattle.std.proofs.Common.{◌≡◌, ℕ, ◌+◌, ◌*◌, ◌-◌, ◌/◌, ◌<◌, ◌≤◌, List, [], ◌∷◌, Option, Some, None, refl, ap, ◌∙◌, mul-add, add-mul, arith}
+use Rattle.std.proofs.lemmas.Grind.{common_steps}
+use Rattle.std.proofs.Common.{◌≡◌, ℕ, ◌+◌, ◌*◌, ◌-◌, ◌/◌, ◌≤◌, List, [], ◌∷◌, Option, Some, None, mul-add, add-mul, arith, rules}
 use Rattle.std.specs.List.{AllByRecursion}
 use Rattle.std.proofs.Math.Nat.{lt-mul-div-succ}
 use Rattle.clk_packet.specs.Scheduler.{Scheduler, drr}
@@ -15,19 +16,14 @@ AtLeast None n = ⊥
 AtLeast (Some least) n = least ≤ n
 
 lesser-left : (a b : Option ℕ) (n : ℕ) → AtLeast a n → AtLeast (lesser a b) n
-lesser-left None b n h = absurd h
-lesser-left (Some a) None n h = h
-lesser-left (Some a) (Some b) n h = omega (arith, h)
+lesser-left a b n h = search rules
 
 lesser-right : (a b : Option ℕ) (n : ℕ) → AtLeast b n → AtLeast (lesser a b) n
-lesser-right None b n h = h
-lesser-right (Some a) None n h = absurd h
-lesser-right (Some a) (Some b) n h = omega (arith, h)
+lesser-right a b n h = search rules
 
 least-at_least : (ns : List ℕ) → AllByRecursion (AtLeast (least ns)) ns
 least-at_least [] = tt
-least-at_least (n ∷ ns) =
-    (lesser-left (Some n) (least ns) n (omega arith), all-weaker (AtLeast (least ns)) (AtLeast (lesser (Some n) (least ns))) ns (λ m h. lesser-right (Some n) (least ns) m h) (least-at_least ns))
+least-at_least (n ∷ ns) = search (rules, lesser-left, all-weaker, lesser-right, (least-at_least ns))
 
 -- the rounds of the closing bound but one
 abbrev pub rounds_less : Option ℕ → ℕ
@@ -35,18 +31,10 @@ rounds_less None = 0
 rounds_less (Some quantum) = (65535 + (quantum - 1)) / quantum
 
 pub rounds-more : (o : Option ℕ) → rounds o ≡ rounds_less o + 1
-rounds-more None = refl
-rounds-more (Some quantum) = omega arith
+rounds-more o = search rules
 
 enough-least : (o : Option ℕ) (n : ℕ) → IsPositive o → AtLeast o n → 65535 ≤ n * rounds_less o
-enough-least None n some h = absurd h
-enough-least (Some least) n some h =
-    let k : ℕ = (65535 + (least - 1)) / least in
-    let past : 65535 + (least - 1) < least * (k + 1) = lt-mul-div-succ (65535 + (least - 1)) (let s : 0 < least = omega (arith, some) in s) in
-    let whole = mul-add least k 1 in
-    let is : n ≡ least + (n - least) = omega (arith, h) in
-    let more = ap (λ m. m * k) is ∙ add-mul least (n - least) k in
-    omega (arith, past, whole, more, some)
+enough-least o n some h = grind (arith, common_steps, lt-mul-div-succ, mul-add, add-mul)
 
 class-enough : (class : Scheduler) (o : Option ℕ) → IsPositive o → ((n : ℕ) → AtLeast (least (quanta_of class)) n → AtLeast o n) → AreEnough (rounds_less o) class
 class-enough (drr quanta) o some h = all-weaker (AtLeast (least quanta)) (λ n. 65535 ≤ n * rounds_less o) quanta (λ n l. enough-least o n some (h n l)) (least-at_least quanta)

@@ -1,10 +1,8 @@
 -- A Shaper may ask at each moment that is later than those of its earlier turns: a tick gives a token at least.
-use Rattle.std.proofs.Common.{◌≡◌, ℕ, ◌+◌, ◌-◌, ◌*◌, ◌<◌, ◌≤◌, ◌&&◌, nat_le, if◌then◌else◌, Bool, true, false, List, [], ◌∷◌, is_some, refl, ap, ap₂, ◌∙◌, mul-add, arith}
+use Rattle.std.proofs.Common.{◌≡◌, ℕ, ◌+◌, ◌*◌, ◌<◌, ◌≤◌, ◌&&◌, nat_le, if◌then◌else◌, Bool, true, false, List, [], ◌∷◌, is_some, refl, ap, ap₂, ◌∙◌, arith, rules}
 use Rattle.std.specs.List.{AllByRecursion}
 use Rattle.std.specs.Bool.{⊤}
-use Rattle.std.proofs.lemmas.Bool.{false≢true}
 use Rattle.std.proofs.lemmas.Bool.Decides.{nat_tests}
-use Rattle.clk_sched.specs.declared.visit.Visit.{Visit}
 use Rattle.clk_packet.specs.Scheduler.{Scheduler, shaper, HasArguments}
 use Rattle.clk_sched.specs.Turns.{Turn, EachAfter, AsksInOrder, giver}
 use Rattle.clk_sched.specs.Laws.{AllowsTurn}
@@ -25,40 +23,22 @@ each-before Law earlier (x ∷ xs) h k = each-before Law (x ∷ earlier) xs h.1 
 
 -- a tick, or several, give a token at least
 more-tokens : (rate m n : ℕ) → 1 ≤ rate → m < n → rate * m + 1 ≤ rate * n
-more-tokens rate m n some l =
-    let d : ℕ = n - (m + 1) in
-    let is : n ≡ m + (1 + d) = omega arith in
-    let whole = ap (λ k. rate * k) is ∙ mul-add rate m (1 + d) ∙ ap (λ k. rate * m + k) (mul-add rate 1 d) in
-    omega (arith, whole, some)
+more-tokens rate m n some l = search rules
 
 room-later : (rate burst m n : ℕ) (later more earlier : List Turn) → 1 ≤ rate → m < n → packets_passed more ≡ packets_passed later + 1
     → keeps_since_each rate burst m later earlier ≡ true → keeps_since_each rate burst n more earlier ≡ true
 room-later rate burst m n later more [] some l count e = refl
 room-later rate burst m n later more (t ∷ earlier) some l count e =
     let both = and-both (if has_passed t then keeps_since rate burst m later t else true) (keeps_since_each rate burst m (t ∷ later) earlier) e in
-    ap₂ (λ a b. a && b) (by_passed (has_passed t) both.0) (room-later rate burst m n (t ∷ later) (t ∷ more) earlier some l (one-more (has_passed t)) both.1)
+    ap₂ (λ a b. a && b) (by_passed (has_passed t) both.0) (room-later rate burst m n (t ∷ later) (t ∷ more) earlier some l (search rules) both.1)
   where
-    one-more : (b : Bool) → (if b then packets_passed more + 1 else packets_passed more) ≡ (if b then packets_passed later + 1 else packets_passed later) + 1
-    one-more true = ap (λ k. k + 1) count
-    one-more false = count
-
     by_passed : (b : Bool) → (if b then nat_le ((if b then packets_passed later + 1 else packets_passed later) + 1 + rate * t.moment) (burst + rate * m) else true) ≡ true
         → (if b then nat_le ((if b then packets_passed more + 1 else packets_passed more) + 1 + rate * t.moment) (burst + rate * n) else true) ≡ true
-    by_passed false f = refl
-    by_passed true f =
-        let here : packets_passed later + 1 + 1 + rate * t.moment ≤ burst + rate * m = grind (arith, nat_tests) in
-        let tokens = more-tokens rate m n some l in
-        let there : packets_passed more + 1 + 1 + rate * t.moment ≤ burst + rate * n = omega (arith, here, tokens, count) in
-        grind (arith, nat_tests)
+    by_passed b f = search rules
 
 -- a Shaper that gave had room
 gave-room : (rate burst : ℕ) (earlier : List Turn) (t : Turn) → AsksInOrder (shaper_order rate burst earlier t.moment) t.visits → is_some (giver t.visits) ≡ true → has_room rate burst t.moment earlier ≡ true
-gave-room rate burst earlier t h e = by_visits t.visits (has_room rate burst t.moment earlier) h e
-  where
-    by_visits : (visits : List Visit) (b : Bool) → AsksInOrder (if b then 0 ∷ [] else []) visits → is_some (giver visits) ≡ true → b ≡ true
-    by_visits visits true k f = refl
-    by_visits [] false k f = absurd (false≢true f)
-    by_visits (v ∷ visits) false k f = absurd k.in_order
+gave-room rate burst earlier t h e = search rules
 
 has-room : (rate burst w n : ℕ) (earlier : List Turn) → 1 ≤ rate → 1 ≤ burst → EachBefore (AllowsTurn (shaper rate burst) w) earlier → AllByRecursion (λ (t : Turn). t.moment < n) earlier → has_room rate burst n earlier ≡ true
 has-room rate burst w n [] some full h l = refl
@@ -68,12 +48,10 @@ has-room rate burst w n (t ∷ earlier) some full h l = by_passed (has_passed t)
     by_passed false e rest = room-unpassed rate burst n [] t earlier e ∙ rest
     by_passed true e rest =
         let more = more-tokens rate t.moment n some l.0 in
-        let there : 0 + 2 + rate * t.moment ≤ burst + rate * n = omega (arith, more, full) in
         let first : nat_le (0 + 2 + rate * t.moment) (burst + rate * n) ≡ true = grind (arith, nat_tests) in
         room-passed rate burst n [] t earlier e
         ∙ ap₂ (λ a b. a && b) first (room-later rate burst t.moment n [] (t ∷ []) earlier some l.0 (ap (λ passed. if passed then 0 + 1 else 0) e) (gave-room rate burst earlier t h.0.follows e))
 
 -- after earlier turns, each at an earlier moment, a scheduler may ask
 pub may-ask : (class : Scheduler) (w n : ℕ) (earlier : List Turn) → HasArguments class w → EachBefore (AllowsTurn class w) earlier → AllByRecursion (λ (t : Turn). t.moment < n) earlier → MayAsk class earlier n
-may-ask (shaper rate burst) w n earlier args h l = has-room rate burst w n earlier args.1.0 args.2.0 h l
-may-ask class w n earlier args h l = tt
+may-ask class w n earlier args h l = search (rules, has-room)

@@ -1,5 +1,6 @@
 -- What is left in the rows of a tree, and what it may cost yet; and what one more pull does to both.
-use Rattle.std.proofs.Common.{◌≡◌, ℕ, zero, suc, ◌+◌, ◌*◌, ◌<◌, ◌≤◌, ◌==◌, Bool, true, false, List, [], ◌∷◌, ◌++◌, length, map, filter, reverse, Option, None, refl, sym, ap, ◌∙◌, subst, arith}
+use Rattle.std.proofs.lemmas.Bool.Decides.{nat_tests}
+use Rattle.std.proofs.Common.{◌≡◌, ℕ, zero, suc, ◌+◌, ◌*◌, ◌<◌, ◌≤◌, ◌==◌, Bool, true, false, List, [], ◌∷◌, ◌++◌, length, map, filter, reverse, Option, None, refl, sym, ap, ◌∙◌, subst, arith, rules}
 use Rattle.std.specs.List.{AllByRecursion, list_any}
 use Rattle.std.specs.Bool.{⊤}
 use Rattle.std.proofs.lemmas.Bool.{false≢true}
@@ -23,9 +24,8 @@ use Rattle.clk_sched.proofs.Runs.Blocks.{Owns, owns-after_leaf, owns-after_node,
 use Rattle.clk_sched.proofs.Runs.Pulled.{IsPulledIn, pulled-after_leaf, pulled-after_node, pulled-inputs, turns-visits, copies-unasked}
 use Rattle.clk_sched.proofs.Runs.GoesOn.{filter-reverse, map-reverse}
 use Rattle.clk_sched.proofs.Shares.DeficitShares.{IsCovered, covers-all}
-use Rattle.clk_sched.proofs.Classes.Table.{MayAsk}
 use Rattle.clk_sched.proofs.Closing.Turned.{IsTurn, is-turn, all-visited}
-use Rattle.clk_sched.proofs.Closing.Room.{EachBefore, each-before, may-ask}
+use Rattle.clk_sched.proofs.Closing.Room.{each-before, may-ask}
 use Rattle.clk_sched.proofs.Closing.Costs.{CostsAt, KeepsDeficits, TurnLaw, onto-joined}
 
 -- the visits of a node, the latest first
@@ -92,46 +92,21 @@ pub record IsPulledMore (k : ℕ) (old new : ℕ → ℕ) (log pull : List Visit
 
 pub more-after_leaf : (k : ℕ) (old new : ℕ → ℕ) (log pull : List Visit) (above first next q : ℕ) (row : Row) (pulled : List (List Visit)) → IsPulledMore k old new log pull above first next (leaf q row) pulled
     → IsPulledMore k old new log pull above (suc first) next row pulled
-more-after_leaf k old new log pull above first next q row pulled h =
-    record {
-      inside = pulled-after_leaf log above first next q row pulled h.inside;
-      obeys = h.obeys;
-      allows = h.allows;
-      owns = λ y l m. owns-after_leaf y pull above first next q row (h.owns y l m);
-      sound = h.sound;
-      enough = h.enough;
-      later = h.later;
-      gives = h.gives.1;
-    }
+more-after_leaf k old new log pull above first next q row pulled h = search (rules, pulled-after_leaf, owns-after_leaf)
 
 pub more-after_node : (k : ℕ) (old new : ℕ → ℕ) (log pull : List Visit) (above first next : ℕ) (class : Scheduler) (inputs row : Row) (pulled : List (List Visit))
     → IsPulledMore k old new log pull above first next (node class inputs row) pulled → IsPulledMore k old new log pull above (suc first) (suc (next + nodes inputs)) row pulled
-more-after_node k old new log pull above first next class inputs row pulled h =
-    record {
-      inside = pulled-after_node log above first next class inputs row pulled h.inside;
-      obeys = h.obeys.3;
-      allows = h.allows.2;
-      owns = λ y l m. owns-after_node y pull above first next class inputs row l (h.owns y (omega arith) (omega arith));
-      sound = h.sound.3;
-      enough = h.enough.2;
-      later = h.later;
-      gives = h.gives.1;
-    }
+more-after_node k old new log pull above first next class inputs row pulled h = search (rules, pulled-after_node, owns-after_node)
 
 -- a scheduler that isn't asked has no visits
 pub unasked-none : (k : ℕ) (old new : ℕ → ℕ) (log pull : List Visit) (above first next : ℕ) (class : Scheduler) (inputs row : Row) (pulled : List (List Visit))
     → IsPulledMore k old new log pull above first next (node class inputs row) pulled → list_any (asks first) (visits_of above pull) ≡ false → visits_of next pull ≡ []
-unasked-none k old new log pull above first next class inputs row pulled h e =
-    owns-self pull above first next class inputs row (h.owns next (omega arith) (omega arith)) ∙ copies-unasked (asks first) (visits_of next pull) (visits_of above pull) e
+unasked-none k old new log pull above first next class inputs row pulled h e = search (rules, owns-self, copies-unasked)
 
 none-allows : (above first next : ℕ) (row : Row) (earlier : List (List Visit)) (pull : List Visit) → visits_of above pull ≡ [] → EachAllows above first next row earlier pull
 none-allows above first next end earlier pull e = tt
 none-allows above first next (leaf q row) earlier pull e = none-allows above (suc first) next row earlier pull e
-none-allows above first next (node class inputs row) earlier pull e = (
-  (λ asked. absurd (false≢true (sym (ap (list_any (asks first)) e) ∙ asked))),
-  subst (λ vs. AllByRecursion (λ (v : Visit). v.got ≡ result_of (visits_of next pull)) (filter (asks first) vs)) (sym e) tt,
-  none-allows above (suc first) (suc (next + nodes inputs)) row earlier pull e,
-)
+none-allows above first next (node class inputs row) earlier pull e = search (rules, false≢true, (none-allows above (suc first) (suc (next + nodes inputs)) row earlier pull e))
 
 pub more-inputs : (k : ℕ) (old new : ℕ → ℕ) (log pull : List Visit) (above first next : ℕ) (class : Scheduler) (inputs row : Row) (pulled : List (List Visit))
     → IsPulledMore k old new log pull above first next (node class inputs row) pulled → IsPulledMore k old new log pull next 0 (suc next) inputs (pulls_below above first pulled)
@@ -139,18 +114,13 @@ more-inputs k old new log pull above first next class inputs row pulled h =
     record {
       inside = pulled-inputs log above first next class inputs row pulled h.inside;
       obeys = h.obeys.2;
-      allows = by_asked (list_any (asks first) (visits_of above pull)) refl;
+      allows = search (rules, filter-reverse, none-allows, unasked-none);
       owns = λ y l m. owns-inputs y pull above first next class inputs row l (omega arith) (h.owns next (omega arith) (omega arith)) (h.owns y (omega arith) (omega arith));
       sound = h.sound.2;
       enough = h.enough.1;
       later = all-filter (λ p. moment_of p < moment_of pull) (λ p. list_any (asks first) (visits_of above p)) pulled h.later;
       gives = h.gives.0;
     }
-  where
-    by_asked : (b : Bool) → list_any (asks first) (visits_of above pull) ≡ b → EachAllows next 0 (suc next) inputs (reverse (pulls_below above first pulled)) pull
-    by_asked true e =
-        subst (λ ps. EachAllows next 0 (suc next) inputs ps pull) (filter-reverse (λ p. list_any (asks first) (visits_of above p)) pulled) (h.allows.0 e).1
-    by_asked false e = none-allows next 0 (suc next) inputs (reverse (pulls_below above first pulled)) pull (unasked-none k old new log pull above first next class inputs row pulled h e)
 
 -- A scheduler's visits in one more pull, after those before.
 pub record IsTurnMore (k w : ℕ) (class : Scheduler) (earlier visits : List Visit) (asked : Bool) : Type 0 where
@@ -169,8 +139,7 @@ all-onto P (x ∷ xs) earlier h k = all-onto P xs (x ∷ earlier) h.1 (h.0, k)
 
 visits-before_onto : (ts earlier : List Turn) → visits_before (onto ts earlier) ≡ onto (all_visits ts) (visits_before earlier)
 visits-before_onto [] earlier = refl
-visits-before_onto (t ∷ ts) earlier =
-    visits-before_onto ts (t ∷ earlier) ∙ ap (onto (all_visits ts)) (sym (onto-append t.visits (visits_before earlier))) ∙ sym (onto-joined t.visits (all_visits ts) (visits_before earlier))
+visits-before_onto (t ∷ ts) earlier = search (rules, onto, onto-append, onto-joined, (visits-before_onto ts (t ∷ earlier)))
 
 -- the turns before, and the visits in them
 record AreTurnsBefore (class : Scheduler) (w x : ℕ) (log : List Visit) (moment : ℕ) (turns : List Turn) : Type 0 where
@@ -191,40 +160,12 @@ deficits-keep k w x quanta log visits moment turns before enough width looks =
 -- of a scheduler that was asked
 turn-asked : (k w x : ℕ) (class : Scheduler) (log pull : List Visit) (turns : List Turn) → AreTurnsBefore class w x log (moment_of pull) turns → 1 ≤ w → HasArguments class w → AreEnough k class
     → AllowsTurn class w (reverse turns) (turn x pull) → IsTurnMore k w class (latest log x) (visits_of x pull) true
-turn-asked k w x class log pull turns before some args enough allows =
-    record {
-      law = law class before args enough allows;
-      is_turn = is-turn class w (reverse turns) (turn x pull) some args allows;
-      all = λ _ none. all-visited class w (reverse turns) (turn x pull) some args may allows none;
-    }
-  where
-    back : onto turns [] ≡ reverse turns
-    back = onto-reverse turns
-
-    may : MayAsk class (reverse turns) (moment_of pull)
-    may =
-        may-ask class w (moment_of pull) (reverse turns) args (subst (EachBefore (AllowsTurn class w)) back (each-before (AllowsTurn class w) [] turns before.obeys tt))
-        (subst (AllByRecursion (λ (t : Turn). t.moment < moment_of pull)) back (all-onto (λ (t : Turn). t.moment < moment_of pull) turns [] before.later tt))
-
-    seen : visits_before (reverse turns) ≡ latest log x
-    seen = ap visits_before (sym back) ∙ visits-before_onto turns [] ∙ before.visits
-
-    law : (c : Scheduler) → AreTurnsBefore c w x log (moment_of pull) turns → HasArguments c w → AreEnough k c → AllowsTurn c w (reverse turns) (turn x pull) → TurnLaw k w c (latest log x) (visits_of x pull)
-    law (drr quanta) b a e h =
-        deficits-keep k w x quanta log (visits_of x pull) (moment_of pull) turns b e a.0
-        (subst (λ l. EachAfter (LooksAtHeads (next_input w) (deficit_covers quanta)) l (visits_of x pull)) seen h.follows.0)
-    law c b a e h = h.follows.plain
+turn-asked k w x class log pull turns before some args enough allows = grind (arith, nat_tests, is-turn, all-visited, onto, onto-reverse, may-ask, each-before, all-onto, visits-before_onto, deficits-keep)
 
 -- of one that wasn't
 turn-unasked : (k w x : ℕ) (class : Scheduler) (log visits : List Visit) (moment : ℕ) (turns : List Turn) → AreTurnsBefore class w x log moment turns → HasArguments class w → AreEnough k class → visits ≡ []
     → IsTurnMore k w class (latest log x) visits false
-turn-unasked k w x class log visits moment turns before args enough none =
-    subst (λ vs. IsTurnMore k w class (latest log x) vs false) (sym none)
-    (record { law = law class before args enough; is_turn = record { within = tt; apart = tt; passed = refl }; all = λ e _. absurd (false≢true e) })
-  where
-    law : (c : Scheduler) → AreTurnsBefore c w x log moment turns → HasArguments c w → AreEnough k c → TurnLaw k w c (latest log x) []
-    law (drr quanta) b a e = deficits-keep k w x quanta log [] moment turns b e a.0 tt
-    law c b a e = tt
+turn-unasked k w x class log visits moment turns before args enough none = search (rules, false≢true, deficits-keep)
 
 pub turn-more : (k : ℕ) (old new : ℕ → ℕ) (log pull : List Visit) (above first next : ℕ) (class : Scheduler) (inputs row : Row) (pulled : List (List Visit))
     → IsPulledMore k old new log pull above first next (node class inputs row) pulled

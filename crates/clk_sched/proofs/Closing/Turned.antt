@@ -1,15 +1,14 @@
 -- A turn of each class goes to each of its inputs once at most, and to all of them where it gives none.
-use Rattle.std.proofs.Common.{◌≡◌, ◌≢◌, ℕ, zero, suc, ◌+◌, ◌%◌, ◌<◌, ◌≤◌, if◌then◌else◌, Bool, true, false, List, [], ◌∷◌, length, Option, Some, None, is_some, MatchOption, MatchBool, refl, sym, ap, ◌∙◌, subst, arith}
+use Rattle.std.proofs.Common.{◌≡◌, ◌≢◌, ℕ, zero, suc, ◌+◌, ◌%◌, ◌<◌, ◌≤◌, if◌then◌else◌, Bool, true, false, List, [], ◌∷◌, length, Option, Some, None, is_some, MatchOption, MatchBool, refl, sym, ap, ◌∙◌, subst, arith, rules}
 use Rattle.std.specs.List.{AllByRecursion}
-use Rattle.std.proofs.lemmas.Bool.{false≢true}
 use Rattle.clk_packet.specs.declared.packet.Packet.{Packet}
 use Rattle.clk_sched.specs.declared.visit.Visit.{Visit}
 use Rattle.clk_packet.specs.Scheduler.{Scheduler, drr, HasArguments}
-use Rattle.clk_sched.specs.Turns.{Turn, EachAfter, IsPlain, UpToFirst, AsksInOrder, visits_before}
-use Rattle.clk_sched.specs.Heads.{is_covered, LooksAtHeads, EndAtPass}
+use Rattle.clk_sched.specs.Turns.{Turn, EachAfter, IsPlain, UpToFirst, AsksInOrder}
+use Rattle.clk_sched.specs.Heads.{LooksAtHeads, EndAtPass}
 use Rattle.clk_sched.specs.Log.{result_of}
 use Rattle.clk_sched.specs.Laws.{AllowsTurn, manner}
-use Rattle.clk_sched.specs.Laws.Deficit.{next_input, deficit_covers}
+use Rattle.clk_sched.specs.Laws.Deficit.{next_input}
 use Rattle.clk_sched.specs.inside.Pulling.{AreApart, input_of}
 use Rattle.clk_sched.proofs.Lists.Members.{all-weaker}
 use Rattle.clk_sched.proofs.Runs.Allowed.{AreWithin}
@@ -33,12 +32,7 @@ PassSome visits = AllByRecursion (λ (v : Visit). v.passed ≡ true → is_some 
 
 passed-result : (visits : List Visit) → PassesLast visits → PassSome visits → count passes visits ≡ one_if (is_some (result_of visits))
 passed-result [] l h = refl
-passed-result (v ∷ visits) l h = by_passed v.passed l.0 h.0 (passed-result visits l.1 h.1)
-  where
-    by_passed : (b : Bool) → (b ≡ true → visits ≡ []) → (b ≡ true → is_some v.got ≡ true) → count passes visits ≡ one_if (is_some (result_of visits))
-        → one_if b + count passes visits ≡ one_if (is_some (if b then v.got else result_of visits))
-    by_passed true e g rest = ap (λ l. 1 + count passes l) (e refl) ∙ sym (ap one_if (g refl))
-    by_passed false e g rest = omega (arith, rest)
+passed-result (v ∷ visits) l h = search (rules, (passed-result visits l.1 h.1))
 
 plain-pass : (visits : List Visit) → AllByRecursion IsPlain visits → PassSome visits
 plain-pass [] h = tt
@@ -46,11 +40,7 @@ plain-pass (v ∷ visits) h = ((λ e. sym h.0.passed ∙ e), plain-pass visits h
 
 looked-pass : (turn_of : List Visit → ℕ) (covers : List Visit → ℕ → Packet → Bool) (earlier visits : List Visit) → EachAfter (LooksAtHeads turn_of covers) earlier visits → PassSome visits
 looked-pass turn_of covers earlier [] h = tt
-looked-pass turn_of covers earlier (v ∷ visits) h = ((λ e. by_got v.got (sym h.0.passes ∙ e)), looked-pass turn_of covers (v ∷ earlier) visits h.1)
-  where
-    by_got : (o : Option Packet) → is_covered (covers earlier v.input) o ≡ true → is_some o ≡ true
-    by_got None e = e
-    by_got (Some p) e = refl
+looked-pass turn_of covers earlier (v ∷ visits) h = search (rules, (looked-pass turn_of covers (v ∷ earlier) visits h.1))
 
 -- visits in an order
 in_order-inputs : (P : ℕ → Type 0) (order : List ℕ) (visits : List Visit) → UpToFirst order visits → AllByRecursion P order → AllByRecursion (λ (v : Visit). P v.input) visits
@@ -60,8 +50,7 @@ in_order-inputs P (i ∷ order) [] u h = absurd u
 in_order-inputs P (i ∷ order) (v ∷ visits) u h = (subst P (sym u.0) h.0, by_got v.got u.1 (λ k. in_order-inputs P order visits k h.1))
   where
     by_got : (o : Option Packet) → MatchOption o (UpToFirst order visits) (λ _. visits ≡ []) → (UpToFirst order visits → AllByRecursion (λ (v : Visit). P v.input) visits) → AllByRecursion (λ (v : Visit). P v.input) visits
-    by_got None k rest = rest k
-    by_got (Some p) k rest = subst (AllByRecursion (λ (v : Visit). P v.input)) (sym k) tt
+    by_got o k rest = search rules
 
 in_order-apart : (order : List ℕ) (visits : List Visit) → UpToFirst order visits → AreApart (λ (i : ℕ). i) order → AreApart input_of visits
 in_order-apart [] [] u h = tt
@@ -84,10 +73,7 @@ in_order-all (i ∷ order) (v ∷ visits) p u e = by_cases v.passed v.got p.0.pa
   where
     by_cases : (b : Bool) (o : Option Packet) → b ≡ is_some o → MatchOption o (UpToFirst order visits) (λ _. visits ≡ []) → (if b then o else result_of visits) ≡ None
         → (UpToFirst order visits → result_of visits ≡ None → length visits ≡ length order) → suc (length visits) ≡ suc (length order)
-    by_cases false None f k g rest = ap suc (rest k g)
-    by_cases true None f k g rest = absurd (false≢true (sym f))
-    by_cases false (Some x) f k g rest = absurd (false≢true f)
-    by_cases true (Some x) f k g rest = absurd (false≢true (sym (ap is_some g)))
+    by_cases b o f k g rest = search rules
 
 -- visits by whose turn it is, around the inputs
 heads-around : (w s j n : ℕ) (covers : List Visit → ℕ → Packet → Bool) (earlier visits : List Visit) → s < w → j + n ≤ w → EachAfter (LooksAtHeads (next_input w) covers) earlier visits → EndAtPass n visits
@@ -128,24 +114,16 @@ heads-all (suc n) (v ∷ visits) p e f = by_passed v.passed p.0 e f (λ k r. hea
   where
     by_passed : (b : Bool) → (b ≡ true → is_some v.got ≡ true) → MatchBool b (visits ≡ []) (EndAtPass n visits) → (if b then v.got else result_of visits) ≡ None
         → (EndAtPass n visits → result_of visits ≡ None → length visits ≡ n) → suc (length visits) ≡ suc n
-    by_passed true g k r rest = absurd (false≢true (sym (ap is_some r) ∙ g refl))
-    by_passed false g k r rest = ap suc (rest k r)
+    by_passed b g k r rest = search rules
 
 plain-turn : (w : ℕ) (order : List ℕ) (visits : List Visit) → AreWithin w visits → AsksInOrder order visits → PassesLast visits → AreApart (λ (i : ℕ). i) order → IsTurn w visits
-plain-turn w order visits l h p a =
-    record { within = l; apart = in_order-apart order visits h.in_order a; passed = passed-result visits p (plain-pass visits h.plain) }
+plain-turn w order visits l h p a = search (rules, in_order-apart, passed-result, plain-pass)
 
 pub is-turn : (class : Scheduler) (w : ℕ) (earlier : List Turn) (t : Turn) → 1 ≤ w → HasArguments class w → AllowsTurn class w earlier t → IsTurn w t.visits
-is-turn (drr quanta) w earlier t some args h =
-    record {
-      within = h.within;
-      apart = heads-apart w (deficit_covers quanta) (visits_before earlier) t.visits h.within h.follows.0 h.follows.1;
-      passed = passed-result t.visits (turn-last (manner (drr quanta) w) w earlier t h.follows) (looked-pass (next_input w) (deficit_covers quanta) (visits_before earlier) t.visits h.follows.0);
-    }
+is-turn (drr quanta) w earlier t some args h = search (rules, heads-apart, passed-result, turn-last, looked-pass)
 is-turn class w earlier t some args h =
     plain-turn w _ t.visits h.within h.follows (turn-last (manner class w) w earlier t h.follows) ((asks-right class w some args).orders earlier t.moment).apart
 
 -- a turn that gave none visited all inputs
 pub all-visited : (class : Scheduler) (w : ℕ) (earlier : List Turn) (t : Turn) → 1 ≤ w → HasArguments class w → MayAsk class earlier t.moment → AllowsTurn class w earlier t → result_of t.visits ≡ None → length t.visits ≡ w
-all-visited (drr quanta) w earlier t some args may h e = heads-all w t.visits (looked-pass (next_input w) (deficit_covers quanta) (visits_before earlier) t.visits h.follows.0) h.follows.1 e
-all-visited class w earlier t some args may h e = in_order-all _ t.visits h.follows.plain h.follows.in_order e ∙ (asks-right class w some args).whole earlier t.moment may
+all-visited class w earlier t some args may h e = search (rules, heads-all, looked-pass, in_order-all, asks-right)

@@ -1,5 +1,5 @@
 -- The visits of a turn to each input: none or one, and how many there are in all.
-use Rattle.std.proofs.Common.{◌≡◌, ◌≢◌, ◌⊎◌, ℕ, zero, suc, ◌+◌, ◌<◌, ◌≤◌, ◌==◌, if◌then◌else◌, Bool, true, false, inl, inr, List, [], ◌∷◌, ◌++◌, refl, sym, ap, ap₂, ◌∙◌, subst, eq-or-lt_of_le, arith}
+use Rattle.std.proofs.Common.{◌≡◌, ◌≢◌, ◌⊎◌, ℕ, zero, suc, ◌+◌, ◌<◌, ◌≤◌, ◌==◌, if◌then◌else◌, Bool, true, false, inl, inr, List, [], ◌∷◌, ◌++◌, refl, sym, ap, ap₂, ◌∙◌, subst, eq-or-lt_of_le, arith, rules}
 use Rattle.std.specs.List.{AllByRecursion}
 use Rattle.std.proofs.lemmas.Bool.{false≢true}
 use Rattle.std.proofs.lemmas.Bool.Decides.{nat_tests}
@@ -61,22 +61,12 @@ hits-append test i [] vs = omega arith
 hits-append test i (u ∷ us) vs = let rest = hits-append test i us vs in omega (arith, rest)
 
 pub hits-at : (test : Visit → Bool) (i : ℕ) (visits : List Visit) (at : IsAt i visits) → hits test i visits ≡ one_if (test at.visit)
-hits-at test i visits at =
-    ap (hits test i) at.are ∙ hits-append test i at.before (at.visit ∷ at.after) ∙ ap₂ (λ m n. m + n) (hits-misses test i at.before at.misses_before)
-    (ap₂ (λ b n. (if b then one_if (test at.visit) else 0) + n) (equal at.visit.input i at.here) (hits-misses test i at.after at.misses_after))
-    ∙ zero_more (one_if (test at.visit))
-  where
-    zero_more : (n : ℕ) → 0 + (n + 0) ≡ n
-    zero_more n = omega arith
+hits-at test i visits at = search (rules, hits-append, hits-misses, equal)
 
 -- no more visits to an input than in all
 pub hits-at_most : (test : Visit → Bool) (i : ℕ) (visits : List Visit) → hits test i visits ≤ count test visits
 hits-at_most test i [] = omega arith
-hits-at_most test i (v ∷ visits) = by_input (v.input == i) (hits-at_most test i visits)
-  where
-    by_input : (b : Bool) → hits test i visits ≤ count test visits → (if b then one_if (test v) else 0) + hits test i visits ≤ one_if (test v) + count test visits
-    by_input true l = omega (arith, l)
-    by_input false l = omega (arith, l)
+hits-at_most test i (v ∷ visits) = search (rules, (hits-at_most test i visits))
 
 -- the sum over so many inputs from one on
 abbrev pub sum_from : (ℕ → ℕ) → ℕ → ℕ → ℕ
@@ -96,14 +86,7 @@ sum-one i x a zero l m = absurd (omega arith)
 sum-one i x a (suc n) l m = by_order (eq-or-lt_of_le l) (λ k. sum-one i x (suc a) n k (omega arith))
   where
     by_order : (a ≡ i) ⊎ (a < i) → (a < i → sum_from (λ j. if i == j then x else 0) (suc a) n ≡ x) → (if i == a then x else 0) + sum_from (λ j. if i == j then x else 0) (suc a) n ≡ x
-    by_order (inl e) rest = ap₂ (λ b k. (if b then x else 0) + k) (equal i a (sym e)) (sum-none i x (suc a) n (omega (arith, e))) ∙ zero_after x
-      where
-        zero_after : (k : ℕ) → k + 0 ≡ k
-        zero_after k = omega arith
-    by_order (inr k) rest = ap₂ (λ b k. (if b then x else 0) + k) (differs i a (λ e. omega (arith, e, k))) (rest k) ∙ zero_before x
-      where
-        zero_before : (n : ℕ) → 0 + n ≡ n
-        zero_before n = omega arith
+    by_order h rest = search (rules, equal, sum-none, differs)
 
 sum-zero : (a n : ℕ) → sum_from (λ j. 0) a n ≡ 0
 sum-zero a zero = refl
@@ -125,12 +108,8 @@ pub each-one : (f : ℕ → ℕ) (a n : ℕ) → ((j : ℕ) → f j ≤ 1) → n
 each-one f a zero h l j low high = absurd (omega arith)
 each-one f a (suc n) h l j low high = by_order (eq-or-lt_of_le low) (λ m k. each-one f (suc a) n h m j k (omega arith))
   where
-    here : f a ≤ 1
-    here = h a
-
     most : sum_from f (suc a) n ≤ n
     most = sum-at_most f (suc a) n h
 
     by_order : (a ≡ j) ⊎ (a < j) → (n ≤ sum_from f (suc a) n → a < j → f j ≡ 1) → f j ≡ 1
-    by_order (inl e) rest = subst (λ k. f k ≡ 1) e (let k = here in let m = most in omega (arith, k, m, l))
-    by_order (inr k) rest = rest (let g = here in omega (arith, g, l)) k
+    by_order e rest = search (rules, most)

@@ -1,8 +1,6 @@
 -- Every packet that a node passes or holds came from a queue below it.
-use Rattle.std.proofs.Common.{◌≡◌, ℕ, zero, suc, ◌+◌, ◌<◌, ◌==◌, ◌&&◌, ◌||◌, inl, inr, if◌then◌else◌, Bool, true, false, List, [], ◌∷◌, map, reverse, Option, Some, None, MatchOption, refl, sym, ap, ap₂, ◌∙◌, subst, arith}
+use Rattle.std.proofs.Common.{◌≡◌, ℕ, zero, suc, ◌+◌, ◌<◌, ◌==◌, ◌&&◌, ◌||◌, inl, inr, if◌then◌else◌, Bool, true, List, [], ◌∷◌, map, reverse, Option, Some, None, refl, sym, ap, ap₂, ◌∙◌, subst, arith, rules}
 use Rattle.std.specs.List.{flat_map, filter_map, cons_option, range_with_len, AllByRecursion}
-use Rattle.std.proofs.lemmas.Bool.{false≢true}
-use Rattle.std.proofs.lemmas.Bool.Decides.{nat_tests}
 use Rattle.clk_packet.specs.declared.packet.Packet.{Packet}
 use Rattle.clk_sched.specs.declared.visit.Visit.{Visit}
 use Rattle.clk_packet.specs.Lists.{stands_in, In}
@@ -11,7 +9,7 @@ use Rattle.clk_sched.specs.Tree.{Row, end, leaf, node, Tree, root, nodes, width,
 use Rattle.clk_sched.specs.Laws.{Manner, in_order, with_heads, manner}
 use Rattle.clk_sched.specs.Log.{visits_of, pulls, turn, pulls_below}
 use Rattle.clk_sched.specs.Run.{EachObeys}
-use Rattle.clk_sched.specs.Results.{Traced, traced, leaf_packets, asks_queue, traced_heads, own_heads, held_at, up_to, latest_origin, origin_in}
+use Rattle.clk_sched.specs.Results.{Traced, traced, asks_queue, traced_heads, own_heads, held_at, up_to, latest_origin, origin_in}
 use Rattle.clk_sched.specs.Conservation.{CameFrom, MakesNothing}
 use Rattle.clk_sched.proofs.Lists.Members.{of-all, in-filter, all-append, all-flat_map, all-split, all-weaker}
 use Rattle.clk_sched.proofs.Lists.Numbers.{same}
@@ -37,33 +35,22 @@ all-flat_map-in P f x (y ∷ xs) h (inr m) = all-flat_map-in P f x xs (all-split
 
 -- a queue of a part of a row is one of the row
 or-left : (a b : Bool) → a ≡ true → (a || b) ≡ true
-or-left true b e = refl
-or-left false b e = absurd (false≢true e)
+or-left a b e = search
 
 or-right : (a b : Bool) → b ≡ true → (a || b) ≡ true
-or-right true b e = refl
-or-right false b e = e
+or-right a b e = search rules
 
 -- what was given by a visit of a log is among all that was
 among-given : (given : Visit → Option Packet) (v : Visit) (p : Packet) (log : List Visit) → In v log → given v ≡ Some p → In p (filter_map given log)
 among-given given v p [] m e = absurd m
 among-given given v p (u ∷ log) (inl s) e = subst (λ o. In p (cons_option o (filter_map given log))) (sym (ap given s ∙ e)) (inl refl)
-among-given given v p (u ∷ log) (inr m) e = by_given (given u) (among-given given v p log m e)
-  where
-    by_given : (o : Option Packet) → In p (filter_map given log) → In p (cons_option o (filter_map given log))
-    by_given None k = k
-    by_given (Some x) k = inr k
+among-given given v p (u ∷ log) (inr m) e = search (rules, (among-given given v p log m e))
 
 abbrev AllFrom : Tree → List Visit → Row → List Traced → Type 0
 AllFrom tree log row ts = AllByRecursion (CameFrom tree log row) ts
 
 came-wider : (tree : Tree) (log : List Visit) (row other : Row) → ((q : ℕ) → stands_in q (leaves row) ≡ true → stands_in q (leaves other) ≡ true) → (ts : List Traced) → AllFrom tree log row ts → AllFrom tree log other ts
-came-wider tree log row other wider ts h = all-weaker (CameFrom tree log row) (CameFrom tree log other) ts (λ t k. by_origin t.1 t.0 k) h
-  where
-    by_origin : (o : Option ℕ) (p : Packet) → MatchOption o ⊥ (λ q. (stands_in q (leaves row) ≡ true) × In p (leaf_packets tree q log))
-        → MatchOption o ⊥ (λ q. (stands_in q (leaves other) ≡ true) × In p (leaf_packets tree q log))
-    by_origin None p k = k
-    by_origin (Some q) p k = (wider q k.0, k.1)
+came-wider tree log row other wider ts h = search (rules, all-weaker)
 
 in-after_leaf : (k : ℕ) (row : Row) (q : ℕ) → stands_in q (leaves row) ≡ true → stands_in q (leaves (leaf k row)) ≡ true
 in-after_leaf k row q h = or-right (k == q) (stands_in q (leaves row)) h
@@ -83,25 +70,13 @@ record AllCame (tree : Tree) (log : List Visit) (above first next : ℕ) (row : 
 came-here : (tree : Tree) (log : List Visit) (above first next k : ℕ) (row : Row) → StandsAt tree above first next (leaf k row) → AllFrom tree log (leaf k row) (gives log above first next (leaf k row) 0)
 came-here tree log above first next k row stands =
     subst (AllFrom tree log (leaf k row)) (sym (gives-queue log above first next k row))
-    (all-flat_map (CameFrom tree log (leaf k row)) (got_by (λ _. Some k) first) (visits_of above log) (λ v m. by_ask v m v.fresh (v.input == first) v.got refl refl refl))
+    (all-flat_map (CameFrom tree log (leaf k row)) (got_by (λ _. Some k) first) (visits_of above log) (λ v m. search (rules, or-left, same, among-given, in-filter, node-is, given, is-given)))
   where
     given : Visit → Option Packet
     given v = if asks_queue tree k v then v.got else None
 
     is-given : (v : Visit) → v.node ≡ above → v.fresh ≡ true → v.input ≡ first → given v ≡ v.got
     is-given v n f i = ap (λ b. if b then v.got else None) (ap₂ (λ b o. is_number k (if b then o else None)) f (ap₂ (queue_at tree) n i ∙ at-leaf tree above first next k row stands) ∙ same k)
-
-    by_ask : (v : Visit) → In v (visits_of above log) → (b c : Bool) (o : Option Packet) → v.fresh ≡ b → (v.input == first) ≡ c → v.got ≡ o → AllFrom tree log (leaf k row) (if b && c then traced o (Some k) else [])
-    by_ask v m false c o e f g = tt
-    by_ask v m true false o e f g = tt
-    by_ask v m true true None e f g = tt
-    by_ask v m true true (Some p) e f g = (
-      (
-        or-left (k == k) (stands_in k (leaves row)) (same k),
-        among-given given v p log (in-filter (λ (u : Visit). u.node == above) v log m).0 (is-given v (node-is above log v m) e (grind (arith, nat_tests)) ∙ g),
-      ),
-      tt,
-    )
 
 came-after_leaf : (tree : Tree) (log : List Visit) (above first next k : ℕ) (row : Row) → StandsAt tree above first next (leaf k row) → AllCame tree log above (suc first) next row
     → AllCame tree log above first next (leaf k row)
@@ -146,9 +121,7 @@ came-own tree log above first next class inputs row pulled h obeys below = (
       where
         by_test : (b c : Bool) → c ≡ true → AllFrom tree log inputs (if b && c then traced v.got (latest_origin (origin v.input) v.input (up_to v.pull (reverse visits))) else [])
             → AllFrom tree log inputs (if b then traced v.got (latest_origin (origin v.input) v.input (up_to v.pull (reverse visits))) else [])
-        by_test false c e k = tt
-        by_test true true e k = k
-        by_test true false e k = absurd (false≢true e)
+        by_test b c e k = search rules
 
     held : (m : Manner) → AllFrom tree log inputs (own_heads log next inputs m)
     held (in_order order) = tt

@@ -1,20 +1,19 @@
 -- A run conserves the packets of each queue.
-use Rattle.std.proofs.Common.{◌≡◌, ◌≢◌, ℕ, zero, suc, ◌+◌, ◌<◌, ◌≤◌, ◌==◌, ◌&&◌, ◌||◌, if◌then◌else◌, ◌⊎◌, inl, inr, Bool, true, false, List, [], ◌∷◌, ◌++◌, map, reverse, Option, Some, None, is_some, refl, sym, ap, ap₂, ◌∙◌, subst, append_assoc, append-nil, eq-or-lt_of_le, arith}
-use Rattle.std.specs.List.{flat_map, filter_map, cons_option, range_with_len, AllByRecursion}
+use Rattle.std.proofs.lemmas.Grind.{common_steps}
+use Rattle.std.proofs.Common.{◌≡◌, ◌≢◌, ℕ, zero, suc, ◌+◌, ◌<◌, ◌≤◌, ◌==◌, ◌&&◌, ◌||◌, if◌then◌else◌, ◌⊎◌, inl, inr, Bool, true, false, List, [], ◌∷◌, ◌++◌, map, reverse, Option, Some, None, refl, sym, ap, ap₂, ◌∙◌, subst, append_assoc, append-nil, eq-or-lt_of_le, arith, rules}
+use Rattle.std.specs.List.{flat_map, filter_map, range_with_len, AllByRecursion}
 use Rattle.std.proofs.lemmas.Bool.{false≢true}
-use Rattle.std.proofs.lemmas.Bool.Decides.{nat_tests}
 use Rattle.clk_packet.specs.declared.packet.Packet.{Packet}
 use Rattle.clk_sched.specs.declared.visit.Visit.{Visit}
 use Rattle.clk_packet.specs.Lists.{stands_in, are_distinct}
 use Rattle.clk_packet.specs.Scheduler.{Scheduler}
 use Rattle.clk_sched.specs.Tree.{Row, end, leaf, node, Tree, root, nodes, width, leaves, leaves_distinct, queue_at, is_number}
 use Rattle.clk_sched.specs.Turns.{Turn, EachAfter, all_visits, IsPlain}
-use Rattle.clk_sched.specs.Laws.{Manner, in_order, with_heads, manner, Follows}
+use Rattle.clk_sched.specs.Laws.{Manner, in_order, with_heads, Follows}
 use Rattle.clk_sched.specs.Laws.Device.{IsDeviceTurn}
-use Rattle.clk_sched.specs.Heads.{head_at}
 use Rattle.clk_sched.specs.Log.{visits_of, pulls, turn, pulls_below}
 use Rattle.clk_sched.specs.Run.{EachObeys, IsRun}
-use Rattle.clk_sched.specs.Results.{Traced, traced, leaf_packets, traced_emitted, traced_heads, own_heads, held_at, up_to, latest_origin, origin_in}
+use Rattle.clk_sched.specs.Results.{Traced, traced, leaf_packets, traced_emitted, traced_heads, own_heads, held_at, origin_in}
 use Rattle.clk_sched.specs.Conservation.{from_queue, ConservesPackets}
 use Rattle.clk_sched.proofs.Lists.Members.{of-all}
 use Rattle.clk_sched.proofs.Runs.Allowed.{onto-reverse, each-follows, device-visit}
@@ -30,14 +29,12 @@ use Rattle.clk_sched.proofs.Runs.Gives.{gives, results, gives-results, gives-que
 
 from_queue-same : {X : Type 0} (q : ℕ) (f g : X → List Traced) (xs : List X) → ((x : X) → from_queue q (f x) ≡ from_queue q (g x)) → from_queue q (flat_map f xs) ≡ from_queue q (flat_map g xs)
 from_queue-same q f g [] h = refl
-from_queue-same q f g (x ∷ xs) h =
-    from_queue-append q (f x) (flat_map f xs) ∙ ap₂ (λ l m. l ++ m) (h x) (from_queue-same q f g xs h) ∙ sym (from_queue-append q (g x) (flat_map g xs))
+from_queue-same q f g (x ∷ xs) h = search (rules, from_queue-append, (from_queue-same q f g xs h))
 
 -- of several inputs, one alone gives packets of a queue
 from_queue-none : (q : ℕ) (f : ℕ → List Traced) (i a n : ℕ) → ((j : ℕ) → j ≢ i → from_queue q (f j) ≡ []) → i < a → from_queue q (flat_map f (range_with_len a n)) ≡ []
 from_queue-none q f i a zero h l = refl
-from_queue-none q f i a (suc n) h l =
-    from_queue-append q (f a) (flat_map f (range_with_len (a + 1) n)) ∙ ap₂ (λ k m. k ++ m) (h a (λ e. omega (arith, e))) (from_queue-none q f i (a + 1) n h (omega arith))
+from_queue-none q f i a (suc n) h l = search (rules, from_queue-append, (from_queue-none q f i (a + 1) n h (omega arith)))
 
 from_queue-one : (q : ℕ) (f : ℕ → List Traced) (i a n : ℕ) → ((j : ℕ) → j ≢ i → from_queue q (f j) ≡ []) → a ≤ i → i < a + n → from_queue q (flat_map f (range_with_len a n)) ≡ from_queue q (f i)
 from_queue-one q f i a zero h l m = absurd (omega arith)
@@ -63,32 +60,10 @@ leaf-log : (q k above first : ℕ) → (k == q) ≡ true → (log : List Visit)
     → filter_map (λ (v : Visit). if v.fresh && ((v.node == above) && (v.input == first)) then v.got else None) log
     ≡ from_queue q (flat_map (got_by (λ _. Some k) first) (visits_of above log))
 leaf-log q k above first e [] = refl
-leaf-log q k above first e (v ∷ log) = by_node (v.node == above) (leaf-log q k above first e log)
-  where
-    more : List Packet
-    more = filter_map (λ (u : Visit). if u.fresh && ((u.node == above) && (u.input == first)) then u.got else None) log
-
-    visits : List Visit
-    visits = visits_of above log
-
-    by_got : (b : Bool) (o : Option Packet) → more ≡ from_queue q (flat_map (got_by (λ _. Some k) first) visits)
-        → cons_option (if b then o else None) more ≡ from_queue q ((if b then traced o (Some k) else []) ++ flat_map (got_by (λ _. Some k) first) visits)
-    by_got false o rest = rest
-    by_got true None rest = rest
-    by_got true (Some p) rest = rw e (ap (λ l. p ∷ l) rest)
-
-    by_fresh : (f : Bool) → more ≡ from_queue q (flat_map (got_by (λ _. Some k) first) visits) → cons_option (if f && false then v.got else None) more ≡ from_queue q (flat_map (got_by (λ _. Some k) first) visits)
-    by_fresh true rest = rest
-    by_fresh false rest = rest
-
-    by_node : (b : Bool) → more ≡ from_queue q (flat_map (got_by (λ _. Some k) first) visits)
-        → cons_option (if v.fresh && (b && (v.input == first)) then v.got else None) more ≡ from_queue q (flat_map (got_by (λ _. Some k) first) (if b then v ∷ visits else visits))
-    by_node true rest = by_got (v.fresh && (v.input == first)) v.got rest
-    by_node false rest = by_fresh v.fresh rest
+leaf-log q k above first e (v ∷ log) = search (rules, (leaf-log q k above first e log))
 
 filter_map-same : {X Y : Type 0} (f g : X → Option Y) (xs : List X) → ((x : X) → f x ≡ g x) → filter_map f xs ≡ filter_map g xs
-filter_map-same f g [] h = refl
-filter_map-same f g (x ∷ xs) h = ap₂ cons_option (h x) (filter_map-same f g xs h)
+filter_map-same f g xs h = search rules
 
 conserved-here : (tree : Tree) (log : List Visit) (q above first next k : ℕ) (row : Row) → (k == q) ≡ true → stands_in q (leaves row) ≡ false → StandsOnlyIn q tree above first next (leaf k row)
     → IsConservedBelow tree log q above first next (leaf k row)
@@ -100,12 +75,8 @@ conserved-here tree log q above first next k row e h only =
           filter_map-same _ _ log (λ v. ap (λ b. if b then v.got else None) (asks-at q v.fresh (queue_at tree v.node v.input) ∙ ap (λ b. v.fresh && b) (only-here q tree above first next k row e h only v.node v.input)))
           ∙ leaf-log q k above first e log ∙ ap (from_queue q) (sym (gives-queue log above first next k row))
           ∙ sym (append-nil _) ∙ ap (λ l. from_queue q (gives log above first next (leaf k row) 0) ++ l) (sym (heads-not q log next row h));
-      alone = λ j p d. others j p d;
+      alone = λ j p d. search (rules, origin-not);
     }
-  where
-    others : (j p : ℕ) → j ≢ 0 → is_number q (origin_in log next (leaf k row) j p) ≡ false
-    others zero p d = absurd (d refl)
-    others (suc j) p d = origin-not q log next row j p h
 
 conserved-after_leaf : (tree : Tree) (log : List Visit) (q above first next k : ℕ) (row : Row) → (k == q) ≡ false → IsConservedBelow tree log q above (suc first) next row → IsConservedBelow tree log q above first next (leaf k row)
 conserved-after_leaf tree log q above first next k row e rest =
@@ -113,12 +84,8 @@ conserved-after_leaf tree log q above first next k row e rest =
       input = suc rest.input;
       within = let l = rest.within in omega arith;
       conserved = rest.conserved ∙ ap (λ l. from_queue q l ++ from_queue q (traced_heads log next row)) (sym (gives-after_leaf log above first next k row rest.input));
-      alone = λ j p d. others j p d;
+      alone = λ j p d. search rules;
     }
-  where
-    others : (j p : ℕ) → j ≢ suc rest.input → is_number q (origin_in log next (leaf k row) j p) ≡ false
-    others zero p d = e
-    others (suc j) p d = rest.alone j p (λ s. d (ap suc s))
 
 conserved-after_node : (tree : Tree) (log : List Visit) (q above first next : ℕ) (class : Scheduler) (inputs row : Row) → stands_in q (leaves inputs) ≡ false
     → IsConservedBelow tree log q above (suc first) (suc (next + nodes inputs)) row → IsConservedBelow tree log q above first next (node class inputs row)
@@ -129,19 +96,13 @@ conserved-after_node tree log q above first next class inputs row h rest =
       conserved =
           rest.conserved
           ∙ ap₂ (λ l m. l ++ m) (ap (from_queue q) (sym (gives-after_node log above first next class inputs row rest.input))) (sym (node-not q log next class inputs row h));
-      alone = λ j p d. others j p d;
+      alone = λ j p d. search (rules, passed-not, origin-not);
     }
-  where
-    others : (j p : ℕ) → j ≢ suc rest.input → is_number q (origin_in log next (node class inputs row) j p) ≡ false
-    others zero p d = passed-not q (λ i k. origin_in log (suc next) inputs i k) p (visits_of next log) (λ i k. origin-not q log (suc next) inputs i k h)
-    others (suc j) p d = rest.alone j p (λ s. d (ap suc s))
 
 -- the heads of a node over the input from which a queue's packets come
 own-held : (log : List Visit) (q x : ℕ) (m : Manner) (inputs : Row) (turns : List Turn) (i : ℕ) → EachAfter (Follows m (width inputs)) [] turns → all_visits turns ≡ visits_of x log → i < width inputs
     → ((j k : ℕ) → j ≢ i → is_number q (origin_in log (suc x) inputs j k) ≡ false) → from_queue q (own_heads log x inputs m) ≡ from_queue q (held_at log x inputs i)
-own-held log q x (in_order order) inputs turns i law all l alone =
-    ap (λ o. from_queue q (traced o (latest_origin (origin_in log (suc x) inputs i) i (reverse (visits_of x log)))))
-    (sym (ap (head_at i) (ap reverse (sym all) ∙ sym (onto-reverse (all_visits turns))) ∙ in_order-holds order (width inputs) turns law i))
+own-held log q x (in_order order) inputs turns i law all l alone = search (rules, onto-reverse, in_order-holds)
 own-held log q x (with_heads turn_of covers) inputs turns i law all l alone =
     from_queue-one q (held_at log x inputs) i 0 (width inputs) (λ j d. traced-not q _ _ (latest-not q (origin_in log (suc x) inputs j) j (reverse (visits_of x log)) (λ k. alone j k d))) (omega arith) (omega arith)
 
@@ -156,7 +117,7 @@ conserved-node tree log q above first next class inputs row pulled h obeys other
           below.conserved ∙ ap (λ l. from_queue q l ++ inner) kept ∙ ap (λ l. l ++ inner) (from_queue-append q passed (held_at log next inputs below.input))
           ∙ append_assoc (from_queue q passed) (from_queue q (held_at log next inputs below.input)) inner
           ∙ ap₂ (λ l m. l ++ m) (passed_results ∙ ap (from_queue q) (sym (gives-results log above first next class inputs row pulled h obeys.0 obeys.1))) (sym heads);
-      alone = λ j p d. others j p d;
+      alone = λ j p d. search (rules, origin-not);
     }
   where
     turns : List Turn
@@ -180,29 +141,11 @@ conserved-node tree log q above first next class inputs row pulled h obeys other
     kept : gives log next 0 (suc next) inputs below.input ≡ passed ++ held_at log next inputs below.input
     kept = gives-passed_and_held log above first next class inputs row pulled h obeys.0 below.input
 
-    one : (v : Visit) (b c : Bool) → (v.input == below.input) ≡ c
-        → from_queue q (if b && c then traced v.got (latest_origin (origin below.input) below.input (up_to v.pull (reverse visits))) else [])
-        ≡ from_queue q (if b then traced v.got (latest_origin (origin v.input) v.input (up_to v.pull (reverse visits))) else [])
-    one v false c e = refl
-    one v true true e =
-        let same : below.input ≡ v.input = grind (arith, nat_tests) in ap (λ i. from_queue q (traced v.got (latest_origin (origin i) i (up_to v.pull (reverse visits))))) same
-    one v true false e =
-        sym (traced-not q v.got (latest_origin (origin v.input) v.input (up_to v.pull (reverse visits)))
-        (latest-not q (origin v.input) v.input (up_to v.pull (reverse visits))
-        (λ k. below.alone v.input k (λ s. let t : (v.input == below.input) ≡ true = grind (arith, nat_tests) in false≢true (sym e ∙ t)))))
-
     passed_results : from_queue q passed ≡ from_queue q (results log next inputs)
-    passed_results = from_queue-same q _ _ visits (λ v. one v v.passed (v.input == below.input) refl)
+    passed_results = from_queue-same q _ _ visits (λ v. search rules)
 
     heads : from_queue q (traced_heads log next (node class inputs row)) ≡ from_queue q (held_at log next inputs below.input) ++ inner
-    heads =
-        from_queue-append q (own_heads log next inputs (manner class (width inputs))) _
-        ∙ ap₂ (λ l m. l ++ m) (own-held log q next (manner class (width inputs)) inputs turns below.input (each-follows class (width inputs) turns obeys.0) all below.within below.alone)
-        (from_queue-append q (traced_heads log (suc next) inputs) _ ∙ ap (λ l. inner ++ l) (heads-not q log (suc (next + nodes inputs)) row other) ∙ append-nil inner)
-
-    others : (j p : ℕ) → j ≢ 0 → is_number q (origin_in log next (node class inputs row) j p) ≡ false
-    others zero p d = absurd (d refl)
-    others (suc j) p d = origin-not q log (suc (next + nodes inputs)) row j p other
+    heads = search (rules, from_queue-append, own-held, each-follows, heads-not, append-nil, turns, all, inner)
 
 conserved-below : (tree : Tree) (log : List Visit) (q : ℕ) (row : Row) (above first next : ℕ) (pulled : List (List Visit)) → IsPulledIn log above first next row pulled → EachObeys above pulled first next row
     → StandsOnlyIn q tree above first next row → stands_in q (leaves row) ≡ true → are_distinct (leaves row) ≡ true → IsConservedBelow tree log q above first next row
@@ -214,8 +157,7 @@ conserved-below tree log q (leaf k row) above first next pulled h obeys only sta
   where
     by_test : (b : Bool) → (k == q) ≡ b → (b || stands_in q (leaves row)) ≡ true → ((b || false) ≡ true → stands_in q (leaves row) ≡ false)
         → ((k == q) ≡ false → stands_in q (leaves row) ≡ true → IsConservedBelow tree log q above (suc first) next row) → IsConservedBelow tree log q above first next (leaf k row)
-    by_test true e s none rest = conserved-here tree log q above first next k row e (none refl) only
-    by_test false e s none rest = conserved-after_leaf tree log q above first next k row e (rest e s)
+    by_test b e s none rest = search (rules, common_steps, false≢true, distinct-parts, pulled-after_leaf, only-after_leaf, conserved-here, conserved-after_leaf, stands_in-append, pulled-inputs, only-inputs, pulled-after_node, only-after_node, conserved-node, conserved-after_node)
 conserved-below tree log q (node class inputs row) above first next pulled h obeys only stands distinct =
     let parts = distinct-parts q (leaves inputs) (leaves row) distinct in
     by_test (stands_in q (leaves inputs)) refl (sym (stands_in-append q (leaves inputs) (leaves row)) ∙ stands)
@@ -229,8 +171,7 @@ conserved-below tree log q (node class inputs row) above first next pulled h obe
         → (stands_in q (leaves inputs) ≡ true → stands_in q (leaves row) ≡ false)
         → (stands_in q (leaves inputs) ≡ false → stands_in q (leaves row) ≡ true → IsConservedBelow tree log q above (suc first) (suc (next + nodes inputs)) row)
         → IsConservedBelow tree log q above first next (node class inputs row)
-    by_test true e s below other rest = conserved-node tree log q above first next class inputs row pulled h obeys (other e) (below e)
-    by_test false e s below other rest = conserved-after_node tree log q above first next class inputs row e (rest e s)
+    by_test b e s below other rest = search (rules, conserved-node, conserved-after_node)
 
 -- what the device got is what was emitted
 pub device-emits : (tree : Tree) (log : List Visit) → IsRun tree log → gives log 0 0 1 (root tree) 0 ≡ traced_emitted tree log
@@ -248,14 +189,8 @@ device-emits tree log run = flat_map-same _ _ (visits_of 0 log) (λ v m. one v (
     origin : ℕ → Option ℕ
     origin k = origin_in log 1 (root tree) 0 k
 
-    by_got : (k : ℕ) (o : Option Packet) → traced o (origin k) ≡ (if is_some o then traced o (origin k) else [])
-    by_got k None = refl
-    by_got k (Some p) = refl
-
     one : (v : Visit) → IsPlain v × (v.input ≡ 0) → got_by origin 0 v ≡ (if v.passed then traced v.got (origin v.pull) else [])
-    one v h =
-        ap (λ b. if b then traced v.got (origin v.pull) else []) (ap₂ (λ f j. f && (j == 0)) h.0.fresh h.1) ∙ by_got v.pull v.got
-        ∙ ap (λ b. if b then traced v.got (origin v.pull) else []) (sym h.0.passed)
+    one v h = search rules
 
 pub conserves-packets : (tree : Tree) → leaves_distinct tree ≡ true → ConservesPackets tree
 conserves-packets tree distinct log run q stands =

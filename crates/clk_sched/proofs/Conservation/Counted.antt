@@ -1,14 +1,14 @@
 -- As many packets come out and are held as the queues gave.
-use Rattle.std.proofs.Common.{◌≡◌, ℕ, ◌+◌, ◌==◌, ◌&&◌, ◌||◌, Bool, true, false, true≢false, not, List, [], ◌∷◌, ◌++◌, length, Option, Some, None, MatchOption, refl, sym, ap, ◌∙◌, arith, if◌then◌else◌}
+use Rattle.std.proofs.lemmas.Grind.{common_steps}
+use Rattle.std.proofs.Common.{◌≡◌, ℕ, ◌+◌, ◌==◌, ◌&&◌, ◌||◌, Bool, true, false, true≢false, not, List, [], ◌∷◌, length, Option, Some, None, MatchOption, refl, sym, ap, ◌∙◌, arith, if◌then◌else◌, rules}
 use Rattle.std.proofs.lemmas.Bool.Decides.{nat_tests}
 use Rattle.std.proofs.lemmas.List.{length-append, length-map}
-use Rattle.std.specs.List.{AllByRecursion, cons_option, filter_map, flat_map}
-use Rattle.clk_packet.specs.declared.packet.Packet.{Packet}
+use Rattle.std.specs.List.{AllByRecursion, filter_map, flat_map}
 use Rattle.clk_sched.specs.declared.visit.Visit.{Visit}
 use Rattle.clk_sched.specs.Log.{visits_of}
-use Rattle.clk_packet.specs.Lists.{stands_in, In, are_distinct}
+use Rattle.clk_packet.specs.Lists.{stands_in, are_distinct}
 use Rattle.clk_sched.specs.Tree.{Tree, root, leaves, is_number, leaves_distinct}
-use Rattle.clk_sched.specs.Results.{Traced, traced, origin_in, traced_emitted, traced_heads, leaf_packets}
+use Rattle.clk_sched.specs.Results.{Traced, traced, origin_in, traced_emitted, traced_heads}
 use Rattle.clk_sched.specs.Conservation.{from_queue, given_in_all, IsConserved, CameFrom, ConservesCounts}
 use Rattle.clk_sched.proofs.Conservation.CameFrom.{makes-nothing}
 use Rattle.clk_sched.proofs.Conservation.Conserved.{conserves-packets}
@@ -30,22 +30,16 @@ counted [] ts = 0
 counted (q ∷ qs) ts = length (from_queue q ts) + counted qs ts
 
 pub and-both : (a b : Bool) → (a && b) ≡ true → (a ≡ true) × (b ≡ true)
-and-both true b e = (refl, e)
-and-both false b e = absurd (true≢false (sym e))
+and-both a b e = search rules
 
 not-true : (a : Bool) → not a ≡ true → a ≡ false
-not-true true e = absurd (true≢false (sym e))
-not-true false e = refl
+not-true a e = search rules
 
 or-right : (a b : Bool) → b ≡ true → (a || b) ≡ true
-or-right true b e = refl
-or-right false b e = e
+or-right a b e = search rules
 
 turned : (m n : ℕ) → (m == n) ≡ (n == m)
 turned m n = grind (arith, nat_tests)
-
-equal-are : (m n : ℕ) → (m == n) ≡ true → m ≡ n
-equal-are m n e = grind (arith, nat_tests, e)
 
 -- A queue stands once in a list in which no queue stands twice, if it stands there.
 times-none : (k : ℕ) (qs : List ℕ) → stands_in k qs ≡ false → times (Some k) qs ≡ 0
@@ -58,28 +52,11 @@ times-none k (q ∷ qs) e =
 
 times-one : (k : ℕ) (qs : List ℕ) → are_distinct qs ≡ true → stands_in k qs ≡ true → times (Some k) qs ≡ 1
 times-one k [] d s = absurd (true≢false (sym s))
-times-one k (q ∷ qs) d s = by_test (q == k) refl (times-one k qs (and-both (not (stands_in q qs)) (are_distinct qs) d).1)
-  where
-    parts : (not (stands_in q qs) ≡ true) × (are_distinct qs ≡ true)
-    parts = and-both (not (stands_in q qs)) (are_distinct qs) d
-
-    by_test : (b : Bool) → (q == k) ≡ b → (stands_in k qs ≡ true → times (Some k) qs ≡ 1) → times (Some k) (q ∷ qs) ≡ 1
-    by_test true e again =
-        let here = ap one_if (turned k q ∙ e) in
-        let rest = times-none k qs (ap (λ j. stands_in j qs) (sym (equal-are q k e)) ∙ not-true (stands_in q qs) parts.0) in
-        omega (arith, here, rest)
-    by_test false e again =
-        let here = ap one_if (turned k q ∙ e) in
-        let rest = again (ap (λ (b : Bool). b || stands_in k qs) (sym e) ∙ s) in
-        omega (arith, here, rest)
+times-one k (q ∷ qs) d s = search (rules, and-both, turned, times-none, not-true, (times-one k qs (and-both (not (stands_in q qs)) (are_distinct qs) d).1))
 
 -- one packet more
 one-more : (q : ℕ) (t : Traced) (ts : List Traced) → length (from_queue q (t ∷ ts)) ≡ one_if (is_number q t.1) + length (from_queue q ts)
-one-more q t ts = by_test (is_number q t.1) (from_queue q ts)
-  where
-    by_test : (b : Bool) (rest : List Packet) → length (cons_option (if b then Some t.0 else None) rest) ≡ one_if b + length rest
-    by_test true rest = omega arith
-    by_test false rest = omega arith
+one-more q t ts = search rules
 
 counted-more : (qs : List ℕ) (t : Traced) (ts : List Traced) → counted qs (t ∷ ts) ≡ times t.1 qs + counted qs ts
 counted-more [] t ts = refl
@@ -96,20 +73,10 @@ ComesFrom qs t = MatchOption t.1 ⊥ (λ q. stands_in q qs ≡ true)
 -- Packets that came from these queues are as many as came from each.
 counted-all : (qs : List ℕ) → are_distinct qs ≡ true → (ts : List Traced) → AllByRecursion (ComesFrom qs) ts → counted qs ts ≡ length ts
 counted-all qs d [] h = counted-none qs
-counted-all qs d (t ∷ ts) h =
-    let more = counted-more qs t ts in let one = by_origin t.1 h.0 in let rest = counted-all qs d ts h.1 in
-    omega (arith, more, one, rest)
-  where
-    by_origin : (o : Option ℕ) → MatchOption o ⊥ (λ q. stands_in q qs ≡ true) → times o qs ≡ 1
-    by_origin None s = absurd s
-    by_origin (Some k) s = times-one k qs d s
+counted-all qs d (t ∷ ts) h = search (rules, counted-none, counted-more, times-one, (counted-all qs d ts h.1))
 
 came-comes : (tree : Tree) (log : List Visit) (t : Traced) → CameFrom tree log (root tree) t → ComesFrom (leaves (root tree)) t
-came-comes tree log t h = by_origin t.1 h
-  where
-    by_origin : (o : Option ℕ) → MatchOption o ⊥ (λ q. (stands_in q (leaves (root tree)) ≡ true) × In t.0 (leaf_packets tree q log)) → MatchOption o ⊥ (λ q. stands_in q (leaves (root tree)) ≡ true)
-    by_origin None s = s
-    by_origin (Some k) s = s.0
+came-comes tree log t h = grind (arith, common_steps)
 
 -- What each queue gave came out or is held.
 given-counted : (tree : Tree) (log : List Visit) (qs : List ℕ) → ((q : ℕ) → stands_in q qs ≡ true → IsConserved tree log q)
@@ -126,13 +93,7 @@ given-counted tree log (q ∷ qs) each =
 emitted-counted : (tree : Tree) (log : List Visit) (visits : List Visit)
     → length (flat_map (λ (v : Visit). if v.passed then traced v.got (origin_in log 1 (root tree) 0 v.pull) else []) visits) ≡ length (filter_map (λ (v : Visit). if v.passed then v.got else None) visits)
 emitted-counted tree log [] = refl
-emitted-counted tree log (v ∷ visits) = by_got v.passed v.got (origin_in log 1 (root tree) 0 v.pull) _ _ (emitted-counted tree log visits)
-  where
-    by_got : (b : Bool) (got : Option Packet) (origin : Option ℕ) (ts : List Traced) (packets : List Packet) → length ts ≡ length packets
-        → length ((if b then traced got origin else []) ++ ts) ≡ length (cons_option (if b then got else None) packets)
-    by_got true None origin ts packets e = e
-    by_got true (Some p) origin ts packets e = omega (arith, e)
-    by_got false got origin ts packets e = e
+emitted-counted tree log (v ∷ visits) = search (rules, (emitted-counted tree log visits))
 
 pub conserves-counts : (tree : Tree) → leaves_distinct tree ≡ true → ConservesCounts tree
 conserves-counts tree distinct log run =

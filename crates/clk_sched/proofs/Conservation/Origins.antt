@@ -1,18 +1,16 @@
 -- Where a queue doesn't stand, no packet comes from it; and where it stands once.
-use Rattle.std.proofs.Common.{◌≡◌, ℕ, zero, suc, ◌+◌, ◌<◌, ◌==◌, ◌&&◌, nat_lt, if◌then◌else◌, Bool, true, false, List, [], ◌∷◌, ◌++◌, reverse, Option, Some, None, option_and_then, refl, sym, ap, ap₂, ◌∙◌, arith}
-use Rattle.std.specs.List.{flat_map, range_with_len}
-use Rattle.std.specs.Option.{option_or}
+use Rattle.std.proofs.Common.{◌≡◌, ℕ, zero, suc, ◌+◌, ◌<◌, ◌==◌, ◌&&◌, if◌then◌else◌, Bool, true, false, List, [], ◌∷◌, ◌++◌, Option, None, option_and_then, refl, ap₂, ◌∙◌, rules}
+use Rattle.std.specs.List.{flat_map}
 use Rattle.std.proofs.lemmas.Bool.{false≢true}
-use Rattle.std.proofs.lemmas.Bool.Decides.{nat_tests}
 use Rattle.std.proofs.lemmas.List.Elements.{filter_map-append}
 use Rattle.clk_packet.specs.declared.packet.Packet.{Packet}
 use Rattle.clk_sched.specs.declared.visit.Visit.{Visit}
 use Rattle.clk_packet.specs.Lists.{stands_in}
 use Rattle.clk_packet.specs.Scheduler.{Scheduler}
 use Rattle.clk_sched.specs.Tree.{Row, end, leaf, node, Tree, nodes, width, queue_in, queue_at, leaves, is_number}
-use Rattle.clk_sched.specs.Laws.{Manner, in_order, with_heads, manner}
-use Rattle.clk_sched.specs.Log.{visits_of, in_pull}
-use Rattle.clk_sched.specs.Results.{Traced, traced, up_to, passed_input, asked_pull, latest_origin, passed_origin, origin_in, held_at, own_heads, traced_heads}
+use Rattle.clk_sched.specs.Laws.{Manner, manner}
+use Rattle.clk_sched.specs.Log.{visits_of}
+use Rattle.clk_sched.specs.Results.{Traced, traced, asked_pull, latest_origin, passed_origin, origin_in, own_heads, traced_heads}
 use Rattle.clk_sched.specs.Conservation.{from_queue}
 use Rattle.clk_sched.proofs.Trees.Numbering.{queue_in-before, queue_in-after, queue_in-earlier, or_none}
 use Rattle.clk_sched.proofs.Trees.Distinct.{or-neither, stands-neither}
@@ -20,31 +18,20 @@ use Rattle.clk_sched.proofs.Trees.Distinct.{or-neither, stands-neither}
 queue_in-not : (q above first next : ℕ) (row : Row) (x i : ℕ) → stands_in q (leaves row) ≡ false → is_number q (queue_in above first next row x i) ≡ false
 queue_in-not q above first next end x i h = refl
 queue_in-not q above first next (leaf k row) x i h =
-    let parts = or-neither (k == q) (stands_in q (leaves row)) h in by_test ((above == x) && (first == i)) parts.0 (queue_in-not q above (suc first) next row x i parts.1)
-  where
-    by_test : (b : Bool) → (k == q) ≡ false → is_number q (queue_in above (suc first) next row x i) ≡ false → is_number q (if b then Some k else queue_in above (suc first) next row x i) ≡ false
-    by_test true e rest = e
-    by_test false e rest = rest
+    let parts = or-neither (k == q) (stands_in q (leaves row)) h in (search (rules, ((above == x) && (first == i)), parts.0, (queue_in-not q above (suc first) next row x i parts.1)))
 queue_in-not q above first next (node class inputs row) x i h =
     let parts = stands-neither q (leaves inputs) (leaves row) h in
-    by_queue (queue_in next 0 (suc next) inputs x i) (queue_in-not q next 0 (suc next) inputs x i parts.0) (queue_in-not q above (suc first) (suc (next + nodes inputs)) row x i parts.1)
-  where
-    by_queue : (o : Option ℕ) → is_number q o ≡ false → is_number q (queue_in above (suc first) (suc (next + nodes inputs)) row x i) ≡ false
-        → is_number q (option_or o (queue_in above (suc first) (suc (next + nodes inputs)) row x i)) ≡ false
-    by_queue None e rest = rest
-    by_queue (Some k) e rest = e
+    (search (rules, (queue_in next 0 (suc next) inputs x i), (queue_in-not q next 0 (suc next) inputs x i parts.0), (queue_in-not q above (suc first) (suc (next + nodes inputs)) row x i parts.1)))
 
 -- where nothing that is got at an input comes from a queue, nor does what was got there last, or what is passed from there
 and_then-not : (q : ℕ) (f : ℕ → Option ℕ) (o : Option ℕ) → ((n : ℕ) → is_number q (f n) ≡ false) → is_number q (option_and_then f o) ≡ false
-and_then-not q f None h = refl
-and_then-not q f (Some n) h = h n
+and_then-not q f o h = search rules
 
 pub latest-not : (q : ℕ) (origin : ℕ → Option ℕ) (i : ℕ) (latest : List Visit) → ((k : ℕ) → is_number q (origin k) ≡ false) → is_number q (latest_origin origin i latest) ≡ false
 latest-not q origin i latest h = and_then-not q origin (asked_pull i latest) h
 
 pub passed-not : (q : ℕ) (origin : ℕ → ℕ → Option ℕ) (k : ℕ) (visits : List Visit) → ((i n : ℕ) → is_number q (origin i n) ≡ false) → is_number q (passed_origin origin k visits) ≡ false
-passed-not q origin k visits h =
-    and_then-not q (λ i. latest_origin (origin i) i (up_to k (reverse visits))) (passed_input (in_pull k visits)) (λ i. latest-not q (origin i) i (up_to k (reverse visits)) (h i))
+passed-not q origin k visits h = search rules
 
 pub origin-not : (q : ℕ) (log : List Visit) (next : ℕ) (row : Row) (i k : ℕ) → stands_in q (leaves row) ≡ false → is_number q (origin_in log next row i k) ≡ false
 origin-not q log next end i k h = refl
@@ -60,16 +47,14 @@ pub from_queue-append : (q : ℕ) (xs ys : List Traced) → from_queue q (xs ++ 
 from_queue-append q xs ys = filter_map-append _ xs ys
 
 pub traced-not : (q : ℕ) (o : Option Packet) (origin : Option ℕ) → is_number q origin ≡ false → from_queue q (traced o origin) ≡ []
-traced-not q None origin e = refl
-traced-not q (Some p) origin e = rw e refl
+traced-not q o origin e = search rules
 
 flat_map-not : {X : Type 0} (q : ℕ) (f : X → List Traced) (xs : List X) → ((x : X) → from_queue q (f x) ≡ []) → from_queue q (flat_map f xs) ≡ []
 flat_map-not q f [] h = refl
 flat_map-not q f (x ∷ xs) h = from_queue-append q (f x) (flat_map f xs) ∙ ap₂ (λ l m. l ++ m) (h x) (flat_map-not q f xs h)
 
 own-not : (q : ℕ) (log : List Visit) (x : ℕ) (inputs : Row) (m : Manner) → stands_in q (leaves inputs) ≡ false → from_queue q (own_heads log x inputs m) ≡ []
-own-not q log x inputs (in_order order) h = refl
-own-not q log x inputs (with_heads turn_of covers) h = flat_map-not q (held_at log x inputs) (range_with_len 0 (width inputs)) (λ i. traced-not q _ _ (latest-not q (origin_in log (suc x) inputs i) i (reverse (visits_of x log)) (λ k. origin-not q log (suc x) inputs i k h)))
+own-not q log x inputs m h = search (rules, flat_map-not, traced-not, latest-not, origin-not)
 
 pub heads-not : (q : ℕ) (log : List Visit) (next : ℕ) (row : Row) → stands_in q (leaves row) ≡ false → from_queue q (traced_heads log next row) ≡ []
 heads-not q log next end h = refl
@@ -83,76 +68,27 @@ heads-not q log next (node class inputs row) h =
 -- the heads of a scheduler over inputs from which the queue doesn't come are none of its
 pub node-not : (q : ℕ) (log : List Visit) (next : ℕ) (class : Scheduler) (inputs row : Row) → stands_in q (leaves inputs) ≡ false
     → from_queue q (traced_heads log next (node class inputs row)) ≡ from_queue q (traced_heads log (suc (next + nodes inputs)) row)
-node-not q log next class inputs row h =
-    from_queue-append q (own_heads log next inputs (manner class (width inputs))) _
-    ∙ ap₂ (λ l m. l ++ m) (own-not q log next inputs (manner class (width inputs)) h) (from_queue-append q (traced_heads log (suc next) inputs) _ ∙ ap (λ l. l ++ from_queue q (traced_heads log (suc (next + nodes inputs)) row)) (heads-not q log (suc next) inputs h))
+node-not q log next class inputs row h = search (rules, from_queue-append, own-not, heads-not)
 
 -- a queue stands in a tree just where it stands in a row
 abbrev pub StandsOnlyIn : ℕ → Tree → ℕ → ℕ → ℕ → Row → Type 0
 StandsOnlyIn q tree above first next row = (x i : ℕ) → is_number q (queue_at tree x i) ≡ is_number q (queue_in above first next row x i)
 
 pub only-after_leaf : (q : ℕ) (tree : Tree) (above first next k : ℕ) (row : Row) → above < next → (k == q) ≡ false → StandsOnlyIn q tree above first next (leaf k row) → StandsOnlyIn q tree above (suc first) next row
-only-after_leaf q tree above first next k row o e only x i = only x i ∙ by_test (above == x) (first == i) refl refl
-  where
-    by_test : (b c : Bool) → (above == x) ≡ b → (first == i) ≡ c
-        → is_number q (if b && c then Some k else queue_in above (suc first) next row x i) ≡ is_number q (queue_in above (suc first) next row x i)
-    by_test false c f g = refl
-    by_test true false f g = refl
-    by_test true true f g =
-        let at : above ≡ x = grind (arith, nat_tests) in
-        let input : first ≡ i = grind (arith, nat_tests) in
-        e ∙ ap (is_number q) (sym (ap (λ y. queue_in above (suc first) next row y i) (sym at) ∙ queue_in-earlier above (suc first) next row i o (omega (arith, input))))
+only-after_leaf q tree above first next k row o e only x i = search (rules, queue_in-earlier)
 
 pub only-after_node : (q : ℕ) (tree : Tree) (above first next : ℕ) (class : Scheduler) (inputs row : Row) → above < next → stands_in q (leaves inputs) ≡ false
     → StandsOnlyIn q tree above first next (node class inputs row) → StandsOnlyIn q tree above (suc first) (suc (next + nodes inputs)) row
-only-after_node q tree above first next class inputs row o h only x i = only x i ∙ by_test (nat_lt x (suc (next + nodes inputs))) (x == above) refl refl
-  where
-    inside : Option ℕ
-    inside = queue_in next 0 (suc next) inputs x i
-
-    rest : Option ℕ
-    rest = queue_in above (suc first) (suc (next + nodes inputs)) row x i
-
-    outside : inside ≡ None → is_number q (option_or inside rest) ≡ is_number q rest
-    outside e = ap (λ k. is_number q (option_or k rest)) e
-
-    by_test : (b c : Bool) → nat_lt x (suc (next + nodes inputs)) ≡ b → (x == above) ≡ c → is_number q (option_or inside rest) ≡ is_number q rest
-    by_test true false f g =
-        let none : rest ≡ None = queue_in-before above (suc first) (suc (next + nodes inputs)) row x i (grind (arith, nat_tests)) (λ e. let same : (x == above) ≡ true = grind (arith, nat_tests) in false≢true (sym g ∙ same)) in
-        ap (λ k. is_number q (option_or inside k)) none ∙ ap (is_number q) (or_none inside) ∙ queue_in-not q next 0 (suc next) inputs x i h ∙ ap (is_number q) (sym none)
-    by_test b true f g =
-        let at : x ≡ above = grind (arith, nat_tests) in outside (queue_in-before next 0 (suc next) inputs x i (omega (arith, at)) (λ e. omega (arith, at, e)))
-    by_test false false f g = outside (queue_in-after next 0 (suc next) inputs x i (omega arith) (grind (arith, nat_tests)))
+only-after_node q tree above first next class inputs row o h only x i = search (rules, queue_in-before, false≢true, or_none, queue_in-not, queue_in-after)
 
 pub only-inputs : (q : ℕ) (tree : Tree) (above first next : ℕ) (class : Scheduler) (inputs row : Row) → stands_in q (leaves row) ≡ false → StandsOnlyIn q tree above first next (node class inputs row)
     → StandsOnlyIn q tree next 0 (suc next) inputs
-only-inputs q tree above first next class inputs row h only x i =
-    only x i ∙ by_queue (queue_in next 0 (suc next) inputs x i) (queue_in-not q above (suc first) (suc (next + nodes inputs)) row x i h)
-  where
-    by_queue : (o : Option ℕ) → is_number q (queue_in above (suc first) (suc (next + nodes inputs)) row x i) ≡ false
-        → is_number q (option_or o (queue_in above (suc first) (suc (next + nodes inputs)) row x i)) ≡ is_number q o
-    by_queue None e = e
-    by_queue (Some k) e = refl
+only-inputs q tree above first next class inputs row h only x i = search (rules, queue_in-not)
 
 -- a queue is asked by a fresh visit where it stands
 pub asks-at : (q : ℕ) (fresh : Bool) (o : Option ℕ) → is_number q (if fresh then o else None) ≡ (fresh && is_number q o)
-asks-at q true o = refl
-asks-at q false o = refl
+asks-at q fresh o = search rules
 
 pub only-here : (q : ℕ) (tree : Tree) (above first next k : ℕ) (row : Row) → (k == q) ≡ true → stands_in q (leaves row) ≡ false → StandsOnlyIn q tree above first next (leaf k row)
     → (x i : ℕ) → is_number q (queue_at tree x i) ≡ ((x == above) && (i == first))
-only-here q tree above first next k row e h only x i =
-    only x i ∙ by_test ((above == x) && (first == i)) (queue_in-not q above (suc first) next row x i h) ∙ ap₂ (λ b c. b && c) (turned above x) (turned first i)
-  where
-    by_test : (b : Bool) → is_number q (queue_in above (suc first) next row x i) ≡ false → is_number q (if b then Some k else queue_in above (suc first) next row x i) ≡ b
-    by_test true rest = e
-    by_test false rest = rest
-
-    turned : (m n : ℕ) → (m == n) ≡ (n == m)
-    turned m n = by_eq (m == n) (n == m) refl refl
-      where
-        by_eq : (b c : Bool) → (m == n) ≡ b → (n == m) ≡ c → b ≡ c
-        by_eq true true f g = refl
-        by_eq false false f g = refl
-        by_eq true false f g = absurd (grind (arith, nat_tests))
-        by_eq false true f g = absurd (grind (arith, nat_tests))
+only-here q tree above first next k row e h only x i = search (rules, queue_in-not)

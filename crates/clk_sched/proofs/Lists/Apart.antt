@@ -1,5 +1,5 @@
 -- Members with numbers that differ, of which at most one has a given number.
-use Rattle.std.proofs.Common.{◌≡◌, ◌≢◌, ◌||◌, ℕ, Bool, true, false, inl, inr, List, [], ◌∷◌, ◌++◌, map, reverse, refl, sym, ap, ap₂, ◌∙◌, subst, append-nil}
+use Rattle.std.proofs.Common.{◌≡◌, ◌≢◌, ℕ, Bool, true, inl, inr, List, [], ◌∷◌, ◌++◌, map, reverse, refl, sym, ap₂, subst, append-nil, rules}
 use Rattle.std.specs.List.{flat_map, AllByRecursion, list_any}
 use Rattle.std.proofs.lemmas.Bool.{false≢true}
 use Rattle.std.proofs.lemmas.List.{reverse-append}
@@ -23,18 +23,13 @@ flat_map-none g (x ∷ xs) h = ap₂ (λ l k. l ++ k) h.0 (flat_map-none g xs h.
 -- what members give where those with other numbers give nothing
 pub only-one : {X Y : Type 0} (f : X → ℕ) (g : X → List Y) (xs : List X) (x : X) → AreApart f xs → In x xs → ((y : X) → In y xs → f y ≢ f x → g y ≡ []) → flat_map g xs ≡ g x
 only-one f g [] x h m none = absurd m
-only-one f g (y ∷ xs) x h (inl e) none =
-    ap₂ (λ l k. l ++ k) (ap g e) (flat_map-none g xs (to-all (λ z. g z ≡ []) xs (λ z k. none z (inr k) (λ s. of-all (λ w. f w ≢ f y) z xs h.0 k (s ∙ sym (ap f e)))))) ∙ append-nil (g x)
+only-one f g (y ∷ xs) x h (inl e) none = search (rules, flat_map-none, to-all, of-all, append-nil)
 only-one f g (y ∷ xs) x h (inr m) none =
     ap₂ (λ l k. l ++ k) (none y (inl refl) (λ e. of-all (λ z. f z ≢ f y) x xs h.0 m (sym e))) (only-one f g xs x h.1 m (λ z k. none z (inr k)))
 
 pub any-member : {X : Type 0} (test : X → Bool) (xs : List X) → list_any test xs ≡ true → (x : X) × In x xs × (test x ≡ true)
 any-member test [] e = absurd (false≢true e)
-any-member {X = X} test (x ∷ xs) e = by_test (test x) refl e (any-member test xs)
-  where
-    by_test : (b : Bool) → test x ≡ b → (b || list_any test xs) ≡ true → (list_any test xs ≡ true → (y : X) × In y xs × (test y ≡ true)) → (y : X) × In y (x ∷ xs) × (test y ≡ true)
-    by_test true t k rest = (x, inl refl, t)
-    by_test false t k rest = let r = rest k in (r.0, inr r.1, r.2)
+any-member {X = X} test (x ∷ xs) e = search (rules, (any-member test xs))
 
 pub all-reverse : {X : Type 0} (P : X → Type 0) (xs : List X) → AllByRecursion P xs → AllByRecursion P (reverse xs)
 all-reverse P [] h = tt

@@ -1,5 +1,5 @@
 -- Members of lists, and lists that a test or a law goes over.
-use Rattle.std.proofs.Common.{◌≡◌, ℕ, zero, suc, ◌<◌, Bool, true, false, cond, ◌||◌, List, [], ◌∷◌, ◌++◌, map, filter, length, slice_get, unwrap_or, is_some, Option, Some, None, IsSome, inl, inr, refl, sym, ap, ◌∙◌, subst}
+use Rattle.std.proofs.Common.{◌≡◌, ℕ, zero, suc, ◌<◌, Bool, true, false, List, [], ◌∷◌, ◌++◌, map, filter, length, slice_get, unwrap_or, is_some, Some, IsSome, inl, inr, refl, sym, ap, subst, rules}
 use Rattle.std.specs.List.{AllByRecursion, list_any, flat_map}
 use Rattle.std.proofs.lemmas.Bool.{false≢true}
 use Rattle.std.proofs.lemmas.Option.{slice_get_within}
@@ -13,11 +13,7 @@ in-slice (y ∷ xs) zero x e = inl (ap (λ o. unwrap_or o y) e)
 in-slice (y ∷ xs) (suc i) x e = inr (in-slice xs i x e)
 
 pub some-below : {X : Type 0} (xs : List X) (i : ℕ) → IsSome (slice_get xs i) → i < length xs
-some-below {X = X} xs i h = by_place (slice_get xs i) refl h
-  where
-    by_place : (o : Option X) → slice_get xs i ≡ o → IsSome o → i < length xs
-    by_place None e k = absurd (false≢true k)
-    by_place (Some x) e k = slice_get_within xs i x e
+some-below {X = X} xs i h = search (rules, false≢true, slice_get_within)
 
 pub of-all : {X : Type 0} (P : X → Type 0) (x : X) (xs : List X) → AllByRecursion P xs → In x xs → P x
 of-all P x [] h m = absurd m
@@ -35,33 +31,17 @@ all-flat_map P f (x ∷ xs) h = all-append P (f x) (flat_map f xs) (h x (inl ref
 -- a member that passes a test, and the members that pass it
 pub in-filter : {X : Type 0} (test : X → Bool) (x : X) (xs : List X) → In x (filter test xs) → In x xs × (test x ≡ true)
 in-filter test x [] m = absurd m
-in-filter test x (y ∷ ys) m = by_test (test y) refl (in-filter test x ys) m
-  where
-    by_test : (b : Bool) → test y ≡ b → (In x (filter test ys) → In x ys × (test x ≡ true)) → In x (filter test (y ∷ ys)) → In x (y ∷ ys) × (test x ≡ true)
-    by_test true e rest = rw e first
-      where
-        first : In x (y ∷ filter test ys) → In x (y ∷ ys) × (test x ≡ true)
-        first (inl s) = (inl s, subst (λ z. test z ≡ true) s e)
-        first (inr k) = (inr (rest k).0, (rest k).1)
-    by_test false e rest = rw e (λ k. (inr (rest k).0, (rest k).1))
+in-filter test x (y ∷ ys) m = search (rules, (in-filter test x ys))
 
 pub filter-in : {X : Type 0} (test : X → Bool) (x : X) (xs : List X) → test x ≡ true → In x xs → In x (filter test xs)
 filter-in test x [] t m = absurd m
 filter-in test x (y ∷ ys) t (inl s) = rw (subst (λ z. test z ≡ true) (sym s) t) (inl s)
-filter-in test x (y ∷ ys) t (inr m) = by_test (test y) refl (filter-in test x ys t m)
-  where
-    by_test : (b : Bool) → test y ≡ b → In x (filter test ys) → In x (filter test (y ∷ ys))
-    by_test true e k = rw e (inr k)
-    by_test false e k = rw e k
+filter-in test x (y ∷ ys) t (inr m) = search (rules, (filter-in test x ys t m))
 
 pub any-in : {X : Type 0} (test : X → Bool) (x : X) (xs : List X) → test x ≡ true → In x xs → list_any test xs ≡ true
 any-in test x [] t m = absurd m
 any-in test x (y ∷ ys) t (inl s) = rw (subst (λ z. test z ≡ true) (sym s) t) refl
-any-in test x (y ∷ ys) t (inr m) = rw (any-in test x ys t m) (or_true (test y))
-  where
-    or_true : (b : Bool) → (b || true) ≡ true
-    or_true true = refl
-    or_true false = refl
+any-in test x (y ∷ ys) t (inr m) = search (rules, (any-in test x ys t m))
 
 pub filter-all : {X : Type 0} (test : X → Bool) (xs : List X) → AllByRecursion (λ x. test x ≡ true) xs → filter test xs ≡ xs
 filter-all test [] h = refl
@@ -92,20 +72,7 @@ each-mapped P f earlier (x ∷ xs) h = (h.0, each-mapped P f (x ∷ earlier) xs 
 pub each-filtered : {X : Type 0} (P : List X → X → Type 0) (test : X → Bool) (earlier xs : List X) → EachAfter P (filter test earlier) (filter test xs)
     → EachAfter (λ e x. test x ≡ true → P (filter test e) x) earlier xs
 each-filtered P test earlier [] h = tt
-each-filtered {X = X} P test earlier (x ∷ xs) h = by_test (test x) refl (each-filtered P test (x ∷ earlier) xs) h
-  where
-    After : List X → List X → Type 0
-    After e ys = EachAfter (λ e y. test y ≡ true → P (filter test e) y) e ys
-
-    by_test : (b : Bool) → test x ≡ b → (EachAfter P (filter test (x ∷ earlier)) (filter test xs) → After (x ∷ earlier) xs)
-        → EachAfter P (filter test earlier) (filter test (x ∷ xs)) → After earlier (x ∷ xs)
-    by_test true e rest k =
-        let now : EachAfter P (filter test earlier) (x ∷ filter test xs) = subst (λ b. EachAfter P (filter test earlier) (cond b (x ∷ filter test xs) (filter test xs))) e k in
-        (λ t. now.0, rest (subst (λ b. EachAfter P (cond b (x ∷ filter test earlier) (filter test earlier)) (filter test xs)) (sym e) now.1))
-    by_test false e rest k = (
-      λ t. absurd (false≢true (sym e ∙ t)),
-      rest (subst (λ b. EachAfter P (cond b (x ∷ filter test earlier) (filter test earlier)) (filter test xs)) (sym e) (subst (λ b. EachAfter P (filter test earlier) (cond b (x ∷ filter test xs) (filter test xs))) e k)),
-    )
+each-filtered {X = X} P test earlier (x ∷ xs) h = search (rules, false≢true, (each-filtered P test (x ∷ earlier) xs))
 
 pub all-split : {X : Type 0} (P : X → Type 0) (xs ys : List X) → AllByRecursion P (xs ++ ys) → AllByRecursion P xs × AllByRecursion P ys
 all-split P [] ys h = (tt, h)

@@ -1,7 +1,6 @@
 -- A node that asks one of its inputs.
-use Rattle.std.proofs.Common.{◌≡◌, ◌⊎◌, ℕ, suc, ◌+◌, ◌<◌, ◌≤◌, nat_lt, Bool, true, false, if◌then◌else◌, List, [], ◌∷◌, ◌++◌, length, get_or, slice_get, slice_index, option_map, Option, Some, None, IsSome, is_some, MatchOption, inl, inr, refl, sym, ap, ◌∙◌, subst, arith}
+use Rattle.std.proofs.Common.{◌≡◌, ◌⊎◌, ℕ, suc, ◌+◌, ◌<◌, ◌≤◌, true, List, length, get_or, slice_get, slice_index, Option, Some, None, IsSome, is_some, inl, inr, refl, sym, ap, ◌∙◌, arith, rules}
 use Rattle.std.proofs.lemmas.Bool.{false≢true}
-use Rattle.std.proofs.lemmas.Bool.Decides.{nat_tests}
 use Rattle.std.proofs.lemmas.Option.{slice_get-get_or, get_or_from_slice_get, slice_get-map}
 use Rattle.clk_packet.specs.declared.packet.Packet.{Packet}
 use Rattle.clk_sched.specs.declared.visit.Visit.{Visit}
@@ -12,10 +11,10 @@ use Rattle.clk_sched.specs.declared.session.inputs.Inputs.{Inputs}
 use Rattle.clk_sched.specs.declared.session.stride.Rank.{Rank}
 use Rattle.clk_sched.specs.Tree.{Row, nodes}
 use Rattle.clk_sched.specs.inside.Places.{inputs_of, StandsIn, AreWired, IsAfter, edges_of, edges_at, option_edges_to, input_at, option_input, queue_of, queue_asked}
-use Rattle.clk_sched.specs.inside.Pulling.{Pulls, Asks, HasPulled, IsPulling, added, now_of, after}
+use Rattle.clk_sched.specs.inside.Pulling.{Pulls, Asks, HasPulled, added, now_of, after}
 use Rattle.clk_sched.specs.inside.Ranks.{inputs_in}
 use Rattle.clk_sched.proofs.Lists.Members.{of-all, in-slice, some-below}
-use Rattle.clk_sched.proofs.Trees.Below.{LiesAt, lies-within}
+use Rattle.clk_sched.proofs.Trees.Below.{lies-within}
 use Rattle.clk_sched.proofs.Nodes.Below.{IsChildAt, child-at, queue-at}
 use Rattle.clk_sched.proofs.Nodes.Pulling.{pulling-asks, pulling-before}
 use Rattle.clk_sched.proofs.Nodes.Asking.{added-none}
@@ -25,16 +24,10 @@ entry xs i x l e = slice_get-get_or xs i x l ∙ ap Some (sym e)
 
 -- what stands at an input, as it is looked up
 pub input-is : (table : List Inputs) (x i : ℕ) (p : Inputs) (input : Input) → slice_get table x ≡ Some p → IsSome (input_at table x i) → input ≡ get_or p.each.items i input → input_at table x i ≡ Some input
-input-is table x i p input e h k =
-    let there : IsSome (slice_get p.each.items i) = subst (λ o. IsSome (option_input o i)) e h in
-    ap (λ o. option_input o i) e ∙ entry p.each.items i input (some-below p.each.items i there) k
+input-is table x i p input e h k = search (rules, entry, some-below)
 
 pub row-input : (table : List Inputs) (x i : ℕ) (row : Row) (input : Input) → StandsIn table x row → input_at table x i ≡ Some input → slice_get (inputs_of (suc x) row) i ≡ Some input
-row-input table x i row input h e = by_place (slice_get table x) h.here e
-  where
-    by_place : (o : Option Inputs) → MatchOption o ⊥ (λ (p : Inputs). p.each.items ≡ inputs_of (suc x) row) → option_input o i ≡ Some input → slice_get (inputs_of (suc x) row) i ≡ Some input
-    by_place None k f = absurd k
-    by_place (Some p) k f = subst (λ l. slice_get l i ≡ Some input) k f
+row-input table x i row input h e = search rules
 
 -- a scheduler at an input stands after its node, and can be pulled where its edge can be gone
 pub child-after : (table : List Inputs) (x i child : ℕ) → AreWired table → input_at table x i ≡ Some (Node child) → (x < child) × (child < length table)
@@ -49,24 +42,17 @@ edges-scheduler table x i child e = ap (option_edges_to table) e
 
 -- the queue that a visit asks at an input
 pub queue-visited : (table : List Inputs) (x i : ℕ) (input : Input) (v : Visit) → input_at table x i ≡ Some input → v.node ≡ x → v.input ≡ i → v.fresh ≡ true → queue_asked table v ≡ queue_of (Some input)
-queue-visited table x i input v e node at fresh =
-    ap (λ b. if b then queue_of (input_at table v.node v.input) else None) fresh ∙ ap (λ y. queue_of (input_at table y v.input)) node ∙ ap (λ j. queue_of (input_at table x j)) at ∙ ap queue_of e
+queue-visited table x i input v e node at fresh = search
 
 -- a queue is asked
 pub asks-queue : (a : Nodes) (x i q : ℕ) (got : Option Packet) → input_at a.inputs.items x i ≡ Some (Queue q) → Asks a a x i got
-asks-queue a x i q got e row history visits own going unasked v at input fresh gets =
-    let here = queue-at (suc x) row i q (row-input a.inputs.items x i row (Queue q) going.stands e) in (
-      subst (λ l. IsPulling (now_of a) history x row a.states.items (visits ++ (l ++ v ∷ [])) (own ++ v ∷ [])) (sym (added-none a))
-          (pulling-asks (now_of a) history x row a.states.items visits own going.pulling i unasked [] got (here.asked (now_of a) history got) a.states.items (here.holds a.states.items (after history a.moment []))
-          (λ y away. refl) v at input fresh gets),
-      λ y l. refl,
-    )
+asks-queue a x i q got e row history visits own going unasked v at input fresh gets = search (rules, queue-at, row-input, added-none, pulling-asks)
 
 -- a scheduler is asked
 pub asks-child : (a b : Nodes) (x i child : ℕ) (got : Option Packet) → input_at a.inputs.items x i ≡ Some (Node child) → Pulls a b child got → Asks a b x i got
 asks-child a b x i child got e pulls row history visits own going unasked v at input fresh gets = (
   pulling-asks (now_of a) history x row a.states.items visits own going.pulling i unasked (added a b) got (here.asked (now_of a) history (added a b) got r.block) b.states.items
-      (here.holds_back b.states.items (after history a.moment (added a b)) r.holds) (λ y away. r.outside y (apart y (nat_lt y child) (nat_lt y (suc (child + nodes here.inputs))) refl refl away)) v at input fresh gets,
+      (here.holds_back b.states.items (after history a.moment (added a b)) r.holds) (λ y away. r.outside y (search rules)) v at input fresh gets,
   λ y l. r.outside y (outside y l),
 )
   where
@@ -75,11 +61,6 @@ asks-child a b x i child got e pulls row history visits own going unasked v at i
 
     r : HasPulled a b history child here.class here.inputs got
     r = pulls here.class here.inputs history (here.stands a.inputs.items going.stands.below) (here.holds a.states.items history (pulling-before (now_of a) history x row a.states.items visits own going.pulling i unasked)) going.before
-
-    apart : (y : ℕ) (c d : Bool) → nat_lt y child ≡ c → nat_lt y (suc (child + nodes here.inputs)) ≡ d → (LiesAt (suc x) row i y → ⊥) → (y < child) ⊎ (suc (child + nodes here.inputs) ≤ y)
-    apart y true d f k away = inl (grind (arith, nat_tests))
-    apart y false false f k away = inr (grind (arith, nat_tests))
-    apart y false true f k away = absurd (away (here.lies y (grind (arith, nat_tests)) (grind (arith, nat_tests))))
 
     outside : (y : ℕ) → (y ≤ x) ⊎ (suc (x + nodes row) ≤ y) → (y < child) ⊎ (suc (child + nodes here.inputs) ≤ y)
     outside y (inl l) = let k = here.ahead in inl (omega arith)
@@ -90,6 +71,4 @@ abbrev pub rank_at : List Rank → ℕ → Rank
 rank_at order k = get_or order k (record { pass = 0; input = 0 })
 
 pub entry-input : (order : List Rank) (k : ℕ) → k < length order → (rank_at order k).input ≡ slice_index (inputs_in order) k
-entry-input order k l =
-    sym (get_or_from_slice_get (inputs_in order) k (rank_at order k).input 0
-    (slice_get-map (λ (s : Rank). s.input) order k ∙ ap (option_map (λ (s : Rank). s.input)) (slice_get-get_or order k (record { pass = 0; input = 0 }) l)))
+entry-input order k l = search (rules, get_or_from_slice_get, slice_get-map, slice_get-get_or)

@@ -1,5 +1,6 @@
 -- Inputs of a node that are asked one after another.
-use Rattle.std.proofs.Common.{◌≡◌, ◌≢◌, ℕ, suc, ◌+◌, ◌<◌, ◌≤◌, List, [], ◌∷◌, ◌++◌, length, take, drop, slice_get, slice_index, Option, Some, None, IsSome, refl, sym, ap, ap₂, ◌∙◌, subst, append-nil, append_assoc, arith}
+use Rattle.std.proofs.lemmas.Grind.{common_steps}
+use Rattle.std.proofs.Common.{◌≡◌, ◌≢◌, ℕ, suc, ◌+◌, ◌<◌, ◌≤◌, List, [], ◌∷◌, ◌++◌, length, take, drop, slice_get, slice_index, Option, Some, None, IsSome, refl, sym, ap, ap₂, ◌∙◌, subst, append-nil, append_assoc, arith, rules}
 use Rattle.std.specs.List.{AllByRecursion}
 use Rattle.std.proofs.Math.Seq.{drop-append_seam, take-suc}
 use Rattle.std.proofs.lemmas.Option.{slice_get-get_or}
@@ -30,43 +31,16 @@ pub added-then : (a b c : Nodes) (m n : ℕ) → Keeps a b m → Keeps b c n →
 added-then a b c m n h k = added-is a c (added a b ++ added b c) (grown-then a b c m n h k)
 
 pub keeps-then : (a b c : Nodes) (m n : ℕ) → Keeps a b m → Keeps b c n → Keeps a c (m + n)
-keeps-then a b c m n h k =
-    record {
-      inputs = k.inputs ∙ h.inputs;
-      pull = k.pull ∙ h.pull;
-      moment = k.moment ∙ h.moment;
-      fit = subst (λ t. AllFit t c.states.items) h.inputs k.fit;
-      kind = k.kind ∙ h.kind;
-      grown = grown-then a b c m n h k ∙ ap (λ l. a.log.items ++ l) (sym (added-then a b c m n h k));
-      at_most = let i = h.at_most in let j = k.at_most in omega arith;
-    }
+keeps-then a b c m n h k = grind (arith, common_steps, grown-then, added-then)
 
 pub keeps-more : (a b : Nodes) (m n : ℕ) → Keeps a b m → m ≤ n → Keeps a b n
-keeps-more a b m n h l =
-    record {
-      inputs = h.inputs;
-      pull = h.pull;
-      moment = h.moment;
-      fit = h.fit;
-      kind = h.kind;
-      grown = h.grown;
-      at_most = let i = h.at_most in omega arith;
-    }
+keeps-more a b m n h l = search rules
 
 pub added-none : (a : Nodes) → added a a ≡ []
 added-none a = added-is a a [] (sym (append-nil a.log.items))
 
 pub keeps-none : (a : Nodes) → AllFit a.inputs.items a.states.items → Keeps a a 0
-keeps-none a fit =
-    record {
-      inputs = refl;
-      pull = refl;
-      moment = refl;
-      fit = fit;
-      kind = refl;
-      grown = sym (append-nil a.log.items) ∙ ap (λ l. a.log.items ++ l) (sym (added-none a));
-      at_most = omega arith;
-    }
+keeps-none a fit = search (rules, append-nil, added-none)
 
 pub can-go_on : (a b : Nodes) (x m n : ℕ) → CanPull a x (m + n) → Keeps a b m → CanPull b x n
 can-go_on a b x m n can h =
@@ -88,8 +62,7 @@ answers-then {S = S} gives asked (x ∷ xs) ys a b c h k = by_queue (asked x) (�
   where
     by_queue : (o : Option ℕ) → ((s : S) → Answers gives asked s xs b → Answers gives asked s (xs ++ ys) c) → at_queue gives o x.got a (λ s. Answers gives asked s xs b)
         → at_queue gives o x.got a (λ s. Answers gives asked s (xs ++ ys) c)
-    by_queue None rest h = rest a h
-    by_queue (Some q) rest h = (h.0, h.1, rest h.0 h.2)
+    by_queue o rest h = search rules
 
 pub edges-append : (table : List Inputs) (x : ℕ) (one other : List ℕ) → edges_in table x (one ++ other) ≡ edges_in table x one + edges_in table x other
 edges-append table x [] other = omega arith
@@ -138,12 +111,7 @@ pub asks-front : (a b : Nodes) (x : ℕ) (one other : List ℕ) (more : List Vis
 asks-front a b x one other more f row history visits own going unasked apart = f row history visits own going (all-split (IsUnasked own) one other unasked).0 (apart-split one other apart).0
 
 pub asks-none : (a : Nodes) (x : ℕ) → AsksAll a a x [] []
-asks-none a x row history visits own going unasked apart =
-    record {
-      pulling = subst (λ l. IsPulling (now_of a) history x row a.states.items l (own ++ [])) (sym (ap (λ l. visits ++ l) (added-none a) ∙ append-nil visits))
-          (subst (λ l. IsPulling (now_of a) history x row a.states.items visits l) (sym (append-nil own)) going.pulling);
-      outside = λ y l. refl;
-    }
+asks-none a x row history visits own going unasked apart = search (rules, added-none, append-nil)
 
 -- an input is asked, and the visit logged
 pub asks-one : (a b c : Nodes) (m x i : ℕ) (got : Option Packet) → Keeps a b m → c.log.items ≡ b.log.items ++ asking a.pull a.moment x i got ∷ [] → c.states.items ≡ b.states.items → Asks a b x i got
@@ -209,11 +177,7 @@ asking-can gives a b p q x k order can h l =
 pub asking-ready : {S : Type 0} (gives : S → ℕ → Option Packet → S → Type 0) (a b : Nodes) (p q : S) (x k i : ℕ) (order : List ℕ) → CanPull a x (edges_in a.inputs.items x order)
     → AllByRecursion (λ j. IsSome (input_at a.inputs.items x j)) order → IsAsking gives a b p q x (take k order) → k < length order → i ≡ slice_index order k
     → CanPull b x (edges_at b.inputs.items x i) × IsSome (input_at b.inputs.items x i)
-asking-ready gives a b p q x k i order can within h l same = (
-  subst (λ j. CanPull b x (edges_at b.inputs.items x j)) (sym same) (asking-can gives a b p q x k order can h l),
-  subst (λ table. IsSome (input_at table x i)) (sym h.keeps.inputs)
-      (subst (λ j. IsSome (input_at a.inputs.items x j)) (sym same) (of-all (λ j. IsSome (input_at a.inputs.items x j)) (slice_index order k) order within (in-slice order k (slice_index order k) (slice_get-get_or order k 0 l)))),
-)
+asking-ready gives a b p q x k i order can within h l same = grind (arith, common_steps, asking-can, of-all, in-slice, slice_get-get_or)
 
 -- it was asked as the order names it, and gave this
 named : {S : Type 0} (gives : S → ℕ → Option Packet → S → Type 0) (b c : Nodes) (q r : S) (x i j : ℕ) (got given : Option Packet) → i ≡ j → got ≡ given → HasAsked gives b c q r x i got → HasAsked gives b c q r x j given

@@ -1,5 +1,5 @@
 -- What the nodes at an input of a row hold, and what they may have done.
-use Rattle.std.proofs.Common.{◌≡◌, ℕ, zero, suc, ◌+◌, ◌<◌, ◌≤◌, Bool, true, false, List, [], Option, Some, None, is_some, MatchOption, slice_get, refl, sym, ap, subst, arith}
+use Rattle.std.proofs.Common.{◌≡◌, ℕ, zero, suc, ◌+◌, ◌<◌, ◌≤◌, Bool, true, false, List, [], Option, Some, None, is_some, MatchOption, slice_get, refl, sym, ap, subst, arith, rules}
 use Rattle.std.specs.Bool.{⊤}
 use Rattle.std.proofs.lemmas.Bool.{false≢true}
 use Rattle.clk_packet.specs.declared.packet.Packet.{Packet}
@@ -30,8 +30,7 @@ pub record AreAlike (states more : List State) (history later : History) (y : �
 
 holds-here : (states more : List State) (history later : History) (next : ℕ) (class : Scheduler) (inputs : ℕ) → AreAlike states more history later next
     → MatchOption (slice_get states next) ⊥ (Holds class inputs (history next)) → MatchOption (slice_get more next) ⊥ (Holds class inputs (later next))
-holds-here states more history later next class inputs same h =
-    subst (λ o. MatchOption o ⊥ (Holds class inputs (later next))) (sym same.state) (subst (λ ts. MatchOption (slice_get states next) ⊥ (Holds class inputs ts)) (sym same.turns) h)
+holds-here states more history later next class inputs same h = search rules
 
 pub holds-same : (states more : List State) (history later : History) (next : ℕ) (row : Row) → ((y : ℕ) → next ≤ y → y < next + nodes row → AreAlike states more history later y)
     → EachHolds states history next row → EachHolds more later next row
@@ -55,10 +54,7 @@ pub holds_at-same : (states more : List State) (history later : History) (next :
 holds_at-same states more history later next end i same h = tt
 holds_at-same states more history later next (leaf q row) zero same h = tt
 holds_at-same states more history later next (leaf q row) (suc i) same h = holds_at-same states more history later next row i same h
-holds_at-same states more history later next (node class inputs row) zero same h = (
-  holds-here states more history later next class (width inputs) (same next (omega arith, omega arith)) h.0,
-  holds-same states more history later (suc next) inputs (λ y l k. same y (omega arith, omega arith)) h.1,
-)
+holds_at-same states more history later next (node class inputs row) zero same h = search (rules, holds-here, holds-same)
 holds_at-same states more history later next (node class inputs row) (suc i) same h = holds_at-same states more history later (suc (next + nodes inputs)) row i same h
 
 -- one input may change, where all others stay
@@ -68,8 +64,7 @@ pub holds-put : (states more : List State) (history later : History) (next : ℕ
 holds-put states more history later next end i same h k = tt
 holds-put states more history later next (leaf q row) zero same h k = holds-same states more history later next row (λ y l m. same y l m (λ e. e)) h
 holds-put states more history later next (leaf q row) (suc i) same h k = holds-put states more history later next row i same h k
-holds-put states more history later next (node class inputs row) zero same h k =
-    (k.0, k.1, holds-same states more history later (suc (next + nodes inputs)) row (λ y l m. same y (omega arith) (omega arith) (λ e. let f = e.1 in omega arith)) h.2)
+holds-put states more history later next (node class inputs row) zero same h k = search (rules, holds-same)
 holds-put states more history later next (node class inputs row) (suc i) same h k = (
   holds-here states more history later next class (width inputs) (same next (omega arith) (omega arith) (before next (omega arith))) h.0,
   holds-same states more history later (suc next) inputs (λ y l m. same y (omega arith) (omega arith) (before y (omega arith))) h.1,
@@ -104,19 +99,7 @@ is_scheduler (Some (Node m)) = true
 pub child-at : (next : ℕ) (row : Row) (i child : ℕ) → slice_get (inputs_of next row) i ≡ Some (Node child) → IsChildAt next row i child
 child-at next end i child e = absurd (false≢true (ap is_scheduler e))
 child-at next (leaf q row) zero child e = absurd (false≢true (ap is_scheduler e))
-child-at next (leaf q row) (suc i) child e =
-    let k = child-at next row i child e in
-    record {
-      class = k.class;
-      inputs = k.inputs;
-      ahead = k.ahead;
-      lies = k.lies;
-      lies_back = k.lies_back;
-      stands = k.stands;
-      holds = k.holds;
-      holds_back = k.holds_back;
-      asked = k.asked;
-    }
+child-at next (leaf q row) (suc i) child e = search (rules, (child-at next row i child e))
 child-at next (node class inputs row) zero child e = subst (IsChildAt next (node class inputs row) zero) (ap number_of e) here
   where
     here : IsChildAt next (node class inputs row) zero next
@@ -132,19 +115,7 @@ child-at next (node class inputs row) zero child e = subst (IsChildAt next (node
           holds_back = λ states history h. (h.here, h.below);
           asked = λ now history visits got h. h;
         }
-child-at next (node class inputs row) (suc i) child e =
-    let k = child-at (suc (next + nodes inputs)) row i child e in
-    record {
-      class = k.class;
-      inputs = k.inputs;
-      ahead = let a = k.ahead in omega arith;
-      lies = k.lies;
-      lies_back = k.lies_back;
-      stands = λ table h. k.stands table h.2;
-      holds = k.holds;
-      holds_back = k.holds_back;
-      asked = k.asked;
-    }
+child-at next (node class inputs row) (suc i) child e = search (rules, (child-at (suc (next + nodes inputs)) row i child e))
 
 -- a queue at an input of a row: nothing is made there, and nothing held
 pub record IsQueueAt (next : ℕ) (row : Row) (i : ℕ) : Type 0 where

@@ -1,10 +1,10 @@
 -- How many edges some inputs of a node have at most.
-use Rattle.std.proofs.Common.{◌≡◌, ◌≢◌, ℕ, zero, suc, ◌+◌, ◌≤◌, List, [], ◌∷◌, map, slice_get, Some, refl, ap, ◌∙◌, arith}
+use Rattle.std.proofs.Common.{◌≡◌, ◌≢◌, ℕ, zero, suc, ◌+◌, ◌≤◌, List, [], ◌∷◌, map, slice_get, Some, refl, ap, arith, rules}
 use Rattle.std.specs.List.{AllByRecursion}
 use Rattle.std.proofs.lemmas.Option.{slice_get_past}
 use Rattle.clk_sched.specs.declared.session.inputs.Input.{Input}
 use Rattle.clk_sched.specs.declared.session.inputs.Inputs.{Inputs}
-use Rattle.clk_sched.specs.inside.Places.{AreWired, edges_of, option_edges, edges_to, edges_to_all, edges_at, edges_in, option_edges_to, option_input}
+use Rattle.clk_sched.specs.inside.Places.{AreWired, edges_of, edges_to, edges_to_all, edges_in, option_edges_to}
 use Rattle.clk_sched.specs.inside.Pulling.{AreApart}
 
 abbrev total : List ℕ → ℕ
@@ -44,8 +44,7 @@ picked-other ns i (j ∷ order) d = let e = pick-other ns i j d.0 in let f = pic
 
 picked-most : (ns : List ℕ) (order : List ℕ) → AreApart (λ (i : ℕ). i) order → picked ns order ≤ total ns
 picked-most ns [] h = omega arith
-picked-most ns (i ∷ order) h =
-    let e = total-pick ns i in let f = picked-other ns i order h.0 in let l = picked-most (zeroed ns i) order h.1 in omega (arith, e, f)
+picked-most ns (i ∷ order) h = search (rules, total-pick, picked-other, (picked-most (zeroed ns i) order h.1))
 
 pick-edges : (table : List Inputs) (inputs : List Input) (i : ℕ) → option_edges_to table (slice_get inputs i) ≡ pick (map (edges_to table) inputs) i
 pick-edges table [] i = ap (option_edges_to table) (slice_get_past [] i (omega arith))
@@ -58,17 +57,8 @@ total-edges table (input ∷ inputs) = let e = total-edges table inputs in omega
 
 picked-edges : (table : List Inputs) (x : ℕ) (p : Inputs) (order : List ℕ) → slice_get table x ≡ Some p → edges_in table x order ≡ picked (map (edges_to table) p.each.items) order
 picked-edges table x p [] e = refl
-picked-edges table x p (i ∷ order) e =
-    let here : edges_at table x i ≡ pick (map (edges_to table) p.each.items) i = ap (λ o. option_edges_to table (option_input o i)) e ∙ pick-edges table p.each.items i in
-    let rest = picked-edges table x p order e in
-    omega (arith, here, rest)
+picked-edges table x p (i ∷ order) e = search (rules, pick-edges, (picked-edges table x p order e))
 
 -- inputs of which none is named twice
 pub edges-order : (table : List Inputs) (x : ℕ) (p : Inputs) (order : List ℕ) → AreWired table → slice_get table x ≡ Some p → AreApart (λ (i : ℕ). i) order → edges_in table x order ≤ edges_of table x
-edges-order table x p order wired e apart =
-    let all = picked-most (map (edges_to table) p.each.items) order apart in
-    let some = picked-edges table x p order e in
-    let whole = total-edges table p.each.items in
-    let edges = (wired x p e).edges in
-    let of : edges_of table x ≡ p.edges = ap option_edges e in
-    omega (arith, all, some, whole, edges, of)
+edges-order table x p order wired e apart = search (rules, picked-most, picked-edges, total-edges)

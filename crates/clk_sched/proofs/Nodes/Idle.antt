@@ -1,15 +1,15 @@
 -- Inputs of a node that are passed over, since they are queues that have nothing.
-use Rattle.std.proofs.Common.{ap₂, append-nil, ◌≡◌, ℕ, zero, suc, ◌+◌, ◌-◌, ◌<◌, ◌≤◌, List, [], ◌∷◌, ◌++◌, length, take, drop, get_or, slice_get, Option, Some, None, IsSome, refl, sym, ap, ◌∙◌, subst, arith}
+use Rattle.std.proofs.lemmas.Grind.{common_steps}
+use Rattle.std.proofs.Common.{ap₂, ◌≡◌, ℕ, zero, suc, ◌+◌, ◌-◌, ◌<◌, ◌≤◌, List, [], ◌∷◌, ◌++◌, length, take, drop, get_or, slice_get, Option, Some, None, IsSome, refl, sym, ap, ◌∙◌, subst, arith, rules}
 use Rattle.std.proofs.lemmas.List.{take-append-drop}
 use Rattle.std.proofs.lemmas.List.FromFn.{length-range_with_len, get_or-range_with_len}
 use Rattle.std.specs.List.{AllByRecursion, range_with_len}
 use Rattle.clk_packet.specs.declared.packet.Packet.{Packet}
-use Rattle.clk_sched.specs.declared.session.inputs.Input.TheVariants.{Queue}
 use Rattle.clk_sched.specs.declared.session.inputs.Inputs.{Inputs}
 use Rattle.clk_sched.specs.declared.session.nodes.Nodes.{Nodes}
 use Rattle.clk_sched.specs.declared.session.stride.Rank.{Rank}
 use Rattle.clk_sched.specs.inside.Ranks.{FollowOneAnother, inputs_in}
-use Rattle.clk_sched.specs.inside.Places.{AllFit, edges_in, input_at, option_input}
+use Rattle.clk_sched.specs.inside.Places.{AllFit, edges_in, input_at}
 use Rattle.clk_sched.specs.inside.Pulling.{CanPull, Keeps}
 use Rattle.clk_sched.specs.Log.{asking}
 use Rattle.clk_sched.specs.inside.Looking.{Logs}
@@ -30,22 +30,12 @@ there-at table x first (suc n) h (suc i) l = let next : first + 1 + i ≡ first 
 
 -- What is idle stays so, while nothing is asked.
 pub idle-then : {S : Type 0} (gives : S → ℕ → Option Packet → S → Type 0) (a b : Nodes) (q : S) (x i m : ℕ) → Keeps a b m → IsIdle gives a q x i → AllFit b.inputs.items b.states.items × IsIdle gives b q x i
-idle-then gives a b q x i m h idle = (
-  subst (λ t. AllFit t b.states.items) (sym h.inputs) h.fit,
-  record { leaf = idle.leaf; stands = subst (λ t. input_at t x i ≡ Some (Queue idle.leaf)) (sym h.inputs) idle.stands; gives_none = idle.gives_none },
-)
+idle-then gives a b q x i m h idle = search rules
 
 -- the front of an order, in two parts
 take-both : (k n : ℕ) (order : List ℕ) → take (k + n) order ≡ take k order ++ take n (drop k order)
 take-both zero n order = let same : 0 + n ≡ n = omega arith in ap (λ m. take m order) same
-take-both (suc k) n [] = ap (λ m. take m nothing) (let same : suc k + n ≡ suc (k + n) = omega arith in same) ∙ sym (take-nothing n)
-  where
-    nothing : List ℕ
-    nothing = []
-
-    take-nothing : (m : ℕ) → take m nothing ≡ nothing
-    take-nothing zero = refl
-    take-nothing (suc m) = refl
+take-both (suc k) n [] = grind (arith, common_steps)
 take-both (suc k) n (i ∷ order) = ap (λ m. take m (i ∷ order)) (let same : suc k + n ≡ suc (k + n) = omega arith in same) ∙ ap (λ l. i ∷ l) (take-both k n order)
 
 -- After some inputs that gave nothing, those that are left can be passed over.
@@ -92,8 +82,7 @@ turn-past gives a b c p q x first count k n l h passed =
 -- The first input of an order is one of the node's, and each of those is there.
 pub first-below : (table : List Inputs) (x : ℕ) (p : Inputs) (order : List Rank) (d : Rank) → slice_get table x ≡ Some p → 0 < length order → AllByRecursion (λ i. IsSome (input_at table x i)) (inputs_in order)
     → (get_or order 0 d).input < length p.each.items
-first-below table x p [] d e some h = absurd (omega arith)
-first-below table x p (r ∷ order) d e some h = some-below p.each.items r.input (subst (λ o. IsSome (option_input o r.input)) e h.0)
+first-below table x p order d e some h = grind (arith, common_steps, some-below)
 
 pub input-there : (table : List Inputs) (x i : ℕ) (p : Inputs) → slice_get table x ≡ Some p → i < length p.each.items → IsSome (input_at table x i)
 input-there table x i p e l = (order-there table x p (i ∷ []) e (l, tt)).0
@@ -103,19 +92,13 @@ pub row-follows : (order : List Rank) (d : Rank) (n m : ℕ) → n ≤ m → m �
 row-follows order d zero m l some follow = refl
 row-follows [] d (suc n) m l some follow = absurd (omega arith)
 row-follows (r ∷ order) d (suc n) zero l some follow = absurd (omega arith)
-row-follows (r ∷ order) d (suc n) (suc m) l some follow = ap (λ is. r.input ∷ is) (sym (front n m order (omega arith))) ∙ follow ∙ ap (λ k. range_with_len r.input (suc k)) (size n m order (omega arith) (omega arith))
+row-follows (r ∷ order) d (suc n) (suc m) l some follow = ap (λ is. r.input ∷ is) (sym (front n m order (omega arith))) ∙ follow ∙ ap (λ k. range_with_len r.input (suc k)) (search rules)
   where
     front : (n m : ℕ) (order : List Rank) → n ≤ m → inputs_in (take n (take m order)) ≡ take n (inputs_in order)
     front zero m order l = refl
     front (suc n) zero order l = absurd (omega arith)
     front (suc n) (suc m) [] l = refl
     front (suc n) (suc m) (s ∷ order) l = ap (λ is. s.input ∷ is) (front n m order (omega arith))
-
-    size : (n m : ℕ) (order : List Rank) → n ≤ m → m ≤ length order → length (take n (take m order)) ≡ n
-    size zero m order l k = refl
-    size (suc n) zero order l k = absurd (omega arith)
-    size (suc n) (suc m) [] l k = absurd (omega arith)
-    size (suc n) (suc m) (s ∷ order) l k = ap suc (size n m order (omega arith) (omega arith))
 
 -- Those at the front were asked, and nothing else is.
 pub asking-front : {S : Type 0} (gives : S → ℕ → Option Packet → S → Type 0) (a b : Nodes) (p q : S) (x first count k n : ℕ) → k ≡ n → n ≤ count → IsAsking gives a b p q x (take k (range_with_len first count))
@@ -134,16 +117,11 @@ pub order-room : (a : Nodes) (x : ℕ) (order : List ℕ) → CanPull a x (edges
 order-room a x order can within = let room = can.room in let edges = inputs-edges a.inputs.items x order within in omega (arith, room, edges)
 
 pub idle-room : (a : Nodes) (x first count : ℕ) → CanPull a x (edges_in a.inputs.items x (range_with_len first count)) → AllByRecursion (λ i. IsSome (input_at a.inputs.items x i)) (range_with_len first count) → count ≤ a.log.spare
-idle-room a x first count can within =
-    let room = order-room a x (range_with_len first count) can within in
-    let size = length-range_with_len first count in
-    omega (arith, room, size)
+idle-room a x first count can within = search (rules, order-room, length-range_with_len)
 
 -- the visits of no inputs, and of one more
 pub idle-none : (a : Nodes) (x first : ℕ) → with_idle_at a x first 0 ≡ a
-idle-none a x first =
-    let all : a.log.spare - 0 ≡ a.log.spare = omega arith in
-    ap₂ (λ items spare. record { inputs = a.inputs; states = a.states; log = record { items = items; spare = spare; kind = a.log.kind }; pull = a.pull; moment = a.moment }) (append-nil a.log.items) all
+idle-none a x first = search rules
 
 pub idle-next : (a : Nodes) (x first k : ℕ) → Logs (with_idle_at a x first k) (with_idle_at a x first (k + 1)) (asking a.pull a.moment x (first + k) None)
 idle-next a x first k =

@@ -1,8 +1,7 @@
 -- The turn of a scheduler that asks its inputs in an order.
-use Rattle.std.proofs.Common.{◌≡◌, ◌≢◌, ℕ, zero, suc, ◌<◌, List, [], ◌∷◌, length, take, map, slice_index, Option, Some, None, IfSome, is_some, refl, sym, ap, subst, arith}
+use Rattle.std.proofs.Common.{◌≡◌, ◌≢◌, ℕ, zero, suc, ◌<◌, List, [], ◌∷◌, length, take, map, slice_index, Option, Some, None, IfSome, refl, sym, ap, subst, arith, rules}
 use Rattle.std.specs.List.{AllByRecursion, range_with_len}
 use Rattle.std.proofs.lemmas.List.FromFn.{length-range_with_len}
-use Rattle.std.proofs.lemmas.Bool.{false≢true}
 use Rattle.clk_packet.specs.declared.packet.Packet.{Packet}
 use Rattle.clk_sched.specs.declared.visit.Visit.{Visit}
 use Rattle.clk_sched.specs.declared.session.nodes.Nodes.{Nodes}
@@ -11,7 +10,7 @@ use Rattle.clk_sched.specs.Tree.{Row, width}
 use Rattle.clk_sched.specs.Turns.{Turn, UpToFirst, IsPlain, AsksInOrder, giver}
 use Rattle.clk_sched.specs.Laws.{manner, Follows}
 use Rattle.clk_sched.specs.Log.{visits_of, result_of, asking}
-use Rattle.clk_sched.specs.inside.Pulling.{Now, History, AreApart, input_of, IsReady, HasTurned, AsksAll, IsUnasked, GoesOnBy, added, now_of, after, with_turn, as_turn, asked_in_vain, asked_in_order}
+use Rattle.clk_sched.specs.inside.Pulling.{Now, History, AreApart, input_of, IsReady, HasTurned, AsksAll, GoesOnBy, added, now_of, after, with_turn, as_turn, asked_in_vain, asked_in_order}
 use Rattle.clk_packet.specs.Lists.{In}
 use Rattle.clk_sched.proofs.Lists.Members.{of-all, to-all, all-weaker}
 use Rattle.clk_sched.proofs.Classes.Orders.{IsOrderOf}
@@ -41,8 +40,7 @@ walked-all P now x (i ∷ order) (suc k) packet l h = (h.0 None, walked-all P no
 
 pub in_order-all : (P : Visit → Type 0) (now : Now) (x : ℕ) (order : List ℕ) (r : Option (ℕ × Packet)) → IsWithin order r → ((i : ℕ) → In i order → (o : Option Packet) → P (asking now.number now.moment x i o))
     → AllByRecursion P (asked_in_order now x order r)
-in_order-all P now x order None l h = vain-all P now x order (to-all (λ i. (o : Option Packet) → P (asking now.number now.moment x i o)) order h)
-in_order-all P now x order (Some p) l h = walked-all P now x order p.0 p.1 l (to-all (λ i. (o : Option Packet) → P (asking now.number now.moment x i o)) order h)
+in_order-all P now x order r l h = search (rules, vain-all, to-all, walked-all)
 
 vain-up_to : (now : Now) (x : ℕ) (order : List ℕ) → UpToFirst order (asked_in_vain now x order)
 vain-up_to now x [] = tt
@@ -54,8 +52,7 @@ walked-up_to now x (i ∷ order) zero packet l = (refl, refl)
 walked-up_to now x (i ∷ order) (suc k) packet l = (refl, walked-up_to now x order k packet (omega arith))
 
 pub in_order-up_to : (now : Now) (x : ℕ) (order : List ℕ) (r : Option (ℕ × Packet)) → IsWithin order r → UpToFirst order (asked_in_order now x order r)
-in_order-up_to now x order None l = vain-up_to now x order
-in_order-up_to now x order (Some p) l = walked-up_to now x order p.0 p.1 l
+in_order-up_to now x order r l = search (rules, vain-up_to, walked-up_to)
 
 vain-apart : (now : Now) (x : ℕ) (order : List ℕ) → AreApart (λ (i : ℕ). i) order → AreApart input_of (asked_in_vain now x order)
 vain-apart now x [] h = tt
@@ -64,12 +61,10 @@ vain-apart now x (i ∷ order) h = (vain-all (λ (v : Visit). v.input ≢ i) now
 walked-apart : (now : Now) (x : ℕ) (order : List ℕ) (k : ℕ) (packet : Packet) → k < length order → AreApart (λ (i : ℕ). i) order → AreApart input_of (walked now x order k packet)
 walked-apart now x [] k packet l h = absurd (omega arith)
 walked-apart now x (i ∷ order) zero packet l h = (tt, tt)
-walked-apart now x (i ∷ order) (suc k) packet l h =
-    (walked-all (λ (v : Visit). v.input ≢ i) now x order k packet (omega arith) (all-weaker (λ j. j ≢ i) _ order (λ j d o. d) h.0), walked-apart now x order k packet (omega arith) h.1)
+walked-apart now x (i ∷ order) (suc k) packet l h = search (rules, walked-all, all-weaker, (walked-apart now x order k packet (omega arith) h.1))
 
 in_order-apart : (now : Now) (x : ℕ) (order : List ℕ) (r : Option (ℕ × Packet)) → IsWithin order r → AreApart (λ (i : ℕ). i) order → AreApart input_of (asked_in_order now x order r)
-in_order-apart now x order None l h = vain-apart now x order h
-in_order-apart now x order (Some p) l h = walked-apart now x order p.0 p.1 l h
+in_order-apart now x order r l h = search (rules, vain-apart, walked-apart)
 
 vain-result : (now : Now) (x : ℕ) (order : List ℕ) → result_of (asked_in_vain now x order) ≡ None
 vain-result now x [] = refl
@@ -85,8 +80,7 @@ packet_of None = None
 packet_of (Some p) = Some p.1
 
 in_order-result : (now : Now) (x : ℕ) (order : List ℕ) (r : Option (ℕ × Packet)) → IsWithin order r → result_of (asked_in_order now x order r) ≡ packet_of r
-in_order-result now x order None l = vain-result now x order
-in_order-result now x order (Some p) l = walked-result now x order p.0 p.1 l
+in_order-result now x order r l = search (rules, vain-result, walked-result)
 
 -- the input that gave
 vain-giver : (now : Now) (x : ℕ) (order : List ℕ) → giver (asked_in_vain now x order) ≡ None
@@ -103,14 +97,9 @@ giver_at order None = None
 giver_at order (Some p) = Some (slice_index order p.0)
 
 pub in_order-giver : (now : Now) (x : ℕ) (order : List ℕ) (r : Option (ℕ × Packet)) → IsWithin order r → giver (asked_in_order now x order r) ≡ giver_at order r
-in_order-giver now x order None l = vain-giver now x order
-in_order-giver now x order (Some p) l = walked-giver now x order p.0 p.1 l
+in_order-giver now x order r l = search (rules, vain-giver, walked-giver)
 
 -- the inputs that were asked
-vain-inputs : (now : Now) (x : ℕ) (order : List ℕ) → map input_of (asked_in_vain now x order) ≡ order
-vain-inputs now x [] = refl
-vain-inputs now x (i ∷ order) = ap (λ l. i ∷ l) (vain-inputs now x order)
-
 pub walked-inputs : (now : Now) (x : ℕ) (order : List ℕ) (k : ℕ) (packet : Packet) → k < length order → map input_of (asked_in_order now x order (Some (k, packet))) ≡ take (suc k) order
 walked-inputs now x [] k packet l = absurd (omega arith)
 walked-inputs now x (i ∷ order) zero packet l = refl
@@ -154,14 +143,11 @@ turned-in-order old new history x class row order r ready within asked is follow
     own = asked_in_order now x order r
 
     goes : GoesOnBy old new history x row [] [] own
-    goes =
-        asked row history [] [] (record { stands = ready.stands; before = ready.before; pulling = pulling-first now history x row old.states.items ready.holds })
-        (to-all (IsUnasked []) order (λ i m. tt)) is.apart
+    goes = search (rules, pulling-first, to-all, now)
 
 -- the turns of a node after visits of which one got a packet, or none did
 pub with_turn-given : (moment : ℕ) (own : List Visit) (turns : List Turn) (i : ℕ) → giver own ≡ Some i → with_turn moment own turns ≡ as_turn moment own ∷ turns
-with_turn-given moment [] turns i e = absurd (false≢true (ap is_some e))
-with_turn-given moment (v ∷ own) turns i e = refl
+with_turn-given moment own turns i e = search rules
 
 pub after-own : (old new : Nodes) (history : History) (x : ℕ) (own : List Visit) → visits_of x (added old new) ≡ own → after history old.moment (added old new) x ≡ with_turn old.moment own (history x)
 after-own old new history x own e = ap (λ vs. with_turn old.moment vs (history x)) e

@@ -1,5 +1,6 @@
 -- An order of inputs that is asked in two parts.
-use Rattle.std.proofs.Common.{◌≡◌, ℕ, zero, suc, ◌+◌, ◌<◌, List, [], ◌∷◌, ◌++◌, length, slice_index, Option, Some, None, refl, sym, ap, subst, arith}
+use Rattle.std.proofs.lemmas.Grind.{common_steps}
+use Rattle.std.proofs.Common.{◌≡◌, ℕ, suc, ◌+◌, ◌<◌, List, [], ◌∷◌, ◌++◌, length, slice_index, Option, Some, None, refl, sym, ap, subst, arith}
 use Rattle.clk_packet.specs.declared.packet.Packet.{Packet}
 use Rattle.clk_sched.specs.declared.session.nodes.Nodes.{Nodes}
 use Rattle.clk_sched.specs.Log.{asking}
@@ -23,8 +24,7 @@ past-length [] k = omega arith
 past-length (i ∷ one) k = let e = past-length one k in omega (arith, e)
 
 vain-append : (now : Now) (x : ℕ) (one other : List ℕ) → asked_in_vain now x (one ++ other) ≡ asked_in_vain now x one ++ asked_in_vain now x other
-vain-append now x [] other = refl
-vain-append now x (i ∷ one) other = ap (λ l. asking now.number now.moment x i None ∷ l) (vain-append now x one other)
+vain-append now x one other = grind (arith, common_steps)
 
 pub in_order-second : (now : Now) (x : ℕ) (one other : List ℕ) (r : Option (ℕ × Packet)) → asked_in_vain now x one ++ asked_in_order now x other r ≡ asked_in_order now x (one ++ other) (in_second one r)
 in_order-second now x one other None = sym (vain-append now x one other)
@@ -35,14 +35,10 @@ in_order-second now x one other (Some r) = again one
     again (i ∷ one) = ap (λ l. asking now.number now.moment x i None ∷ l) (again one)
 
 pub in_order-first : (now : Now) (x : ℕ) (one other : List ℕ) (k : ℕ) (p : Packet) → k < length one → asked_in_order now x one (Some (k, p)) ≡ asked_in_order now x (one ++ other) (Some (k, p))
-in_order-first now x [] other k p l = absurd (omega arith)
-in_order-first now x (i ∷ one) other zero p l = refl
-in_order-first now x (i ∷ one) other (suc k) p l = ap (λ l. asking now.number now.moment x i None ∷ l) (in_order-first now x one other k p (omega arith))
+in_order-first now x one other k p l = grind (arith, common_steps)
 
 pub index-first : (one other : List ℕ) (k : ℕ) → k < length one → slice_index (one ++ other) k ≡ slice_index one k
-index-first [] other k l = absurd (omega arith)
-index-first (i ∷ one) other zero l = refl
-index-first (i ∷ one) other (suc k) l = index-first one other k (omega arith)
+index-first one other k l = grind (arith, common_steps)
 
 pub index-second : (one other : List ℕ) (k : ℕ) → slice_index (one ++ other) (past one k) ≡ slice_index other k
 index-second [] other k = refl

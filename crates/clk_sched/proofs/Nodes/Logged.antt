@@ -1,14 +1,13 @@
 -- A visit that is recorded after what it asked.
-use Rattle.std.proofs.Common.{◌≡◌, ℕ, ◌+◌, ◌≤◌, true, List, [], ◌∷◌, ◌++◌, slice_get, Option, Some, None, IsSome, refl, sym, ap, ap₂, ◌-◌, ◌∙◌, subst, append_assoc, arith}
-use Rattle.std.proofs.lemmas.Bool.{false≢true}
+use Rattle.std.proofs.lemmas.Grind.{common_steps}
+use Rattle.std.proofs.Common.{◌≡◌, ℕ, ◌+◌, ◌≤◌, true, List, [], ◌∷◌, ◌++◌, slice_get, Option, Some, None, IsSome, refl, sym, ap, ap₂, ◌-◌, ◌∙◌, subst, append_assoc, arith, rules}
 use Rattle.clk_packet.specs.declared.packet.Packet.{Packet}
 use Rattle.clk_sched.specs.declared.visit.Visit.{Visit}
-use Rattle.clk_sched.specs.declared.session.inputs.Input.{Input}
-use Rattle.clk_sched.specs.declared.session.inputs.Input.TheVariants.{Queue, Node}
+use Rattle.clk_sched.specs.declared.session.inputs.Input.TheVariants.{Queue}
 use Rattle.clk_sched.specs.declared.session.inputs.Inputs.{Inputs}
 use Rattle.clk_sched.specs.declared.session.nodes.Nodes.{Nodes}
-use Rattle.clk_sched.specs.Answers.{Answers, at_queue}
-use Rattle.clk_sched.specs.inside.Places.{AllFit, edges_at, option_edges_to, input_at, queue_asked}
+use Rattle.clk_sched.specs.Answers.{Answers}
+use Rattle.clk_sched.specs.inside.Places.{AllFit, edges_at, input_at, queue_asked}
 use Rattle.clk_sched.specs.inside.Pulling.{Keeps, Asks, AsksAll, IsPulling, IsVisitAt, added, now_of}
 use Rattle.clk_sched.specs.inside.Looking.{Logs}
 use Rattle.clk_sched.proofs.Nodes.Asking.{added-is, keeps-more, asks-one, added-none, keeps-none}
@@ -24,25 +23,11 @@ pub added-logged : (a b c : Nodes) (m : ℕ) (v : Visit) → Keeps a b m → Log
 added-logged a b c m v h l = added-is a c (added a b ++ v ∷ []) (logged-whole a b c m v h l)
 
 pub keeps-logged : (a b c : Nodes) (m : ℕ) (v : Visit) → Keeps a b m → Logs b c v → Keeps a c (m + 1)
-keeps-logged a b c m v h l =
-    record {
-      inputs = l.inputs ∙ h.inputs;
-      pull = l.pull ∙ h.pull;
-      moment = l.moment ∙ h.moment;
-      fit = subst (λ s. AllFit a.inputs.items s) (sym l.states) h.fit;
-      kind = ap (λ k. k.kind) l.log ∙ h.kind;
-      grown = logged-whole a b c m v h l ∙ ap (λ k. a.log.items ++ k) (sym (added-logged a b c m v h l));
-      at_most = let i = h.at_most in let e = ap (λ k. k.spare) l.log in omega (arith, e);
-    }
+keeps-logged a b c m v h l = grind (arith, common_steps, logged-whole, added-logged)
 
 -- each input has an edge
 pub edge-there : (table : List Inputs) (x i : ℕ) → IsSome (input_at table x i) → 1 ≤ edges_at table x i
-edge-there table x i h = by_input (input_at table x i) h
-  where
-    by_input : (o : Option Input) → IsSome o → 1 ≤ option_edges_to table o
-    by_input None k = absurd (false≢true k)
-    by_input (Some (Queue q)) k = omega arith
-    by_input (Some (Node m)) k = omega arith
+edge-there table x i h = search rules
 
 -- A node looked at one of its inputs, where a head is held or none is.
 pub asks-fresh : (a b c : Nodes) (m x : ℕ) (v : Visit) → Keeps a b m → Logs b c v → IsVisitAt (now_of a) x v → v.fresh ≡ true → Asks a b x v.input v.got → AsksAll a c x (v.input ∷ []) (v ∷ [])
@@ -73,12 +58,8 @@ asked-logged gives a b c q r x i got w there keeps answers asks is logs =
 -- A queue that stands at an input answered.
 pub queue-answers : {S : Type 0} (gives : S → ℕ → Option Packet → S → Type 0) (a : Nodes) (q r : S) (x i leaf : ℕ) (got : Option Packet) → input_at a.inputs.items x i ≡ Some (Queue leaf) → gives q leaf got r
     → (v : Visit) → v.node ≡ x → v.input ≡ i → v.fresh ≡ true → v.got ≡ got → Answers gives (queue_asked a.inputs.items) q (added a a ++ v ∷ []) r
-queue-answers gives a q r x i leaf got stands answer v node at fresh is =
-    subst (λ l. Answers gives (queue_asked a.inputs.items) q (l ++ v ∷ []) r) (sym (added-none a))
-    (subst (λ o. at_queue gives o v.got q (λ s. s ≡ r)) (sym (queue-visited a.inputs.items x i (Queue leaf) v stands node at fresh)) (r, subst (λ o. gives q leaf o r) (sym is) answer, refl))
+queue-answers gives a q r x i leaf got stands answer v node at fresh is = search (rules, added-none, queue-visited)
 
 -- A queue that has nothing needn't be asked: the visit is recorded.
 pub idle-asked : {S : Type 0} (gives : S → ℕ → Option Packet → S → Type 0) (a c : Nodes) (q : S) (x i : ℕ) → AllFit a.inputs.items a.states.items → IsIdle gives a q x i → Logs a c (asking a.pull a.moment x i None) → HasAsked gives a c q q x i None
-idle-asked gives a c q x i fit idle logs =
-    asked-logged gives a a c q q x i None (asking a.pull a.moment x i None) (subst IsSome (sym idle.stands) refl) (keeps-more a a 0 _ (keeps-none a fit) (omega arith)) (queue-answers gives a q q x i idle.leaf None idle.stands idle.gives_none)
-    (asks-queue a x i idle.leaf None idle.stands) refl logs
+idle-asked gives a c q x i fit idle logs = grind (arith, common_steps, asked-logged, keeps-more, keeps-none, queue-answers, asks-queue)

@@ -1,5 +1,5 @@
 -- What it takes to ask the inputs of a node in an order that names none twice.
-use Rattle.std.proofs.Common.{◌≡◌, ℕ, zero, suc, ◌+◌, ◌<◌, List, [], ◌∷◌, length, slice_get, Option, Some, IsSome, IfSome, MatchOption, refl, sym, ap, ◌∙◌, subst, arith}
+use Rattle.std.proofs.Common.{◌≡◌, ℕ, zero, suc, ◌+◌, ◌<◌, List, [], ◌∷◌, length, slice_get, Option, Some, IsSome, IfSome, MatchOption, refl, sym, ap, ◌∙◌, subst, arith, rules}
 use Rattle.std.specs.List.{AllByRecursion}
 use Rattle.std.proofs.lemmas.Option.{slice_get-get_or}
 use Rattle.clk_packet.specs.declared.packet.Packet.{Packet}
@@ -30,14 +30,7 @@ stands-width table x row p h e = ap length (subst (λ o. MatchOption o ⊥ (λ (
 
 pub can-order : (a : Nodes) (x : ℕ) (p : Inputs) (order : List ℕ) → CanPull a x (edges_of a.inputs.items x) → slice_get a.inputs.items x ≡ Some p → AreApart (λ (i : ℕ). i) order
     → CanPull a x (edges_in a.inputs.items x order)
-can-order a x p order can e apart =
-    record {
-      wired = can.wired;
-      fit = can.fit;
-      there = can.there;
-      room = let r = can.room in let l = edges-order a.inputs.items x p order can.wired e apart in omega arith;
-      moment = can.moment;
-    }
+can-order a x p order can e apart = search (rules, edges-order)
 
 pub order-there : (table : List Inputs) (x : ℕ) (p : Inputs) (order : List ℕ) → slice_get table x ≡ Some p → AllByRecursion (λ i. i < length p.each.items) order
     → AllByRecursion (λ i. IsSome (input_at table x i)) order

@@ -1,9 +1,10 @@
 -- A node's own state, in its place before its turn and after it.
-use Rattle.std.proofs.Common.{◌≡◌, ◌≢◌, ◌⊎◌, ℕ, zero, suc, ◌+◌, ◌<◌, ◌≤◌, List, [], ◌∷◌, length, drop, Bool, true, false, ◌==◌, slice_get, slice_set, Option, Some, None, MatchOption, IfSome, inl, inr, refl, sym, ap, ap₂, ◌∙◌, subst, arith}
+use Rattle.std.proofs.lemmas.Bool.Decides.{nat_tests}
+use Rattle.std.proofs.lemmas.Grind.{common_steps, elements}
+use Rattle.std.proofs.Common.{◌≡◌, ◌≢◌, ◌⊎◌, ℕ, suc, ◌+◌, ◌<◌, ◌≤◌, List, length, drop, slice_get, slice_set, Option, Some, None, MatchOption, IfSome, inl, refl, sym, ap, ap₂, ◌∙◌, subst, arith, rules}
 use Rattle.std.proofs.lemmas.Option.{slice_get_within}
 use Rattle.std.proofs.lemmas.List.{length-set}
 use Rattle.std.proofs.lemmas.Bool.{false≢true}
-use Rattle.std.proofs.lemmas.Bool.Decides.{nat_tests}
 use Rattle.clk_packet.specs.declared.packet.Packet.{Packet}
 use Rattle.clk_sched.specs.declared.session.inputs.Inputs.{Inputs}
 use Rattle.clk_sched.specs.declared.session.state.State.{State}
@@ -21,16 +22,10 @@ use Rattle.clk_sched.proofs.Nodes.Below.{holds-same}
 use Rattle.clk_sched.proofs.Lists.Numbers.{equal}
 
 pub set-here : {X : Type 0} (xs : List X) (i : ℕ) (x : X) → i < length xs → slice_get (slice_set xs i x) i ≡ Some x
-set-here [] i x l = absurd (omega arith)
-set-here (y ∷ xs) zero x l = refl
-set-here (y ∷ xs) (suc i) x l = set-here xs i x (omega arith)
+set-here xs i x l = grind (arith, common_steps, elements, nat_tests)
 
 pub set-other : {X : Type 0} (xs : List X) (i j : ℕ) (x : X) → j ≢ i → slice_get (slice_set xs i x) j ≡ slice_get xs j
-set-other [] i j x d = refl
-set-other (y ∷ xs) zero zero x d = absurd (d refl)
-set-other (y ∷ xs) zero (suc j) x d = refl
-set-other (y ∷ xs) (suc i) zero x d = refl
-set-other (y ∷ xs) (suc i) (suc j) x d = set-other xs i j x (λ e. d (ap suc e))
+set-other xs i j x d = grind (arith, common_steps, elements, nat_tests)
 
 -- nodes of which one holds another state than before, and nothing else changed
 pub record IsPutIn (a b : Nodes) (x : ℕ) (s : State) : Type 0 where
@@ -47,12 +42,7 @@ put-in a b x s p = ap₂ (λ n t. record { number = n; moment = t }) p.pull p.mo
 -- what holds of the node and below before its turn still does with another state in its place
 ready-put : (a taken : Nodes) (x : ℕ) (class : Scheduler) (row : Row) (history : History) (placed : State) → IsPutIn a taken x placed → StandsIn a.inputs.items x row → NodeHolds a.states.items history x class row
     → ((y : ℕ) → AreBefore a.moment (history y)) → IsReady taken history x row
-ready-put a taken x class row history placed out stands holds early =
-    record {
-      stands = subst (λ t. StandsIn t x row) (sym out.inputs) stands;
-      before = subst (λ t. (y : ℕ) → AreBefore t (history y)) (sym out.moment) early;
-      holds = holds-same a.states.items taken.states.items history history (suc x) row (λ y l k. record { state = out.others y (λ e. omega (arith, e, l)); turns = refl }) holds.below;
-    }
+ready-put a taken x class row history placed out stands holds early = search (rules, holds-same)
 
 pub pulls-put : (a taken turned b : Nodes) (x : ℕ) (placed before now : State) (got : Option Packet) → IsPutIn a taken x placed → slice_get a.states.items x ≡ Some before
     → ((class : Scheduler) → TakesTurn taken turned x class before now got) → IsPutIn turned b x now → Pulls a b x got
@@ -66,7 +56,7 @@ pulls-put a taken turned b x placed before now got out state turn back class row
             (λ y l k. record { state = back.others y (λ e. omega (arith, e, l)); turns = refl })
             (subst (λ t. EachHolds turned.states.items (after history t (added a b)) (suc x) row) out.moment (subst (λ l. EachHolds turned.states.items (after history taken.moment l) (suc x) row) logged r.turned.holds));
       };
-      outside = λ y l. back.others y (apart y l) ∙ r.turned.outside y (wider y l) ∙ out.others y (apart y l);
+      outside = λ y l. back.others y (apart y l) ∙ r.turned.outside y (search rules) ∙ out.others y (apart y l);
     }
   where
     ready : IsReady taken history x row
@@ -79,12 +69,7 @@ pulls-put a taken turned b x placed before now got out state turn back class row
     logged = ap₂ (λ l k. drop (length l) k) out.log (sym back.log)
 
     apart : (y : ℕ) → (y < x) ⊎ (suc (x + nodes row) ≤ y) → y ≢ x
-    apart y (inl l) e = omega (arith, e)
-    apart y (inr l) e = omega (arith, e)
-
-    wider : (y : ℕ) → (y < x) ⊎ (suc (x + nodes row) ≤ y) → (y ≤ x) ⊎ (suc (x + nodes row) ≤ y)
-    wider y (inl l) = inl (omega arith)
-    wider y (inr l) = inr l
+    apart y h e = omega arith
 
 pub is-put : (a : Nodes) (x : ℕ) (s : State) → x < length a.states.items → IsPutIn a (with_state a x s) x s
 is-put a x s l = record { inputs = refl; log = refl; pull = refl; moment = refl; here = set-here a.states.items x s l; others = λ y d. set-other a.states.items x y s d }
@@ -120,27 +105,11 @@ bucket-same b c e = ap (bucket_or b) e
 
 -- one state of a table may be another that fits
 pub fit-set : (table : List Inputs) (states : List State) (x : ℕ) (s : State) → AllFit table states → ((p : Inputs) → slice_get table x ≡ Some p → Fits s (length p.each.items)) → AllFit table (slice_set states x s)
-fit-set table states x s fit here =
-    record {
-      lengths = length-set states x s ∙ fit.lengths;
-      each = λ y p t e f. by_place y p t e f (y == x) refl;
-    }
-  where
-    by_place : (y : ℕ) (p : Inputs) (t : State) → slice_get table y ≡ Some p → slice_get (slice_set states x s) y ≡ Some t → (b : Bool) → (y == x) ≡ b → Fits t (length p.each.items)
-    by_place y p t e f true k =
-        let at : y ≡ x = grind (arith, nat_tests) in
-        let within : x < length states = subst (λ n. x < n) (length-set states x s) (subst (λ z. z < length (slice_set states x s)) at (slice_get_within (slice_set states x s) y t f)) in
-        let is : s ≡ t = some-same s t (sym (set-here states x s within) ∙ sym (ap (slice_get (slice_set states x s)) at) ∙ f) in
-        subst (λ z. Fits z (length p.each.items)) is (here p (subst (λ z. slice_get table z ≡ Some p) at e))
-    by_place y p t e f false k = fit.each y p t e (sym (set-other states x y s (λ at. false≢true (sym k ∙ equal y x at))) ∙ f)
+fit-set table states x s fit here = search (rules, length-set, slice_get_within, some-same, set-here, set-other, false≢true, equal)
 
 -- what stands in a table that fits, fits its node
 pub fits-there : (table : List Inputs) (states : List State) (x : ℕ) (s : State) → AllFit table states → slice_get states x ≡ Some s → IfSome (slice_get table x) (λ (p : Inputs). Fits s (length p.each.items))
-fits-there table states x s fit is = by_case (slice_get table x) refl
-  where
-    by_case : (o : Option Inputs) → slice_get table x ≡ o → IfSome o (λ (p : Inputs). Fits s (length p.each.items))
-    by_case None e = _
-    by_case (Some p) e = fit.each x p s e is
+fits-there table states x s fit is = search rules
 
 pub fits-each : (table : List Inputs) (x : ℕ) (s : State) → IfSome (slice_get table x) (λ (p : Inputs). Fits s (length p.each.items)) → (p : Inputs) → slice_get table x ≡ Some p → Fits s (length p.each.items)
 fits-each table x s fits p e = subst (λ o. IfSome o (λ (q : Inputs). Fits s (length q.each.items))) e fits
@@ -153,8 +122,7 @@ pub keeps-from : (a b : Nodes) (x m : ℕ) (s : State) → Keeps (with_state a x
 keeps-from a b x m s k = record { inputs = k.inputs; pull = k.pull; moment = k.moment; fit = k.fit; kind = k.kind; grown = k.grown; at_most = k.at_most }
 
 pub keeps-put : (a b : Nodes) (x m : ℕ) (s : State) → Keeps a b m → ((p : Inputs) → slice_get a.inputs.items x ≡ Some p → Fits s (length p.each.items)) → Keeps a (with_state b x s) m
-keeps-put a b x m s k fits =
-    record { inputs = k.inputs; pull = k.pull; moment = k.moment; fit = fit-set a.inputs.items b.states.items x s k.fit fits; kind = k.kind; grown = k.grown; at_most = k.at_most }
+keeps-put a b x m s k fits = search (rules, fit-set)
 
 -- There is a state of each node of the table.
 pub state-there : (a : Nodes) (x m : ℕ) → CanPull a x m → x < length a.states.items
@@ -186,9 +154,4 @@ pulled-back gives a t u b q r x m before now got out state can turn back = subst
 
 -- A node that holds the same in its place was pulled by its turn.
 pub pulled-still : {S : Type 0} (gives : S → ℕ → Option Packet → S → Type 0) (a b : Nodes) (q r : S) (x : ℕ) (s : State) (got : Option Packet) → slice_get a.states.items x ≡ Some s → HadTurn gives a b q r x s s got → WasPulled gives a b q r x got
-pulled-still gives a b q r x s got state h =
-    record {
-      keeps = h.keeps;
-      answers = h.answers;
-      pulls = pulls-later a a b b x s s s got (still-put a x s state) state h.turn (λ there. (s, h.turn, still-put b x s there));
-    }
+pulled-still gives a b q r x s got state h = search rules

@@ -1,5 +1,5 @@
 -- A node that is being pulled, visit by visit.
-use Rattle.std.proofs.Common.{◌≡◌, ◌≢◌, ◌==◌, ℕ, suc, ◌≤◌, Bool, true, false, if◌then◌else◌, List, [], ◌∷◌, ◌++◌, Option, slice_get, refl, sym, ap, ap₂, ◌∙◌, subst, append-nil, arith}
+use Rattle.std.proofs.Common.{◌≡◌, ◌≢◌, ◌==◌, ℕ, suc, ◌≤◌, Bool, true, false, if◌then◌else◌, List, [], ◌∷◌, ◌++◌, Option, slice_get, refl, sym, ap, ap₂, ◌∙◌, subst, append-nil, arith, rules}
 use Rattle.std.specs.List.{AllByRecursion}
 use Rattle.std.proofs.lemmas.Bool.{false≢true}
 use Rattle.std.proofs.lemmas.List.Concat.{flat_map-append}
@@ -15,7 +15,7 @@ use Rattle.clk_packet.specs.Lists.{In}
 use Rattle.clk_sched.proofs.Lists.Members.{of-all, to-all, all-append, all-weaker, all-flat_map}
 use Rattle.clk_sched.proofs.Runs.Blocks.{flat_map-same}
 use Rattle.clk_sched.proofs.Runs.WithAsked.{absent, IsAbsent}
-use Rattle.clk_sched.proofs.Trees.Below.{LiesAt, lies-within, lies-apart, IsVisitBelow, asked-below}
+use Rattle.clk_sched.proofs.Trees.Below.{LiesAt, lies-within, lies-apart, asked-below}
 use Rattle.clk_sched.proofs.Nodes.Below.{HoldsAt, holds-at, holds_at-same, holds-put, holds-same}
 
 pub pulling-first : (now : Now) (history : History) (x : ℕ) (row : Row) (states : List State) → EachHolds states history (suc x) row → IsPulling now history x row states [] []
@@ -25,17 +25,10 @@ pulling-first now history x row states h = record { made = λ i. []; whole = ref
 pub pulling-absent : (now : Now) (history : History) (x : ℕ) (row : Row) (states : List State) (visits own : List Visit) → IsPulling now history x row states visits own
     → (i : ℕ) → IsUnasked own i → (y : ℕ) → LiesAt (suc x) row i y → visits_of y visits ≡ []
 pulling-absent now history x row states visits own p i unasked y at =
-    absent y visits (subst (IsAbsent y) (sym p.whole) (all-flat_map (λ (v : Visit). v.node ≢ y) (λ v. asked_of p.made v ++ v ∷ []) own (λ v m. all-append _ (asked_of p.made v) (v ∷ []) (below v m v.fresh refl) (here v m, tt))))
+    absent y visits (subst (IsAbsent y) (sym p.whole) (all-flat_map (λ (v : Visit). v.node ≢ y) (λ v. asked_of p.made v ++ v ∷ []) own (λ v m. all-append _ (asked_of p.made v) (v ∷ []) (search (rules, all-weaker, of-all, lies-apart, asked-below)) (here v m, tt))))
   where
     here : (v : Visit) → In v own → v.node ≢ y
     here v m e = let l = (lies-within (suc x) row i y at).0 in let k = (of-all (IsVisitAt now x) v own p.theirs m).node in omega (arith, e, k)
-
-    below : (v : Visit) → In v own → (b : Bool) → v.fresh ≡ b → IsAbsent y (if b then p.made v.input else [])
-    below v m true e =
-        all-weaker (IsVisitBelow now (suc x) row v.input) (λ (u : Visit). u.node ≢ y) (p.made v.input)
-        (λ u k s. of-all (λ (w : Visit). w.input ≢ i) v own unasked m (lies-apart (suc x) row v.input i y (subst (LiesAt (suc x) row v.input) s k.lies) at))
-        (asked-below now history (suc x) row v.input (p.made v.input) v.got (of-all _ v own p.each m e))
-    below v m false e = tt
 
 -- what stands at such an input holds still what it held before the pull
 pub pulling-before : (now : Now) (history : History) (x : ℕ) (row : Row) (states : List State) (visits own : List Visit) → IsPulling now history x row states visits own
@@ -62,7 +55,7 @@ pulling-asks now history x row states visits own p i unasked block got asked mor
       theirs = all-append (IsVisitAt now x) own (v ∷ []) p.theirs (at, tt);
       each = all-append Asked own (v ∷ []) (to-all Asked own (λ u m. λ f. subst (λ b. IsAskedAt now history (suc x) row u.input b u.got) (sym (other u m)) (of-all _ u own p.each m f))) ((λ f. here), tt);
       holds = holds-put states more (after history now.moment visits) (after history now.moment all) (suc x) row i
-          (λ y l k away. record { state = others y away; turns = ap (λ vs. with_turn now.moment vs (history y)) (visits-away y l away) }) p.holds
+          (λ y l k away. record { state = others y away; turns = ap (λ vs. with_turn now.moment vs (history y)) (search (rules, filter-append, absent, all-weaker, asked-below, append-nil, not_own)) }) p.holds
           (holds_at-same more more (after history now.moment block) (after history now.moment all) (suc x) row i
           (λ y lies. record { state = refl; turns = ap (λ vs. with_turn now.moment vs (history y)) (visits-there y lies) }) held);
     }
@@ -94,14 +87,6 @@ pulling-asks now history x row states visits own p i unasked block got asked mor
     not_own : (y : ℕ) → suc x ≤ y → visits_of y (v ∷ []) ≡ []
     not_own y l = absent y (v ∷ []) ((λ e. let k = at.node in omega (arith, e, k)), tt)
 
-    visits-away : (y : ℕ) → suc x ≤ y → (LiesAt (suc x) row i y → ⊥) → visits_of y all ≡ visits_of y visits
-    visits-away y l away =
-        filter-append (of_node y) visits (block ++ v ∷ [])
-        ∙ ap (λ k. visits_of y visits ++ k)
-        (filter-append (of_node y) block (v ∷ [])
-        ∙ ap₂ (λ k m. k ++ m) (absent y block (all-weaker (IsVisitBelow now (suc x) row i) (λ (u : Visit). u.node ≢ y) block (λ u k s. away (subst (LiesAt (suc x) row i) s k.lies)) (asked-below now history (suc x) row i block got asked))) (not_own y l))
-        ∙ append-nil (visits_of y visits)
-
     visits-there : (y : ℕ) → LiesAt (suc x) row i y → visits_of y all ≡ visits_of y block
     visits-there y lies =
         filter-append (of_node y) visits (block ++ v ∷ [])
@@ -110,31 +95,17 @@ pulling-asks now history x row states visits own p i unasked block got asked mor
 -- A visit that didn't ask is logged.
 pub pulling-looks : (now : Now) (history : History) (x : ℕ) (row : Row) (states : List State) (visits own : List Visit) → IsPulling now history x row states visits own
     → (v : Visit) → IsVisitAt now x v → v.fresh ≡ false → IsPulling now history x row states (visits ++ v ∷ []) (own ++ v ∷ [])
-pulling-looks now history x row states visits own p v at fresh =
-    record {
-      made = p.made;
-      whole = ap₂ (λ l k. l ++ k) p.whole (sym (append-nil (asked_of p.made v ++ v ∷ []) ∙ ap (λ b. (if b then p.made v.input else []) ++ v ∷ []) fresh)) ∙ sym (flat_map-append (λ u. asked_of p.made u ++ u ∷ []) own (v ∷ []));
-      theirs = all-append (IsVisitAt now x) own (v ∷ []) p.theirs (at, tt);
-      each = all-append (λ (u : Visit). u.fresh ≡ true → IsAskedAt now history (suc x) row u.input (p.made u.input) u.got) own (v ∷ []) p.each ((λ f. absurd (false≢true (sym fresh ∙ f))), tt);
-      holds = holds-same states states (after history now.moment visits) (after history now.moment (visits ++ v ∷ [])) (suc x) row
-          (λ y l k. record {
-            state = refl;
-            turns = ap (λ vs. with_turn now.moment vs (history y)) (filter-append (of_node y) visits (v ∷ []) ∙ ap (λ m. visits_of y visits ++ m) (absent y (v ∷ []) ((λ e. let n = at.node in omega (arith, e, n)), tt)) ∙ append-nil (visits_of y visits));
-          }) p.holds;
-    }
+pulling-looks now history x row states visits own p v at fresh = search (rules, append-nil, flat_map-append, all-append, false≢true, holds-same, filter-append, absent)
 
 -- of the node itself are its own visits
 pub pulling-own : (now : Now) (history : History) (x : ℕ) (row : Row) (states : List State) (visits own : List Visit) → IsPulling now history x row states visits own → visits_of x visits ≡ own
 pulling-own now history x row states visits own p = ap (visits_of x) p.whole ∙ parts own p.theirs p.each
   where
     below : (v : Visit) → (IsAskedAt now history (suc x) row v.input (p.made v.input) v.got) → visits_of x (p.made v.input) ≡ []
-    below v h =
-        absent x (p.made v.input)
-        (all-weaker (IsVisitBelow now (suc x) row v.input) (λ (u : Visit). u.node ≢ x) (p.made v.input) (λ u k e. let l = (lies-within (suc x) row v.input u.node k.lies).0 in omega (arith, e)) (asked-below now history (suc x) row v.input (p.made v.input) v.got h))
+    below v h = search (rules, absent, all-weaker, lies-within, asked-below)
 
     asked : (v : Visit) → (b : Bool) → v.fresh ≡ b → (v.fresh ≡ true → IsAskedAt now history (suc x) row v.input (p.made v.input) v.got) → visits_of x (if b then p.made v.input else []) ≡ []
-    asked v true e h = below v (h e)
-    asked v false e h = refl
+    asked v b e h = search (rules, below)
 
     self : (v : Visit) → v.node ≡ x → visits_of x (v ∷ []) ≡ v ∷ []
     self v e = ap (λ b. if b then v ∷ [] else []) (equal v.node x e)

@@ -1,5 +1,7 @@
 -- Runs, pull by pull: what a tree does in one pull, after those before it.
-use Rattle.std.proofs.Common.{◌≡◌, ℕ, suc, ◌+◌, ◌<◌, Bool, true, List, [], ◌∷◌, ◌++◌, map, Option, Some, None, MatchOption, refl, reverse, append_assoc, append-nil, ap, ◌∙◌, sym, subst}
+use Rattle.std.proofs.lemmas.Bool.Decides.{nat_tests}
+use Rattle.std.proofs.lemmas.Grind.{common_steps, elements}
+use Rattle.std.proofs.Common.{◌≡◌, ℕ, suc, ◌+◌, ◌<◌, Bool, true, List, [], ◌∷◌, ◌++◌, map, refl, reverse, append_assoc, append-nil, ap, ◌∙◌, sym, subst, rules, arith}
 use Rattle.std.specs.List.{AllByRecursion, list_any}
 use Rattle.std.specs.Bool.{⊤}
 use Rattle.std.proofs.lemmas.List.{reverse-append}
@@ -7,7 +9,7 @@ use Rattle.clk_packet.specs.declared.packet.Packet.{Packet}
 use Rattle.clk_sched.specs.declared.visit.Visit.{Visit}
 use Rattle.clk_packet.specs.Scheduler.{Scheduler}
 use Rattle.clk_sched.specs.Tree.{Row, end, leaf, node, nodes, width}
-use Rattle.clk_sched.specs.Turns.{Turn, EachAfter, all_visits, visits_before, IsPlain, UpToFirst, AsksInOrder}
+use Rattle.clk_sched.specs.Turns.{Turn, EachAfter, all_visits, visits_before, IsPlain, AsksInOrder}
 use Rattle.clk_sched.specs.Heads.{LooksAtHeads}
 use Rattle.clk_sched.specs.Log.{visits_of, turn, asks, pulls_below}
 use Rattle.clk_sched.specs.Laws.{with_heads, manner, Follows, AllowsTurn, Obeys}
@@ -55,8 +57,7 @@ pub each-allowed : (above first next : ℕ) (row : Row) (pulled : List (List Vis
 each-allowed above first next end pulled h = each-from_all (λ p. ⊤) [] pulled (all pulled)
   where
     all : (ps : List (List Visit)) → AllByRecursion (λ (p : List Visit). ⊤) ps
-    all [] = tt
-    all (p ∷ ps) = (tt, all ps)
+    all ps = grind (arith, common_steps, elements, nat_tests, each-from_all, each-weaker, each-both, each-filtered, each-mapped)
 each-allowed above first next (leaf q row) pulled h = each-allowed above (suc first) next row pulled h
 each-allowed above first next (node class inputs row) pulled h =
     each-weaker _ (EachAllows above first next (node class inputs row)) (λ e p both. (λ asked. (both.0.0 asked, both.0.1 asked), both.1.0, both.1.1)) [] pulled
@@ -88,10 +89,4 @@ pub record IsOneVisit (visits : List Visit) : Type 0 where
   pub input : visit.input ≡ 0
 
 pub device-visit : (visits : List Visit) → AsksInOrder (0 ∷ []) visits → IsOneVisit visits
-device-visit [] h = absurd h.in_order
-device-visit (v ∷ visits) h = record { visit = v; only = ap (λ us. v ∷ us) (none v.got visits h.in_order.1); plain = h.plain.0; input = h.in_order.0 }
-  where
-    none : (o : Option Packet) (us : List Visit) → MatchOption o (UpToFirst [] us) (λ _. us ≡ []) → us ≡ []
-    none o [] k = refl
-    none None (u ∷ us) k = absurd k
-    none (Some p) (u ∷ us) k = k
+device-visit visits h = search rules

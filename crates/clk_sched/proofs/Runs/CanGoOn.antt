@@ -1,14 +1,13 @@
 -- A run can go on at each moment that is no earlier than its last, whatever the queues answer.
-use Rattle.std.proofs.Common.{◌≡◌, ℕ, ◌+◌, ◌<◌, ◌≤◌, true, inl, List, [], ◌∷◌, ◌++◌, length, map, reverse, Option, Some, None, MatchOption, refl, sym, ap, ◌∙◌, subst, arith}
+use Rattle.std.proofs.lemmas.Grind.{common_steps}
+use Rattle.std.proofs.Common.{◌≡◌, ℕ, ◌+◌, ◌<◌, ◌≤◌, true, inl, List, [], ◌∷◌, ◌++◌, length, map, reverse, refl, sym, ap, ◌∙◌, subst, arith, rules}
 use Rattle.std.specs.List.{flat_map, AllByRecursion}
-use Rattle.std.specs.Bool.{⊤}
 use Rattle.std.proofs.lemmas.List.{map-append}
-use Rattle.clk_packet.specs.declared.packet.Packet.{Packet}
 use Rattle.clk_sched.specs.declared.visit.Visit.{Visit}
 use Rattle.clk_sched.specs.Tree.{Tree, root, nodes}
 use Rattle.clk_sched.specs.Turns.{AsksInOrder}
 use Rattle.clk_sched.specs.Log.{visits_of, pulls, block_at, moment_of, NeverFalls, asking}
-use Rattle.clk_sched.specs.inside.Pulling.{AreApart, input_of, asked_of, with_asked}
+use Rattle.clk_sched.specs.inside.Pulling.{with_asked}
 use Rattle.clk_sched.specs.Step.{EachAllows, IsPullWith, CanGoOn}
 use Rattle.clk_packet.specs.Lists.{In}
 use Rattle.clk_sched.proofs.Lists.Members.{of-all, all-weaker}
@@ -30,7 +29,7 @@ pull-made g log number moments offer =
         whole = sym (ap (flat_map (asked pull 1 (root g.tree))) only ∙ ap (λ l. (l ++ device ∷ []) ++ []) (holds.1 device (subst (In device) (sym only) (inl refl)) refl));
         one_moment = all-weaker (IsVisitOf g) (λ (v : Visit). v.moment ≡ moment_of pull) pull (λ v h. h.moment ∙ sym at_moment) all;
         moments = subst (NeverFalls 0) (sym (map-append moment_of (pulls log) (pull ∷ []) ∙ ap (λ m. map moment_of (pulls log) ++ m ∷ []) at_moment)) moments;
-        device = subst (AsksInOrder (0 ∷ [])) (sym only) (record { plain = (record { fresh = refl; passed = refl }, tt); in_order = (refl, by_got (offer.gives 0)) });
+        device = subst (AsksInOrder (0 ∷ [])) (sym only) (record { plain = (record { fresh = refl; passed = refl }, tt); in_order = (refl, (search rules)) });
         below = holds.0;
       };
       at_moment = at_moment;
@@ -52,32 +51,14 @@ pull-made g log number moments offer =
     all : AllByRecursion (IsVisitOf g) pull
     all = with_asked-all (IsVisitOf g) offer.made (device ∷ []) offer.visits (record { number = refl; moment = refl; answered = λ f. offer.answered 0 (omega arith) }, tt)
 
-    first-moment : (visits : List Visit) → visits_of 0 visits ≡ device ∷ [] → AllByRecursion (IsVisitOf g) visits → moment_of visits ≡ g.moment
-    first-moment [] e h = absurd (omega (arith, ap length e))
-    first-moment (v ∷ visits) e h = h.0.moment
-
     at_moment : moment_of pull ≡ g.moment
-    at_moment = first-moment pull only all
+    at_moment = search (rules, common_steps)
 
     is_asked : IsAsked g 0 0 1 (1 + nodes (root g.tree)) offer.made offer.gives pull
-    is_asked =
-        record {
-          moment = at_moment;
-          apart = subst (AreApart input_of) (sym only) (tt, tt);
-          got = λ v m f l. of-all (λ (u : Visit). u.got ≡ offer.gives u.input) v (device ∷ []) (refl, tt) (subst (In v) only m);
-          owns = λ y l k.
-              with_asked-other 0 y offer.made (device ∷ []) (λ e. omega (arith, e, l)) (refl, tt) ∙ ap (flat_map (λ (v : Visit). visits_of y (asked_of offer.made v))) (sym only);
-        }
+    is_asked = grind (arith, common_steps, of-all, with_asked-other, at_moment, only, device)
 
     holds : EachAllows 0 0 1 (root g.tree) (reverse (pulls log)) pull × ((v : Visit) → In v (visits_of 0 pull) → v.fresh ≡ true → block_at pull 0 1 (root g.tree) v.input ≡ offer.made v.input)
     holds = offer.holds pull is_asked
-
-    none : List Visit
-    none = []
-
-    by_got : (o : Option Packet) → MatchOption o ⊤ (λ _. none ≡ none)
-    by_got None = tt
-    by_got (Some p) = refl
 
 pub can-go_on : (tree : Tree) → CanGoOn tree
 can-go_on tree formed log moment answer run moments = pull-made g log refl moments (make g (root tree) 0 0 1 (reverse (pulls log)) formed (stands-root tree) were)

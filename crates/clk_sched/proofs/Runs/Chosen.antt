@@ -1,8 +1,7 @@
 -- Whatever is given at its inputs, a scheduler has visits that its law allows, at most one to each input.
-use Rattle.std.proofs.Common.{◌≡◌, ◌≢◌, ℕ, zero, suc, ◌+◌, ◌%◌, ◌<◌, ◌≤◌, if◌then◌else◌, Bool, true, false, not, List, [], ◌∷◌, reverse, Option, Some, None, is_some, MatchOption, MatchBool, refl, sym, subst, mod-lt, arith}
+use Rattle.std.proofs.Common.{◌≡◌, ℕ, zero, suc, ◌+◌, ◌%◌, ◌<◌, ◌≤◌, if◌then◌else◌, Bool, true, false, not, List, [], ◌∷◌, reverse, Option, is_some, refl, sym, subst, arith, rules}
 use Rattle.std.specs.Option.{option_or}
 use Rattle.std.specs.List.{AllByRecursion}
-use Rattle.std.specs.Bool.{⊤}
 use Rattle.std.proofs.lemmas.Bool.{false≢true}
 use Rattle.clk_packet.specs.declared.packet.Packet.{Packet}
 use Rattle.clk_sched.specs.declared.visit.Visit.{Visit}
@@ -51,28 +50,15 @@ walk a (i ∷ order) = ask a i ∷ (if is_some (a.gives i) then [] else walk a o
 
 walk-up_to : (a : Asker) (order : List ℕ) → UpToFirst order (walk a order)
 walk-up_to a [] = tt
-walk-up_to a (i ∷ order) = (refl, by_got (a.gives i) (walk-up_to a order))
-  where
-    by_got : (o : Option Packet) → UpToFirst order (walk a order)
-        → MatchOption o (UpToFirst order (if is_some o then [] else walk a order)) (λ _. (if is_some o then [] else walk a order) ≡ [])
-    by_got None h = h
-    by_got (Some p) h = refl
+walk-up_to a (i ∷ order) = search (rules, (walk-up_to a order))
 
 walk-all : (a : Asker) (P : Visit → Type 0) (order : List ℕ) → AllByRecursion (λ i. P (ask a i)) order → AllByRecursion P (walk a order)
 walk-all a P [] h = tt
-walk-all a P (i ∷ order) h = (h.0, by_got (is_some (a.gives i)) (walk-all a P order h.1))
-  where
-    by_got : (b : Bool) → AllByRecursion P (walk a order) → AllByRecursion P (if b then [] else walk a order)
-    by_got true rest = tt
-    by_got false rest = rest
+walk-all a P (i ∷ order) h = search (rules, (walk-all a P order h.1))
 
 walk-apart : (a : Asker) (order : List ℕ) → AreApart (λ (i : ℕ). i) order → AreApart input_of (walk a order)
 walk-apart a [] h = tt
-walk-apart a (i ∷ order) h = by_got (is_some (a.gives i)) (walk-all a (λ v. input_of v ≢ i) order h.0) (walk-apart a order h.1)
-  where
-    by_got : (b : Bool) → AllByRecursion (λ v. input_of v ≢ i) (walk a order) → AreApart input_of (walk a order) → AreApart input_of (ask a i ∷ (if b then [] else walk a order))
-    by_got true d rest = (tt, tt)
-    by_got false d rest = (d, rest)
+walk-apart a (i ∷ order) h = search (rules, walk-all, (walk-apart a order h.1))
 
 in-order : (a : Asker) (class : Scheduler) (inputs : ℕ) (earlier : List Turn) (order : List ℕ) → IsOrderOf inputs order
     → (AsksInOrder order (walk a order) → Follows (manner class inputs) inputs earlier (as_turn a.moment (walk a order))) → HasChosen a class inputs earlier
@@ -108,43 +94,15 @@ looks a turn_of covers (suc left) earlier =
 
 looks-law : (a : Asker) (turn_of : List Visit → ℕ) (covers : List Visit → ℕ → Packet → Bool) (left : ℕ) (earlier : List Visit) → EachAfter (LooksAtHeads turn_of covers) earlier (looks a turn_of covers left earlier)
 looks-law a turn_of covers zero earlier = tt
-looks-law a turn_of covers (suc left) earlier = (
-  record { in_turn = refl; fresh = refl; looks = by_head (head_at (turn_of earlier) earlier) (a.gives (turn_of earlier)); passes = refl },
-  by_passed (look a turn_of covers earlier).passed (looks a turn_of covers left (look a turn_of covers earlier ∷ earlier)) (looks-law a turn_of covers left (look a turn_of covers earlier ∷ earlier)),
-)
-  where
-    by_head : (o given : Option Packet) → MatchOption o ⊤ (λ p. option_or o given ≡ Some p)
-    by_head None given = tt
-    by_head (Some p) given = refl
-
-    by_passed : (b : Bool) (later : List Visit) → EachAfter (LooksAtHeads turn_of covers) (look a turn_of covers earlier ∷ earlier) later
-        → EachAfter (LooksAtHeads turn_of covers) (look a turn_of covers earlier ∷ earlier) (if b then [] else later)
-    by_passed true later h = tt
-    by_passed false later h = h
+looks-law a turn_of covers (suc left) earlier = search (rules, (looks-law a turn_of covers left (look a turn_of covers earlier ∷ earlier)))
 
 looks-end : (a : Asker) (turn_of : List Visit → ℕ) (covers : List Visit → ℕ → Packet → Bool) (left : ℕ) (earlier : List Visit) → EndAtPass left (looks a turn_of covers left earlier)
 looks-end a turn_of covers zero earlier = refl
-looks-end a turn_of covers (suc left) earlier =
-    by_passed (look a turn_of covers earlier).passed (looks a turn_of covers left (look a turn_of covers earlier ∷ earlier)) (looks-end a turn_of covers left (look a turn_of covers earlier ∷ earlier))
-  where
-    by_passed : (b : Bool) (later : List Visit) → EndAtPass left later → MatchBool b ((if b then [] else later) ≡ []) (EndAtPass left (if b then [] else later))
-    by_passed true later h = refl
-    by_passed false later h = h
+looks-end a turn_of covers (suc left) earlier = search (rules, (looks-end a turn_of covers left (look a turn_of covers earlier ∷ earlier)))
 
 looks-by : (a : Asker) (turn_of : List Visit → ℕ) (covers : List Visit → ℕ → Packet → Bool) (left : ℕ) (earlier : List Visit) → AllByRecursion (IsVisitBy a) (looks a turn_of covers left earlier)
 looks-by a turn_of covers zero earlier = tt
-looks-by a turn_of covers (suc left) earlier = (
-  record { node = refl; number = refl; moment = refl; got = by_head (head_at (turn_of earlier) earlier) (a.gives (turn_of earlier)) },
-  by_passed (look a turn_of covers earlier).passed (looks a turn_of covers left (look a turn_of covers earlier ∷ earlier)) (looks-by a turn_of covers left (look a turn_of covers earlier ∷ earlier)),
-)
-  where
-    by_head : (o given : Option Packet) → not (is_some o) ≡ true → option_or o given ≡ given
-    by_head None given f = refl
-    by_head (Some p) given f = absurd (false≢true f)
-
-    by_passed : (b : Bool) (later : List Visit) → AllByRecursion (IsVisitBy a) later → AllByRecursion (IsVisitBy a) (if b then [] else later)
-    by_passed true later h = tt
-    by_passed false later h = h
+looks-by a turn_of covers (suc left) earlier = search (rules, false≢true, (looks-by a turn_of covers left (look a turn_of covers earlier ∷ earlier)))
 
 -- the visits of a DRRSched go around its inputs
 looks-around : (a : Asker) (covers : List Visit → ℕ → Packet → Bool) (n s left j : ℕ) (earlier : List Visit) → s < n → j + left ≤ n → IsPlace n s j (next_input n earlier)
@@ -162,20 +120,10 @@ looks-around a covers n s (suc left) j earlier l m h =
 
     by_passed : (b : Bool) (later : List Visit) → (v.passed ≡ false → AllByRecursion (λ w. IsBeyond n s (j + 1) (input_of w)) later × AreApart input_of later) → v.passed ≡ b
         → AllByRecursion (λ w. IsBeyond n s j (input_of w)) (v ∷ (if b then [] else later)) × AreApart input_of (v ∷ (if b then [] else later))
-    by_passed true later rest e = ((here, tt), (tt, tt))
-    by_passed false later rest e =
-        let r = rest e in (
-          (here, all-weaker (λ w. IsBeyond n s (j + 1) (input_of w)) (λ w. IsBeyond n s j (input_of w)) later (λ w b. beyond-lower n s j w.input b) r.0),
-          (all-weaker (λ w. IsBeyond n s (j + 1) (input_of w)) (λ w. input_of w ≢ v.input) later (λ w b. beyond-differs n s j v.input w.input (omega arith) h b) r.0, r.1),
-        )
+    by_passed b later rest e = search (rules, all-weaker, beyond-lower, beyond-differs, here, v)
 
 next-below : (inputs : ℕ) (earlier : List Visit) → 1 ≤ inputs → AreWithin inputs earlier → next_input inputs earlier < inputs
-next-below inputs [] l h = omega arith
-next-below inputs (v ∷ earlier) l h = by_passed v.passed
-  where
-    by_passed : (b : Bool) → (if b then v.input else (v.input + 1) % inputs) < inputs
-    by_passed true = h.0
-    by_passed false = mod-lt (v.input + 1) l
+next-below inputs earlier l h = search rules
 
 before-within : (inputs : ℕ) (earlier : List Turn) → AllByRecursion (λ (t : Turn). AreWithin inputs t.visits) earlier → AreWithin inputs (visits_before earlier)
 before-within inputs [] h = tt

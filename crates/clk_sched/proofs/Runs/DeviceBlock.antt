@@ -1,12 +1,12 @@
 -- The block of the device, once it is a pull of its own, may follow the run after which it was made.
-use Rattle.std.proofs.Common.{◌≡◌, ◌≢◌, ◌==◌, ℕ, zero, suc, ◌+◌, ◌<◌, ◌≤◌, Bool, true, false, if◌then◌else◌, List, [], ◌∷◌, ◌++◌, length, map, reverse, filter, Option, refl, sym, ap, ap₂, ◌∙◌, subst, append-nil, arith}
-use Rattle.std.specs.List.{flat_map, AllByRecursion, list_any}
+use Rattle.std.proofs.Common.{◌≡◌, ◌==◌, ℕ, zero, suc, ◌+◌, ◌<◌, ◌≤◌, true, if◌then◌else◌, List, [], ◌∷◌, ◌++◌, length, map, reverse, filter, Option, refl, sym, ap, ap₂, ◌∙◌, subst, append-nil, arith, rules}
+use Rattle.std.specs.List.{flat_map, AllByRecursion}
 use Rattle.std.proofs.lemmas.List.{map-append}
 use Rattle.std.proofs.lemmas.List.Elements.{filter-append}
 use Rattle.clk_packet.specs.declared.packet.Packet.{Packet}
 use Rattle.clk_sched.specs.declared.visit.Visit.{Visit}
 use Rattle.clk_packet.specs.Scheduler.{Scheduler, prio}
-use Rattle.clk_sched.specs.Tree.{Row, end, leaf, node, Tree, queue, scheduler, root, nodes, width}
+use Rattle.clk_sched.specs.Tree.{Row, end, leaf, node, Tree, root, nodes, width}
 use Rattle.clk_sched.specs.Turns.{AsksInOrder}
 use Rattle.clk_sched.specs.Log.{visits_of, pulls, block_at, moment_of, NeverFalls, turn, asks, pulls_below, result_of}
 use Rattle.clk_sched.specs.Laws.{AllowsTurn}
@@ -31,14 +31,7 @@ use Rattle.clk_sched.proofs.Classes.Table.{allows-busy}
 -- what a visit asked has no visits of a node that doesn't lie there
 asked-absent : (now : Now) (history : History) (next : ℕ) (row : Row) (made : ℕ → List Visit) (v : Visit) (y : ℕ) → (v.fresh ≡ true → IsAskedAt now history next row v.input (made v.input) v.got)
     → (LiesAt next row v.input y → ⊥) → visits_of y (asked_of made v) ≡ []
-asked-absent now history next row made v y h away = by_fresh v.fresh refl
-  where
-    by_fresh : (b : Bool) → v.fresh ≡ b → visits_of y (if b then made v.input else []) ≡ []
-    by_fresh true f =
-        absent y (made v.input)
-        (all-weaker (IsVisitBelow now next row v.input) (λ (u : Visit). u.node ≢ y) (made v.input) (λ u k e. away (subst (LiesAt next row v.input) e k.lies))
-        (asked-below now history next row v.input (made v.input) v.got (h f)))
-    by_fresh false f = refl
+asked-absent now history next row made v y h away = search (rules, absent, all-weaker, asked-below)
 
 -- A pull has the block of node x: the visits of the node, and of those below it, are those of the block.
 record HasBlock (now : Now) (history : History) (x : ℕ) (class : Scheduler) (row : Row) (visits : List Visit) (got : Option Packet) (pull : List Visit) : Type 0 where
@@ -120,12 +113,8 @@ made-after_node now history above first next class inputs row made pull h =
 block-whole : (now : Now) (history : History) (x : ℕ) (class : Scheduler) (row : Row) (visits : List Visit) (got : Option Packet) (pull : List Visit) → (h : HasBlock now history x class row visits got pull)
     → ((v : Visit) → In v (visits_of x pull) → v.fresh ≡ true → block_at pull 0 (suc x) row v.input ≡ h.block.made v.input) → flat_map (asked pull (suc x) row) (visits_of x pull) ≡ visits
 block-whole now history x class row visits got pull h below =
-    flat_map-same (asked pull (suc x) row) (λ v. asked_of h.block.made v ++ v ∷ []) (visits_of x pull) (λ v m. ap (λ l. l ++ v ∷ []) (by_fresh v m v.fresh refl))
+    flat_map-same (asked pull (suc x) row) (λ v. asked_of h.block.made v ++ v ∷ []) (visits_of x pull) (λ v m. ap (λ l. l ++ v ∷ []) (search rules))
     ∙ ap (with_asked h.block.made) (block-own now history x class row visits got pull h) ∙ sym h.block.whole
-  where
-    by_fresh : (v : Visit) → In v (visits_of x pull) → (b : Bool) → v.fresh ≡ b → (if b then block_at pull 0 (suc x) row v.input else []) ≡ (if b then h.block.made v.input else [])
-    by_fresh v m true f = below v m f
-    by_fresh v m false f = refl
 
 -- what was made at an input is the block there
 made-whole : (row : Row) (now : Now) (history : History) (above first next : ℕ) (made : ℕ → List Visit) (pull : List Visit) → IsMadeIn now history above first next row made pull
@@ -133,17 +122,13 @@ made-whole : (row : Row) (now : Now) (history : History) (above first next : ℕ
 made-whole end now history above first next made pull h i v m f e = absurd (h.asked i v m f e)
 made-whole (leaf q row) now history above first next made pull h zero v m f e =
     ap (λ b. if b then [] else block_at pull (suc first) next row v.input) (equal first v.input (omega (arith, e))) ∙ sym (h.asked 0 v m f e)
-made-whole (leaf q row) now history above first next made pull h (suc i) v m f e =
-    ap (λ b. if b then [] else block_at pull (suc first) next row v.input) (differs first v.input (λ d. omega (arith, d, e)))
-    ∙ made-whole row now history above (suc first) next made pull (made-after_leaf now history above first next q row made pull h) i v m f (omega (arith, e))
+made-whole (leaf q row) now history above first next made pull h (suc i) v m f e = search (rules, differs, made-after_leaf, (made-whole row now history above (suc first) next made pull (made-after_leaf now history above first next q row made pull h) i v m f (omega (arith, e))))
 made-whole (node class inputs row) now history above first next made pull h zero v m f e =
     let k = made-block now history above first next class inputs row made pull h v m f (omega (arith, e)) in
     ap (λ b. if b then flat_map (asked pull (suc next) inputs) (visits_of next pull) else block_at pull (suc first) (suc (next + nodes inputs)) row v.input) (equal first v.input (omega (arith, e)))
     ∙ block-whole now history next class inputs (made v.input) v.got pull k
     (λ u n g. made-whole inputs now history next 0 (suc next) k.block.made pull (block-made now history next class inputs (made v.input) v.got pull k) u.input u n g (omega arith))
-made-whole (node class inputs row) now history above first next made pull h (suc i) v m f e =
-    ap (λ b. if b then flat_map (asked pull (suc next) inputs) (visits_of next pull) else block_at pull (suc first) (suc (next + nodes inputs)) row v.input) (differs first v.input (λ d. omega (arith, d, e)))
-    ∙ made-whole row now history above (suc first) (suc (next + nodes inputs)) made pull (made-after_node now history above first next class inputs row made pull h) i v m f (omega (arith, e))
+made-whole (node class inputs row) now history above first next made pull h (suc i) v m f e = search (rules, differs, made-after_node, (made-whole row now history above (suc first) (suc (next + nodes inputs)) made pull (made-after_node now history above first next class inputs row made pull h) i v m f (omega (arith, e))))
 
 -- Earlier pulls, in which node `above` is pulled: in them the nodes of a row have their visits, and the turns of a history.
 pub record ArePast (history : History) (above first next : ℕ) (row : Row) (earlier : List (List Visit)) : Type 0 where
@@ -156,11 +141,7 @@ past-after_leaf history above first next q row earlier h = record { owns = λ y 
 
 pub past-after_node : (history : History) (above first next : ℕ) (class : Scheduler) (inputs row : Row) (earlier : List (List Visit)) → ArePast history above first next (node class inputs row) earlier
     → ArePast history above (suc first) (suc (next + nodes inputs)) row earlier
-past-after_node history above first next class inputs row earlier h =
-    record {
-      owns = λ y l k p m. owns-after_node y p above first next class inputs row l (h.owns y (omega arith) (omega arith) p m);
-      turns = λ y l k. h.turns y (omega arith) (omega arith);
-    }
+past-after_node history above first next class inputs row earlier h = search (rules, owns-after_node)
 
 -- of a scheduler at the first input, and of those below it, in the pulls in which it is asked
 pub record IsPast (history : History) (above first next : ℕ) (inputs : Row) (earlier : List (List Visit)) : Type 0 where
@@ -169,26 +150,7 @@ pub record IsPast (history : History) (above first next : ℕ) (inputs : Row) (e
 
 pub past-inputs : (history : History) (above first next : ℕ) (class : Scheduler) (inputs row : Row) (earlier : List (List Visit)) → ArePast history above first next (node class inputs row) earlier
     → IsPast history above first next inputs earlier
-past-inputs history above first next class inputs row earlier h =
-    record {
-      here = h.turns next (omega arith) (omega arith) ∙ busy-filtered asked_here next earlier self_none;
-      below = record {
-        owns = λ y l k p m. own y p l (omega arith) (in-filter asked_here p earlier m).0;
-        turns = λ y l k. h.turns y (omega arith) (omega arith) ∙ busy-filtered asked_here y earlier (λ p m e. own y p l (omega arith) m ∙ ap (flat_map _) (self_none p m e));
-      };
-    }
-  where
-    asked_here : List Visit → Bool
-    asked_here p = list_any (asks first) (visits_of above p)
-
-    self : (p : List Visit) → In p earlier → Owns next p above first next (node class inputs row)
-    self p m = h.owns next (omega arith) (omega arith) p m
-
-    self_none : (p : List Visit) → In p earlier → asked_here p ≡ false → visits_of next p ≡ []
-    self_none p m e = owns-self p above first next class inputs row (self p m) ∙ copies-unasked (asks first) (visits_of next p) (visits_of above p) e
-
-    own : (y : ℕ) (p : List Visit) → suc next ≤ y → y < suc (next + nodes inputs) → In p earlier → Owns y p next 0 (suc next) inputs
-    own y p l k m = owns-inputs y p above first next class inputs row l k (self p m) (h.owns y (omega arith) (omega arith) p m)
+past-inputs history above first next class inputs row earlier h = search (rules, busy-filtered, in-filter, owns-self, copies-unasked, owns-inputs)
 
 -- each scheduler of a row that is asked has an allowed turn, and what was got from it is its result
 each-allows : (row : Row) (now : Now) (history : History) (above first next : ℕ) (earlier : List (List Visit)) (made : ℕ → List Visit) (pull : List Visit) → ArePast history above first next row earlier
@@ -270,15 +232,13 @@ next-pull tree log pull now got run number moments b =
     made = block-made now history 0 prio (root tree) pull got pull has
 
     one_input : (t : Tree) → width (root t) ≡ 1
-    one_input (queue q) = refl
-    one_input (scheduler class inputs) = refl
+    one_input t = search rules
 
     device : AsksInOrder (0 ∷ []) (visits_of 0 pull)
     device = subst (AsksInOrder (0 ∷ [])) (sym own) (subst (λ n. AsksInOrder (priority_order n) b.own) (one_input tree) b.allowed.follows)
 
     first-moment : (visits : List Visit) → IsOneVisit (visits_of 0 visits) → AllByRecursion (IsVisitBelow now 0 whole_row 0) visits → moment_of visits ≡ now.moment
-    first-moment [] one h = absurd (omega (arith, ap length one.only))
-    first-moment (v ∷ visits) one h = h.0.moment
+    first-moment visits one h = search rules
 
     at_moment : moment_of pull ≡ now.moment
     at_moment = first-moment pull (device-visit (visits_of 0 pull) device) all

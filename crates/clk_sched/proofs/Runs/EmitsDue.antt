@@ -1,19 +1,16 @@
 -- No pull emits a packet at a moment at which it could emit none.
-use Rattle.std.proofs.Common.{◌≡◌, ℕ, zero, suc, ◌+◌, ◌<◌, ◌≤◌, ◌==◌, ◌&&◌, ◌||◌, Bool, true, false, not, List, [], ◌∷◌, map, reverse, Option, Some, None, is_some, MatchOption, refl, sym, ap, ap₂, ◌∙◌, subst, arith, if◌then◌else◌}
-use Rattle.std.specs.Bool.{⊤}
+use Rattle.std.proofs.Common.{◌≡◌, ℕ, zero, suc, ◌+◌, ◌<◌, ◌≤◌, ◌==◌, ◌&&◌, ◌||◌, Bool, true, false, not, List, [], ◌∷◌, map, reverse, None, is_some, refl, ap, ap₂, ◌∙◌, arith, if◌then◌else◌, rules}
 use Rattle.std.specs.List.{AllByRecursion, list_any, range_with_len}
-use Rattle.std.proofs.lemmas.Bool.{false≢true}
 use Rattle.std.proofs.lemmas.Bool.Decides.{nat_tests}
 use Rattle.clk_packet.specs.declared.packet.Packet.{Packet}
 use Rattle.clk_packet.specs.Lists.{In}
 use Rattle.clk_sched.specs.declared.visit.Visit.{Visit}
-use Rattle.clk_packet.specs.Scheduler.{Scheduler, shaper}
-use Rattle.clk_sched.specs.Tree.{Row, end, leaf, node, Tree, root, nodes, width, queue_at}
-use Rattle.clk_sched.specs.Turns.{Turn, EachAfter, UpToFirst, IsPlain, AsksInOrder, visits_before}
+use Rattle.clk_packet.specs.Scheduler.{Scheduler}
+use Rattle.clk_sched.specs.Tree.{Row, end, leaf, node, Tree, root, nodes, width}
+use Rattle.clk_sched.specs.Turns.{Turn, EachAfter, IsPlain, visits_before}
 use Rattle.clk_sched.specs.Heads.{head_at, is_covered, LooksAtHeads}
 use Rattle.clk_sched.specs.Laws.{Manner, in_order, with_heads, manner, Follows, AllowsTurn}
 use Rattle.clk_sched.specs.Log.{visits_of, pulls, moment_of, turn, asks, pulls_below, result_of}
-use Rattle.clk_sched.specs.Answers.{tree_queue}
 use Rattle.clk_sched.specs.Step.{EachAllows, IsOnePullLess}
 use Rattle.clk_sched.specs.Due.{turns_in, lets_through, holds_head, could_emit, GetsFromBacklogged, EmitsOnceDue}
 use Rattle.clk_sched.specs.inside.Pulling.{History}
@@ -29,12 +26,10 @@ use Rattle.clk_sched.proofs.Runs.DeviceBlock.{ArePast, IsPast, past-after_leaf, 
 
 -- Turns without visits change nothing.
 lets-busy : (class : Scheduler) (turns : List Turn) (moment : ℕ) → lets_through class (busy turns) moment ≡ lets_through class turns moment
-lets-busy (shaper rate burst) turns moment = busy-room rate burst moment [] turns
-lets-busy class turns moment = refl
+lets-busy class turns moment = search (rules, busy-room)
 
 heads-busy : (m : Manner) (inputs : ℕ) (turns : List Turn) → holds_head m inputs (busy turns) ≡ holds_head m inputs turns
-heads-busy (in_order order) inputs turns = refl
-heads-busy (with_heads turn_of covers) inputs turns = ap (λ before. list_any (λ i. is_some (head_at i before)) (range_with_len 0 inputs)) (busy-visits turns)
+heads-busy m inputs turns = search (rules, busy-visits)
 
 pub could-busy : (history turns : History) (backlogged : ℕ → Bool) (moment next : ℕ) (row : Row) → ((x : ℕ) → history x ≡ busy (turns x)) → could_emit history backlogged moment next row ≡ could_emit turns backlogged moment next row
 could-busy history turns backlogged moment next end e = refl
@@ -48,8 +43,7 @@ could-busy history turns backlogged moment next (node class inputs row) e =
 
 -- neither of two is true
 neither : (a b : Bool) → (a || b) ≡ false → (a ≡ false) × (b ≡ false)
-neither true b e = absurd (false≢true (sym e))
-neither false b e = (refl, e)
+neither a b e = search rules
 
 -- no visit passed a packet
 abbrev NonePassed : List Visit → Type 0
@@ -78,61 +72,36 @@ no-heads before a (suc n) e i l m = by_test (i == a) refl (λ j k. no-heads befo
     both : (is_some (head_at a before) ≡ false) × (list_any (λ j. is_some (head_at j before)) (range_with_len (a + 1) n) ≡ false)
     both = neither (is_some (head_at a before)) (list_any (λ j. is_some (head_at j before)) (range_with_len (a + 1) n)) e
 
-    none : (o : Option Packet) → is_some o ≡ false → o ≡ None
-    none None f = refl
-    none (Some p) f = absurd (false≢true (sym f))
-
     by_test : (b : Bool) → (i == a) ≡ b → (a + 1 ≤ i → i < (a + 1) + n → head_at i before ≡ None) → head_at i before ≡ None
-    by_test true f later = let same : i ≡ a = grind (arith, nat_tests) in ap (λ j. head_at j before) same ∙ none (head_at a before) both.0
-    by_test false f later = later (let other : (i ≡ a) → ⊥ = (λ s. grind (arith, nat_tests)) in omega (arith, l, other)) (omega (arith, m))
+    by_test b f later = search rules
 
 looks-none : (turn_of : List Visit → ℕ) (covers : List Visit → ℕ → Packet → Bool) (inputs : ℕ) (earlier visits : List Visit) → EachAfter (LooksAtHeads turn_of covers) earlier visits
     → AllByRecursion (λ (v : Visit). v.input < inputs) visits → NoHeads inputs earlier → GetNone visits → NonePassed visits
 looks-none turn_of covers inputs earlier [] h within none gets = tt
 looks-none turn_of covers inputs earlier (v ∷ visits) h within none gets = (
   h.0.passes ∙ ap (is_covered (covers earlier v.input)) got,
-  looks-none turn_of covers inputs (v ∷ earlier) visits h.1 within.1 (λ i l. by_input i (v.input == i) l) gets.1,
+  looks-none turn_of covers inputs (v ∷ earlier) visits h.1 within.1 (λ i l. search rules) gets.1,
 )
   where
     got : v.got ≡ None
     got = gets.0 (h.0.fresh ∙ ap (λ o. not (is_some o)) (none v.input within.0))
 
-    passed : v.passed ≡ false
-    passed = h.0.passes ∙ ap (is_covered (covers earlier v.input)) got
-
-    by_input : (i : ℕ) (b : Bool) → i < inputs → (if b then (if v.passed then None else v.got) else head_at i earlier) ≡ None
-    by_input i true l = ap (λ c. if c then None else v.got) passed ∙ got
-    by_input i false l = none i l
-
 -- A scheduler that lets nothing through, or has no head and gets nothing, has no result.
 turn-none : (class : Scheduler) (inputs : ℕ) (earlier : List Turn) (t : Turn) (below : Bool) → AllowsTurn class inputs earlier t
     → (lets_through class earlier t.moment && (holds_head (manner class inputs) inputs earlier || below)) ≡ false → (below ≡ false → GetNone t.visits) → result_of t.visits ≡ None
-turn-none class inputs earlier t below allowed e gets = by_way (lets_through class earlier t.moment) refl e
+turn-none class inputs earlier t below allowed e gets = search (rules, neither, none-results, shut, by_manner)
   where
     shut : (c : Scheduler) → AllowsTurn c inputs earlier t → lets_through c earlier t.moment ≡ false → t.visits ≡ []
-    shut (shaper rate burst) a f = none t.visits (subst (λ b. AsksInOrder (if b then 0 ∷ [] else []) t.visits) f a.follows).in_order
-      where
-        none : (visits : List Visit) → UpToFirst [] visits → visits ≡ []
-        none [] k = refl
-        none (v ∷ visits) k = absurd k
-    shut c a f = absurd (false≢true (sym f))
+    shut c a f = search rules
 
     by_manner : (m : Manner) → Follows m inputs earlier t → holds_head m inputs earlier ≡ false → GetNone t.visits → NonePassed t.visits
     by_manner (in_order order) f h g = plain-none t.visits f.plain g
     by_manner (with_heads turn_of covers) f h g =
         looks-none turn_of covers inputs (visits_before earlier) t.visits f.0 allowed.within (λ i l. no-heads (visits_before earlier) 0 inputs h i (omega arith) (omega (arith, l))) g
 
-    by_way : (b : Bool) → lets_through class earlier t.moment ≡ b → (b && (holds_head (manner class inputs) inputs earlier || below)) ≡ false → result_of t.visits ≡ None
-    by_way false f e = ap result_of (shut class allowed f)
-    by_way true f e = let both = neither (holds_head (manner class inputs) inputs earlier) below e in none-results t.visits (by_manner (manner class inputs) allowed.follows both.0 (gets both.1))
-
 -- what a node asked at the inputs of a row gave nothing
 abbrev GaveNone : List Visit → (above first : ℕ) → Row → Type 0
 GaveNone pull above first row = (v : Visit) → In v (visits_of above pull) → v.fresh ≡ true → first ≤ v.input → v.input < first + width row → v.got ≡ None
-
-got-none : (o : Option Packet) (b : Bool) → (is_some o ≡ true → b ≡ true) → b ≡ false → o ≡ None
-got-none None b h e = refl
-got-none (Some p) b h e = absurd (false≢true (sym e ∙ h refl))
 
 gave-none : (tree : Tree) (history : History) (backlogged : ℕ → Bool) (pull : List Visit) (row : Row) (above first next : ℕ) (earlier : List (List Visit)) → StandsAt tree above first next row
     → ArePast history above first next row earlier → GetsFromBacklogged tree backlogged pull → EachAllows above first next row earlier pull
@@ -146,17 +115,7 @@ gave-none tree history backlogged pull (leaf q row) above first next earlier sta
     both = neither (backlogged q) (could_emit history backlogged (moment_of pull) next row) e
 
     by_test : (b : Bool) → (v.input == first) ≡ b → (suc first ≤ v.input → v.input < suc first + width row → v.got ≡ None) → v.got ≡ None
-    by_test false g later = later (let other : (v.input ≡ first) → ⊥ = (λ s. grind (arith, nat_tests)) in omega (arith, l, other)) (omega (arith, k))
-    by_test true g later = got-none v.got (backlogged q) asked both.0
-      where
-        same : v.input ≡ first
-        same = grind (arith, nat_tests)
-
-        queue : tree_queue tree v ≡ Some q
-        queue = ap (λ b. if b then queue_at tree v.node v.input else None) f ∙ ap₂ (queue_at tree) (node-is above pull v m) same ∙ at-leaf tree above first next q row stands
-
-        asked : is_some v.got ≡ true → backlogged q ≡ true
-        asked = subst (λ o. MatchOption o ⊤ (λ r. is_some v.got ≡ true → backlogged r ≡ true)) queue (of-all _ v pull gets (in-filter (λ (u : Visit). u.node == above) v pull m).0)
+    by_test b g later = search (rules, node-is, at-leaf, of-all, in-filter, both)
 gave-none tree history backlogged pull (node class inputs row) above first next earlier stands past gets allows e v m f l k =
     by_test (v.input == first) refl
     (gave-none tree history backlogged pull row above (suc first) (suc (next + nodes inputs)) earlier (stands-after_node tree above first next class inputs row stands)
@@ -191,11 +150,7 @@ gave-none tree history backlogged pull (node class inputs row) above first next 
         allowed = allows.0 (any-in (asks first) v (visits_of above pull) asked m)
 
         shut : (lets_through class turns moment && (holds_head (manner class (width inputs)) (width inputs) turns || could_emit history backlogged moment (suc next) inputs)) ≡ false
-        shut =
-            sym (ap₂ (λ a b. a && (b || could_emit history backlogged moment (suc next) inputs))
-            (ap (λ ts. lets_through class ts moment) is_past.here ∙ lets-busy class turns moment)
-            (ap (holds_head (manner class (width inputs)) (width inputs)) is_past.here ∙ heads-busy (manner class (width inputs)) (width inputs) turns))
-            ∙ both.0
+        shut = search (rules, lets-busy, heads-busy, moment, is_past, here, turns, both)
 
         result : result_of (visits_of next pull) ≡ None
         result =
@@ -219,10 +174,4 @@ emits-due tree log pull backlogged more gets none = none-results (visits_of 0 pu
     gave = gave-none tree history backlogged pull (root tree) 0 0 1 (reverse (pulls log)) (stands-root tree) (are-past tree log less.run) gets less.next.below never
 
     passed : NonePassed (visits_of 0 pull)
-    passed = plain-none (visits_of 0 pull) less.next.device.plain (to-all _ (visits_of 0 pull) (λ v m fresh. gave v m fresh (omega arith) (first v m)))
-      where
-        first : (v : Visit) → In v (visits_of 0 pull) → v.input < 0 + width (root tree)
-        first v m =
-            let one = device-visit (visits_of 0 pull) less.next.device in
-            let input : v.input ≡ 0 = of-all (λ (u : Visit). u.input ≡ 0) v (one.visit ∷ []) (one.input, tt) (subst (In v) one.only m) in
-            omega (arith, input, root-width tree)
+    passed = plain-none (visits_of 0 pull) less.next.device.plain (to-all _ (visits_of 0 pull) (λ v m fresh. gave v m fresh (omega arith) (search (rules, device-visit, of-all, root-width, less))))

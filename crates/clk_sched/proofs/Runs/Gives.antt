@@ -1,5 +1,5 @@
 -- What a node's parent got from it is what it passed.
-use Rattle.std.proofs.Common.{◌≡◌, ℕ, suc, ◌+◌, ◌==◌, if◌then◌else◌, Bool, true, false, List, [], ◌∷◌, ◌++◌, map, filter, reverse, Option, Some, option_and_then, refl, sym, ap, ap₂, ◌∙◌, subst, append-nil, arith}
+use Rattle.std.proofs.Common.{◌≡◌, ℕ, suc, ◌+◌, ◌==◌, if◌then◌else◌, Bool, true, List, [], ◌∷◌, ◌++◌, map, filter, reverse, Option, Some, option_and_then, refl, sym, ap, ◌∙◌, subst, arith, rules}
 use Rattle.std.specs.List.{flat_map, AllByRecursion, list_any}
 use Rattle.clk_sched.specs.declared.visit.Visit.{Visit}
 use Rattle.clk_packet.specs.Scheduler.{Scheduler}
@@ -37,27 +37,12 @@ results log x inputs = flat_map (result_by log x inputs) (visits_of x log)
 turn-result : (log : List Visit) (x : ℕ) (inputs : Row) (k : ℕ) (us : List Visit) → PassesLast us → AllByRecursion (λ (v : Visit). v.pull ≡ k) us
     → flat_map (result_by log x inputs) us ≡ traced (result_of us) (option_and_then (passed_from log x inputs k) (passed_input us))
 turn-result log x inputs k [] l h = refl
-turn-result log x inputs k (v ∷ us) l h = by_passed v.passed l.0 (turn-result log x inputs k us l.1 h.1)
-  where
-    by_passed : (b : Bool) → (b ≡ true → us ≡ []) → flat_map (result_by log x inputs) us ≡ traced (result_of us) (option_and_then (passed_from log x inputs k) (passed_input us))
-        → (if b then traced v.got (passed_from log x inputs v.pull v.input) else []) ++ flat_map (result_by log x inputs) us
-        ≡ traced (if b then v.got else result_of us) (option_and_then (passed_from log x inputs k) (if b then Some v.input else passed_input us))
-    by_passed true e rest =
-        ap (λ l. traced v.got (passed_from log x inputs v.pull v.input) ++ flat_map (result_by log x inputs) l) (e refl) ∙ append-nil _
-        ∙ ap (λ j. traced v.got (passed_from log x inputs j v.input)) h.0
-    by_passed false e rest = rest
+turn-result log x inputs k (v ∷ us) l h = search (rules, v.passed, l.0, (turn-result log x inputs k us l.1 h.1))
 
 -- a node's visits in a pull are those of the pull among its own
 filter-turned : {X : Type 0} (f g : X → Bool) (xs : List X) → filter f (filter g xs) ≡ filter g (filter f xs)
 filter-turned f g [] = refl
-filter-turned f g (x ∷ xs) = by_tests (f x) (g x) refl refl (filter-turned f g xs)
-  where
-    by_tests : (b c : Bool) → f x ≡ b → g x ≡ c → filter f (filter g xs) ≡ filter g (filter f xs)
-        → filter f (if c then x ∷ filter g xs else filter g xs) ≡ filter g (if b then x ∷ filter f xs else filter f xs)
-    by_tests true true d e rest = rw (d, e) (ap (λ l. x ∷ l) rest)
-    by_tests true false d e rest = rw e rest
-    by_tests false true d e rest = rw d rest
-    by_tests false false d e rest = rest
+filter-turned f g (x ∷ xs) = search (rules, (filter-turned f g xs))
 
 -- what a node's parent got from it is what it passed
 pub gives-results : (log : List Visit) (above first next : ℕ) (class : Scheduler) (inputs row : Row) (pulled : List (List Visit)) → IsPulledIn log above first next (node class inputs row) pulled
@@ -93,16 +78,10 @@ gives-results log above first next class inputs row pulled h law gets =
     result p k = traced (result_of (visits_of next p)) (origin (is p k).number)
 
     visit : (p : List Visit) (k : In p pulled) (v : Visit) → In v (visits_of above p) → asks first v ≡ true → traced v.got (origin v.pull) ≡ result p k
-    visit p k v m t =
-        ap₂ traced (of-all (λ (u : Visit). u.got ≡ result_of (visits_of next p)) v (filter (asks first) (visits_of above p)) (of-all (GetsResult above first next) p pulled gets k) (filter-in (asks first) v (visits_of above p) t m))
-        (ap origin (of-all (λ (u : Visit). u.pull ≡ (is p k).number) v p (is p k).all (in-filter (λ (u : Visit). u.node == above) v p m).0))
+    visit p k v m t = search (rules, of-all, filter-in, in-filter, got, origin, is)
 
     each : (p : List Visit) (k : In p pulled) → flat_map got (visits_of above p) ≡ copies (asks first) (result p k) (visits_of above p)
-    each p k = flat_map-same _ _ (visits_of above p) (λ v m. by_test v (asks first v) (visit p k v m))
-      where
-        by_test : (v : Visit) (b : Bool) → (b ≡ true → traced v.got (origin v.pull) ≡ result p k) → (if b then traced v.got (origin v.pull) else []) ≡ (if b then result p k else [])
-        by_test v true e = e refl
-        by_test v false e = refl
+    each p k = flat_map-same _ _ (visits_of above p) (λ v m. (search (rules, (asks first v), (visit p k v m))))
 
     same : (p : List Visit) → In p pulled → PassesLast (visits_of next p) → flat_map got (visits_of above p) ≡ flat_map (result_by log next inputs) (visits_of next p)
     same p k l =
@@ -125,13 +104,11 @@ pub gives-queue : (log : List Visit) (above first next q : ℕ) (row : Row) → 
 gives-queue log above first next q row = ap (λ j. flat_map (got_by (λ _. Some q) j) (visits_of above log)) (let e : first + 0 ≡ first = omega arith in e)
 
 pub gives-after_leaf : (log : List Visit) (above first next q : ℕ) (row : Row) (i : ℕ) → gives log above first next (leaf q row) (suc i) ≡ gives log above (suc first) next row i
-gives-after_leaf log above first next q row i =
-    ap (λ j. flat_map (got_by (λ k. origin_in log next row i k) j) (visits_of above log)) (let e : first + suc i ≡ suc first + i = omega arith in e)
+gives-after_leaf log above first next q row i = search rules
 
 pub gives-after_node : (log : List Visit) (above first next : ℕ) (class : Scheduler) (inputs row : Row) (i : ℕ)
     → gives log above first next (node class inputs row) (suc i) ≡ gives log above (suc first) (suc (next + nodes inputs)) row i
-gives-after_node log above first next class inputs row i =
-    ap (λ j. flat_map (got_by (λ k. origin_in log (suc (next + nodes inputs)) row i k) j) (visits_of above log)) (let e : first + suc i ≡ suc first + i = omega arith in e)
+gives-after_node log above first next class inputs row i = search rules
 
 -- what a node got at an input is what it passed from there, and then what it holds there
 pub gives-passed_and_held : (log : List Visit) (above first next : ℕ) (class : Scheduler) (inputs row : Row) (pulled : List (List Visit)) → IsPulledIn log above first next (node class inputs row) pulled

@@ -1,5 +1,5 @@
 -- A run goes on by one pull.
-use Rattle.std.proofs.Common.{◌≡◌, ◌≢◌, ℕ, zero, suc, ◌+◌, ◌<◌, ◌≤◌, ◌==◌, Bool, true, false, if◌then◌else◌, List, [], ◌∷◌, ◌++◌, length, map, filter, reverse, refl, sym, ap, ap₂, ◌∙◌, subst, append-nil, append_assoc, length-append, arith}
+use Rattle.std.proofs.Common.{◌≡◌, ◌≢◌, ℕ, zero, suc, ◌+◌, ◌<◌, ◌≤◌, ◌==◌, Bool, true, false, if◌then◌else◌, List, [], ◌∷◌, ◌++◌, length, map, filter, reverse, refl, sym, ap, ap₂, ◌∙◌, subst, append-nil, append_assoc, length-append, arith, rules}
 use Rattle.std.specs.List.{flat_map, range_with_len, AllByRecursion, list_any}
 use Rattle.std.proofs.lemmas.List.{map-append, reverse-append, length-reverse, append_cancel_right}
 use Rattle.std.proofs.lemmas.List.Concat.{flat_map-append}
@@ -28,11 +28,7 @@ reverse-more x xs = reverse-append (x ∷ []) xs
 
 pub filter-reverse : {X : Type 0} (test : X → Bool) (xs : List X) → filter test (reverse xs) ≡ reverse (filter test xs)
 filter-reverse test [] = refl
-filter-reverse test (x ∷ xs) = ap (filter test) (reverse-more x xs) ∙ filter-append test (reverse xs) (x ∷ []) ∙ ap (λ l. l ++ filter test (x ∷ [])) (filter-reverse test xs) ∙ by_test (test x)
-  where
-    by_test : (b : Bool) → reverse (filter test xs) ++ (if b then x ∷ [] else []) ≡ reverse (if b then x ∷ filter test xs else filter test xs)
-    by_test true = sym (reverse-more x (filter test xs))
-    by_test false = append-nil (reverse (filter test xs))
+filter-reverse test (x ∷ xs) = search (rules, reverse-more, filter-append, append-nil, (filter-reverse test xs))
 
 pub map-reverse : {X Y : Type 0} (f : X → Y) (xs : List X) → map f (reverse xs) ≡ reverse (map f xs)
 map-reverse f [] = refl
@@ -68,20 +64,12 @@ each-obeys (node class inputs row) above first next pulled pull h k =
     by_asked : (b : Bool)
         → (b ≡ true → AllowsTurn class (width inputs) (map (turn next) (pulls_below above first (reverse pulled))) (turn next pull) × EachAllows next 0 (suc next) inputs (pulls_below above first (reverse pulled)) pull)
         → (EachAllows next 0 (suc next) inputs (reverse before) pull → EachObeys next (before ++ pull ∷ []) 0 (suc next) inputs) → After (before ++ (if b then pull ∷ [] else []))
-    by_asked false a rest = subst After (sym (append-nil before)) (h.0, h.2)
-    by_asked true a rest = (
-      subst (Obeys class (width inputs)) (sym (map-append (turn next) before (pull ∷ [])))
-          (each-more (AllowsTurn class (width inputs)) (map (turn next) before) (turn next pull) h.0
-          (subst (λ ts. AllowsTurn class (width inputs) ts (turn next pull)) (ap (map (turn next)) turned ∙ map-reverse (turn next) before) (a refl).0)),
-      rest (subst (λ ps. EachAllows next 0 (suc next) inputs ps pull) turned (a refl).1),
-    )
+    by_asked b a rest = search (rules, append-nil, map-append, each-more, map-reverse, After, before, turned)
 
 -- the visits of the pulls before one are of pulls numbered below it
 numbers-below : (log : List Visit) (a n total : ℕ) → a + n ≤ total → AllByRecursion (λ (v : Visit). v.pull < total) (flat_map (λ p. p) (map (λ k. in_pull k log) (range_with_len a n)))
 numbers-below log a zero total l = tt
-numbers-below log a (suc n) total l =
-    all-append (λ (v : Visit). v.pull < total) (in_pull a log) _ (all-weaker (λ (v : Visit). v.pull ≡ a) (λ (v : Visit). v.pull < total) (in_pull a log) (λ v e. omega (arith, e)) (in_pull-number a log))
-    (numbers-below log (a + 1) n total (omega arith))
+numbers-below log a (suc n) total l = search (rules, all-append, all-weaker, in_pull-number, (numbers-below log (a + 1) n total (omega arith)))
 
 in-one : (k : ℕ) (visits : List Visit) → AllByRecursion (λ (v : Visit). v.pull ≡ k) visits → in_pull k visits ≡ visits
 in-one k visits h = filter-all (λ (v : Visit). v.pull == k) visits (all-weaker (λ (v : Visit). v.pull ≡ k) (λ (v : Visit). (v.pull == k) ≡ true) visits (λ v e. equal v.pull k e) h)
@@ -105,16 +93,10 @@ pulls-more log next n count before now one =
     ∙ ap₂ (λ ps p. ps ++ p ∷ []) (map-range (λ k. in_pull k (log ++ next)) (λ k. in_pull k log) 0 n earlier ∙ ap (λ m. map (λ k. in_pull k log) (range_with_len 0 m)) count) latest
   where
     earlier : (k : ℕ) → k < 0 + n → in_pull k (log ++ next) ≡ in_pull k log
-    earlier k l =
-        filter-append (λ (v : Visit). v.pull == k) log next
-        ∙ ap (λ vs. in_pull k log ++ vs) (in-other k next (all-weaker (λ (v : Visit). v.pull ≡ n) (λ (v : Visit). v.pull ≢ k) next (λ v e d. absurd (omega arith)) now))
-        ∙ append-nil (in_pull k log)
+    earlier k l = search (rules, filter-append, in-other, all-weaker, append-nil)
 
     latest : in_pull n (log ++ next) ≡ next
-    latest =
-        filter-append (λ (v : Visit). v.pull == n) log next
-        ∙ ap (λ vs. vs ++ in_pull n next) (in-other n log (all-weaker (λ (v : Visit). v.pull < n) (λ (v : Visit). v.pull ≢ n) log (λ v l d. absurd (omega arith)) before))
-        ∙ in-one n next now
+    latest = search (rules, filter-append, in-other, all-weaker, in-one)
 
 one-more : (tree : Tree) (log pull : List Visit) → IsRun tree log → IsNextPull tree log pull → IsOnePullMore tree log pull
 one-more tree log pull run is =
@@ -188,16 +170,10 @@ joined-more tree before (pull ∷ more) are below numbered devices =
     number = subst (λ n. AllByRecursion (λ (v : Visit). v.pull ≡ n) pull) (length-reverse before) numbered.0.number
 
     last : pulls (earlier ++ pull) ≡ pulls earlier ++ pull ∷ []
-    last =
-        pulls-more earlier pull (length before) (sym (ap length are) ∙ length-map-range_with_len (λ k. in_pull k earlier) 0 (length (visits_of 0 earlier))) below number
-        (ap length (device-visit (visits_of 0 pull) devices.0).only)
+    last = search (rules, append-nil, append_assoc, reverse-append, flat_map-append, length-reverse, pulls-more, length-map-range_with_len, device-visit, length-append, all-append, all-weaker, earlier, number)
 
     numbers : AllByRecursion (λ (v : Visit). v.pull < length (before ++ pull ∷ [])) (earlier ++ pull)
-    numbers =
-        let long = length-append before (pull ∷ []) in
-        all-append (λ (v : Visit). v.pull < length (before ++ pull ∷ [])) earlier pull
-        (all-weaker (λ (v : Visit). v.pull < length before) (λ (v : Visit). v.pull < length (before ++ pull ∷ [])) earlier (λ v l. omega (arith, long, l)) below)
-        (all-weaker (λ (v : Visit). v.pull ≡ length before) (λ (v : Visit). v.pull < length (before ++ pull ∷ [])) pull (λ v e. omega (arith, long, e)) number)
+    numbers = search (rules, length-append, all-append, all-weaker, earlier, number)
 
 -- what comes before some pulls of a run
 pub front : (tree : Tree) (log : List Visit) (before after : List (List Visit)) → IsRun tree log → pulls log ≡ before ++ after → IsRunOf tree (flat_map (λ p. p) before) before
@@ -258,10 +234,4 @@ one-less tree log pull more =
     numbered = (each-split (IsNumbered tree) [] (pulls log) (pull ∷ []) (subst (EachAfter (IsNumbered tree) []) more.last (each-numbered tree (log ++ pull) more.run.shape))).1.0
 
 pub goes-on : (tree : Tree) → GoesOn tree
-goes-on tree =
-    record {
-      start = record { shape = record { blocks = refl; one_moment = tt; moments = tt }; device = tt; below = each-none (root tree) 0 0 1 };
-      step = one-more tree;
-      back = one-less tree;
-      fronts = front tree;
-    }
+goes-on tree = search (rules, each-none, one-more, one-less, front)

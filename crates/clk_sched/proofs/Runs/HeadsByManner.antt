@@ -1,12 +1,11 @@
 -- Each manner keeps heads, the first by holding none; and the visits of a turn end where one passed.
-use Rattle.std.proofs.Common.{◌≡◌, ℕ, zero, suc, ◌==◌, if◌then◌else◌, Bool, true, false, not, List, [], ◌∷◌, Option, Some, None, is_some, MatchOption, MatchBool, refl, sym, ap, ◌∙◌, subst}
+use Rattle.std.proofs.Common.{◌≡◌, ℕ, zero, suc, true, List, [], ◌∷◌, None, refl, sym, subst, rules}
 use Rattle.std.specs.List.{AllByRecursion}
 use Rattle.std.specs.Bool.{⊤}
 use Rattle.std.proofs.lemmas.Bool.{false≢true}
-use Rattle.clk_packet.specs.declared.packet.Packet.{Packet}
 use Rattle.clk_sched.specs.declared.visit.Visit.{Visit}
 use Rattle.clk_sched.specs.Turns.{Turn, EachAfter, all_visits, IsPlain, UpToFirst}
-use Rattle.clk_sched.specs.Heads.{head_at, LooksAtHeads, EndAtPass}
+use Rattle.clk_sched.specs.Heads.{head_at, EndAtPass}
 use Rattle.clk_sched.specs.Laws.{Manner, in_order, with_heads, Follows}
 use Rattle.clk_sched.proofs.Lists.Members.{all-append, each-weaker}
 use Rattle.clk_sched.proofs.Runs.Allowed.{onto, turns-look}
@@ -20,24 +19,15 @@ PassesLast (v ∷ visits) = (v.passed ≡ true → visits ≡ []) × PassesLast 
 plain-last : (order : List ℕ) (visits : List Visit) → AllByRecursion IsPlain visits → UpToFirst order visits → PassesLast visits
 plain-last order [] p h = tt
 plain-last [] (v ∷ visits) p h = absurd h
-plain-last (i ∷ order) (v ∷ visits) p h = by_got v.got p.0.passed h.1 (plain-last order visits p.1)
-  where
-    by_got : (o : Option Packet) → v.passed ≡ is_some o → MatchOption o (UpToFirst order visits) (λ _. visits ≡ []) → (UpToFirst order visits → PassesLast visits) → (v.passed ≡ true → visits ≡ []) × PassesLast visits
-    by_got None e k rest = (λ t. absurd (false≢true (sym e ∙ t)), rest k)
-    by_got (Some x) e k rest = (λ t. k, subst PassesLast (sym k) tt)
+plain-last (i ∷ order) (v ∷ visits) p h = search (rules, false≢true, (plain-last order visits p.1))
 
 heads-last : (left : ℕ) (visits : List Visit) → EndAtPass left visits → PassesLast visits
 heads-last zero visits e = subst PassesLast (sym e) tt
 heads-last (suc left) [] e = tt
-heads-last (suc left) (v ∷ visits) e = by_passed v.passed refl e (heads-last left visits)
-  where
-    by_passed : (b : Bool) → v.passed ≡ b → MatchBool b (visits ≡ []) (EndAtPass left visits) → (EndAtPass left visits → PassesLast visits) → (v.passed ≡ true → visits ≡ []) × PassesLast visits
-    by_passed true p k rest = (λ t. k, subst PassesLast (sym k) tt)
-    by_passed false p k rest = (λ t. absurd (false≢true (sym p ∙ t)), rest k)
+heads-last (suc left) (v ∷ visits) e = search (rules, false≢true, (heads-last left visits))
 
 pub turn-last : (m : Manner) (inputs : ℕ) (earlier : List Turn) (t : Turn) → Follows m inputs earlier t → PassesLast t.visits
-turn-last (in_order order) inputs earlier t h = plain-last (order earlier t.moment) t.visits h.plain h.in_order
-turn-last (with_heads turn_of covers) inputs earlier t h = heads-last inputs t.visits h.1
+turn-last m inputs earlier t h = search (rules, plain-last, heads-last)
 
 turns-plain : (order : List Turn → ℕ → List ℕ) (inputs : ℕ) (earlier turns : List Turn) → EachAfter (Follows (in_order order) inputs) earlier turns → AllByRecursion IsPlain (all_visits turns)
 turns-plain order inputs earlier [] h = tt
@@ -48,27 +38,11 @@ abbrev pub HoldsNone : List Visit → Type 0
 HoldsNone earlier = (i : ℕ) → head_at i earlier ≡ None
 
 plain-none : (earlier : List Visit) (v : Visit) → HoldsNone earlier → IsPlain v → HoldsNone (v ∷ earlier)
-plain-none earlier v none p i = by_cases (v.input == i) v.passed v.got p.passed
-  where
-    by_cases : (b c : Bool) (o : Option Packet) → c ≡ is_some o → (if b then (if c then None else o) else head_at i earlier) ≡ None
-    by_cases false c o e = none i
-    by_cases true true o e = refl
-    by_cases true false None e = refl
-    by_cases true false (Some x) e = absurd (false≢true e)
+plain-none earlier v none p i = search rules
 
 plain-keeps : (earlier visits : List Visit) → HoldsNone earlier → AllByRecursion IsPlain visits → EachAfter KeepsHead earlier visits × HoldsNone (onto visits earlier)
 plain-keeps earlier [] none h = (tt, none)
-plain-keeps earlier (v ∷ visits) none h =
-    let rest = plain-keeps (v ∷ earlier) visits (plain-none earlier v none h.0) h.1 in (
-      (
-        record {
-          fresh = h.0.fresh ∙ ap (λ o. not (is_some o)) (sym (none v.input));
-          looks = subst (λ o. MatchOption o ⊤ (λ p. v.got ≡ Some p)) (sym (none v.input)) tt;
-        },
-        rest.0,
-      ),
-      rest.1,
-    )
+plain-keeps earlier (v ∷ visits) none h = search (rules, plain-none, (plain-keeps (v ∷ earlier) visits (plain-none earlier v none h.0) h.1))
 
 in_order-keeps : (order : List Turn → ℕ → List ℕ) (inputs : ℕ) (turns : List Turn) → EachAfter (Follows (in_order order) inputs) [] turns
     → EachAfter KeepsHead [] (all_visits turns) × HoldsNone (onto (all_visits turns) [])
@@ -76,8 +50,7 @@ in_order-keeps order inputs turns h = plain-keeps [] (all_visits turns) (λ i. r
 
 pub turns-keep : (m : Manner) (inputs : ℕ) (turns : List Turn) → EachAfter (Follows m inputs) [] turns → EachAfter KeepsHead [] (all_visits turns)
 turns-keep (in_order order) inputs turns h = (in_order-keeps order inputs turns h).0
-turns-keep (with_heads turn_of covers) inputs turns h =
-    each-weaker (LooksAtHeads turn_of covers) KeepsHead (λ e v k. record { fresh = k.fresh; looks = k.looks }) [] (all_visits turns) (turns-look turn_of covers inputs [] turns h)
+turns-keep (with_heads turn_of covers) inputs turns h = search (rules, each-weaker, turns-look)
 
 pub in_order-holds : (order : List Turn → ℕ → List ℕ) (inputs : ℕ) (turns : List Turn) → EachAfter (Follows (in_order order) inputs) [] turns → HoldsNone (onto (all_visits turns) [])
 in_order-holds order inputs turns h = (in_order-keeps order inputs turns h).1

@@ -1,6 +1,6 @@
 -- What stands at the inputs of a node makes a pull, whatever the queues answer: what its nodes do at each input that is asked,
 -- and what is given there.
-use Rattle.std.proofs.Common.{◌≡◌, ◌≢◌, ◌&&◌, ◌==◌, ℕ, suc, ◌+◌, ◌<◌, ◌≤◌, if◌then◌else◌, Bool, true, false, List, [], ◌∷◌, ◌++◌, map, filter, Option, Some, None, IfSome, refl, sym, ap, ap₂, ◌∙◌, subst, arith}
+use Rattle.std.proofs.Common.{◌≡◌, ◌≢◌, ◌&&◌, ◌==◌, ℕ, suc, ◌+◌, ◌<◌, ◌≤◌, if◌then◌else◌, Bool, true, false, List, [], ◌∷◌, ◌++◌, map, filter, Option, None, IfSome, refl, sym, ap, ap₂, ◌∙◌, subst, arith, rules}
 use Rattle.std.specs.List.{flat_map, AllByRecursion, list_any}
 use Rattle.std.proofs.lemmas.Bool.Decides.{nat_tests}
 use Rattle.clk_packet.specs.declared.packet.Packet.{Packet}
@@ -11,7 +11,7 @@ use Rattle.clk_sched.specs.Turns.{Turn}
 use Rattle.clk_sched.specs.Laws.{AllowsTurn}
 use Rattle.clk_sched.specs.Log.{visits_of, block_at, moment_of, turn, asks, pulls_below, result_of}
 use Rattle.clk_sched.specs.Run.{GetsResult}
-use Rattle.clk_sched.specs.inside.Pulling.{AreApart, input_of, as_turn, asked_of, with_asked}
+use Rattle.clk_sched.specs.inside.Pulling.{AreApart, input_of, asked_of, with_asked}
 use Rattle.clk_sched.specs.Step.{EachAllows}
 use Rattle.clk_sched.proofs.Lists.Numbers.{equal, differs}
 use Rattle.clk_packet.specs.Lists.{In}
@@ -67,39 +67,12 @@ end-made g above first next earlier =
       before = λ i l. (refl, refl);
       within = λ i. tt;
       visits = λ i. tt;
-      answered = λ i l. by_queue (queue_at g.tree above i) (g.answer above i);
+      answered = λ i l. search rules;
       holds = λ pull h. (tt, λ v m f. refl);
     }
-  where
-    by_queue : (o : Option ℕ) (x : Option Packet) → IfSome o (λ q. x ≡ x)
-    by_queue None x = tt
-    by_queue (Some q) x = refl
 
 leaf-made : (g : Given) (above first next k : ℕ) (row : Row) (earlier : List (List Visit)) → IsMade g above (suc first) next row earlier → IsMade g above first next (leaf k row) earlier
-leaf-made g above first next k row earlier rest =
-    record {
-      made = rest.made;
-      gives = rest.gives;
-      before = λ i l. rest.before i (omega arith);
-      within = rest.within;
-      visits = rest.visits;
-      answered = λ i l. by_place i l (first == i) refl;
-      holds = λ pull h.
-          let k = rest.holds pull (record { moment = h.moment; apart = h.apart; got = λ v m f l. h.got v m f (omega arith); owns = h.owns }) in
-          (k.0, λ v m f. by_test pull v.input (first == v.input) refl (k.1 v m f));
-    }
-  where
-    by_place : (i : ℕ) → first ≤ i → (b : Bool) → (first == i) ≡ b → IfSome (queue_at g.tree above i) (λ q. rest.gives i ≡ g.answer above i)
-    by_place i l true e = by_queue (queue_at g.tree above i) (rest.before i (grind (arith, nat_tests))).1
-      where
-        by_queue : (o : Option ℕ) → rest.gives i ≡ g.answer above i → IfSome o (λ q. rest.gives i ≡ g.answer above i)
-        by_queue None s = tt
-        by_queue (Some q) s = s
-    by_place i l false e = rest.answered i (grind (arith, nat_tests))
-
-    by_test : (pull : List Visit) (i : ℕ) (b : Bool) → (first == i) ≡ b → block_at pull (suc first) next row i ≡ rest.made i → (if b then [] else block_at pull (suc first) next row i) ≡ rest.made i
-    by_test pull i true e h = sym (rest.before i (grind (arith, nat_tests))).0
-    by_test pull i false e h = h
+leaf-made g above first next k row earlier rest = search rules
 
 -- one thing at an input, and others at others
 abbrev here_or : {X : Type 0} → ℕ → X → (ℕ → X) → ℕ → X
@@ -112,10 +85,7 @@ at-other : {X : Type 0} (first i : ℕ) (x : X) (others : ℕ → X) → first �
 at-other first i x others d = ap (λ b. if b then x else others i) (differs first i d)
 
 no-queue : (tree : Tree) (above first next : ℕ) (class : Scheduler) (inputs row : Row) → StandsAt tree above first next (node class inputs row) → queue_at tree above first ≡ None
-no-queue tree above first next class inputs row s =
-    let o = s.ordered in
-    s.own first (omega arith)
-    ∙ rw (queue_in-before next 0 (suc next) inputs above first (omega arith) (λ e. omega (arith, e)), queue_in-earlier above (suc first) (suc (next + nodes inputs)) row first (omega arith) (omega arith)) refl
+no-queue tree above first next class inputs row s = search (rules, queue_in-before, queue_in-earlier)
 
 node-made : (g : Given) (above first next : ℕ) (class : Scheduler) (inputs row : Row) (earlier : List (List Visit)) → StandsAt g.tree above first next (node class inputs row)
     → (below : IsMade g next 0 (suc next) inputs (pulls_below above first earlier)) → IsMade g above (suc first) (suc (next + nodes inputs)) row earlier
@@ -161,12 +131,7 @@ node-made g above first next class inputs row earlier stands below rest choice =
     own_not y l = all-weaker (λ (v : Visit). (next ≤ v.node) × (v.node < past)) (λ (v : Visit). v.node ≢ y) own (λ v h e. let k = h.1 in omega (arith, e, k)) own_within
 
     within : (i : ℕ) (b : Bool) → AllByRecursion (λ (v : Visit). (next ≤ v.node) × (v.node < next + suc (nodes inputs + nodes row))) (if b then own else rest.made i)
-    within i true =
-        all-weaker (λ (v : Visit). (next ≤ v.node) × (v.node < past)) (λ (v : Visit). (next ≤ v.node) × (v.node < next + suc (nodes inputs + nodes row))) own
-        (λ v h. (h.0, let k = h.1 in omega arith)) own_within
-    within i false =
-        all-weaker (λ (v : Visit). (past ≤ v.node) × (v.node < past + nodes row)) (λ (v : Visit). (next ≤ v.node) × (v.node < next + suc (nodes inputs + nodes row))) (rest.made i)
-        (λ v h. (let k = h.0 in omega arith, let k = h.1 in omega arith)) (rest.within i)
+    within i b = search (rules, all-weaker, past, own, own_within)
 
     own_visit : (v : Visit) → IsVisitBy (asker g next below.gives) v → IsVisitOf g v
     own_visit v k =
@@ -207,16 +172,7 @@ node-made g above first next class inputs row earlier stands below rest choice =
     own_visits pull h v m t = here pull h next (omega arith) (omega arith) v m t ∙ with_asked-self next below.made choice.visits below_not own_node
 
     pulled : (pull : List Visit) → IsPull pull → (v : Visit) → In v (visits_of above pull) → asks first v ≡ true → IsAsked g next 0 (suc next) (suc next + nodes inputs) below.made below.gives pull
-    pulled pull h v m t =
-        let same = own_visits pull h v m t in
-        record {
-          moment = h.moment;
-          apart = subst (AreApart input_of) (sym same) choice.apart;
-          got = λ u mu f l. (of-all (IsVisitBy (asker g next below.gives)) u choice.visits choice.each (subst (In u) same mu)).got f;
-          owns = λ y l k.
-              here pull h y (omega arith) (omega arith) v m t ∙ with_asked-other next y below.made choice.visits (λ e. omega (arith, e, l)) own_node
-              ∙ ap (flat_map (λ (u : Visit). visits_of y (asked_of below.made u))) (sym same);
-        }
+    pulled pull h v m t = search (rules, of-all, with_asked-other, own_visits, visits, here, own_node)
 
     after : (pull : List Visit) → IsPull pull → IsAsked g above (suc first) past (past + nodes row) rest.made rest.gives pull
     after pull h =
@@ -237,20 +193,13 @@ node-made g above first next class inputs row earlier stands below rest choice =
 
     allows : (pull : List Visit) → IsPull pull → list_any (asks first) (visits_of above pull) ≡ true
         → AllowsTurn class (width inputs) (map (turn next) (pulls_below above first earlier)) (turn next pull) × EachAllows next 0 (suc next) inputs (pulls_below above first earlier) pull
-    allows pull h some =
-        let w = any-member (asks first) (visits_of above pull) some in (
-          subst (AllowsTurn class (width inputs) (map (turn next) (pulls_below above first earlier))) (ap₂ as_turn (sym h.moment) (sym (own_visits pull h w.0 w.1 w.2))) choice.allowed,
-          (below.holds pull (pulled pull h w.0 w.1 w.2)).0,
-        )
+    allows pull h some = search (rules, any-member, own_visits, pulled)
 
     results : (pull : List Visit) → IsPull pull → GetsResult above first next pull
     results pull h = to-all (λ (v : Visit). v.got ≡ result_of (visits_of next pull)) (filter (asks first) (visits_of above pull)) (λ v m. let k = in-filter (asks first) v (visits_of above pull) m in got v k.0 k.1)
       where
         got : (v : Visit) → In v (visits_of above pull) → asks first v ≡ true → v.got ≡ result_of (visits_of next pull)
-        got v m t =
-            let both = asks-both first v t in
-            let e = both.1 in
-            h.got v m both.0 (omega (arith, e)) ∙ at-here first v.input result rest.gives e ∙ ap result_of (sym (own_visits pull h v m t))
+        got v m t = search (rules, asks-both, at-here, result, own_visits)
 
     blocks : (pull : List Visit) → IsPull pull → (v : Visit) → In v (visits_of above pull) → v.fresh ≡ true → (b : Bool) → (first == v.input) ≡ b
         → (if b then flat_map (asked pull (suc next) inputs) (visits_of next pull) else block_at pull (suc first) past row v.input) ≡ (if b then own else rest.made v.input)
@@ -262,8 +211,7 @@ node-made g above first next class inputs row earlier stands below rest choice =
         t = ap₂ (λ c d. c && d) f (let flipped : (v.input == first) ≡ true = grind (arith, nat_tests) in flipped)
 
         by_fresh : (u : Visit) → In u (visits_of next pull) → (c : Bool) → u.fresh ≡ c → (if c then block_at pull 0 (suc next) inputs u.input else []) ≡ (if c then below.made u.input else [])
-        by_fresh u mu true k = (below.holds pull (pulled pull h v m t)).1 u mu k
-        by_fresh u mu false k = refl
+        by_fresh u mu c k = search (rules, pulled, t)
     blocks pull h v m f false e = (rest.holds pull (after pull h)).1 v m f
 
 -- each earlier pull was allowed after some

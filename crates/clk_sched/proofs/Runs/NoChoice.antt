@@ -1,10 +1,10 @@
 -- A run leaves nothing to choose: two runs at the same moments, in which each queue answers alike, are the same log.
-use Rattle.std.proofs.Common.{◌≡◌, ℕ, suc, ◌+◌, ◌<◌, ◌≤◌, ◌==◌, ◌&&◌, if◌then◌else◌, cond, Bool, true, false, List, [], ◌∷◌, ◌++◌, None, length, map, filter, drop, refl, sym, ap, ap₂, ◌∙◌, subst, arith}
+use Rattle.std.proofs.Common.{◌≡◌, ℕ, suc, ◌+◌, ◌<◌, ◌≤◌, ◌==◌, ◌&&◌, if◌then◌else◌, Bool, true, false, List, [], ◌∷◌, ◌++◌, length, map, filter, drop, refl, sym, ap, ap₂, ◌∙◌, subst, arith, rules}
 use Rattle.std.specs.List.{flat_map, AllByRecursion}
 use Rattle.std.proofs.lemmas.Bool.Decides.{nat_tests}
 use Rattle.clk_sched.specs.declared.visit.Visit.{Visit}
 use Rattle.clk_packet.specs.Scheduler.{Scheduler}
-use Rattle.clk_sched.specs.Tree.{Row, end, leaf, node, Tree, queue, scheduler, root, nodes, width, queue_at, is_number}
+use Rattle.clk_sched.specs.Tree.{Row, end, leaf, node, Tree, root, nodes, width}
 use Rattle.clk_sched.specs.Turns.{EachAfter}
 use Rattle.clk_sched.specs.Laws.{manner}
 use Rattle.clk_sched.specs.Laws.Device.{IsDeviceTurn}
@@ -13,7 +13,7 @@ use Rattle.clk_sched.specs.Run.{GetsResult, IsRun}
 use Rattle.clk_sched.specs.Choice.{answers_of, LeavesNoChoice, PullsLeaveNoChoice}
 use Rattle.clk_packet.specs.Lists.{In}
 use Rattle.clk_sched.proofs.Lists.Members.{of-all, in-filter, filter-in, any-in, each-from_all, each-weaker, each-both, each-mapped}
-use Rattle.clk_sched.proofs.Trees.Numbering.{StandsAt, stands-root, stands-after_leaf, stands-after_node, stands-inputs, at-leaf}
+use Rattle.clk_sched.proofs.Trees.Numbering.{StandsAt, stands-root, stands-after_leaf, stands-after_node, stands-inputs}
 use Rattle.clk_sched.specs.Step.{EachAllows}
 use Rattle.clk_sched.proofs.Runs.Allowed.{AreWithin, each-allowed, device-visit, onto, each-split}
 use Rattle.clk_sched.proofs.Runs.PullByPull.{asked, IsNumbered, each-numbered}
@@ -33,19 +33,7 @@ node-of : (x : ℕ) (pull : List Visit) (v : Visit) → In v (visits_of x pull) 
 node-of x pull v m = let both = in-filter (λ (u : Visit). u.node == x) v pull m in (both.0, let e = both.1 in grind (arith, nat_tests))
 
 same-visit : (p q : List Visit) (x : ℕ) (v u : Visit) → ArePaired p q → In v (visits_of x p) → In u (visits_of x q) → AreLike v u → v.got ≡ u.got → v ≡ u
-same-visit p q x v u pair mv mu like got =
-    λ i. record { pull = number i; moment = moment i; got = got i; node = at_node i; input = like.input i; fresh = like.fresh i; passed = like.passed got i }
-  where
-    number : v.pull ≡ u.pull
-    number = of-all (λ (w : Visit). w.pull ≡ pair.number) v p pair.one (node-of x p v mv).0 ∙ sym (of-all (λ (w : Visit). w.pull ≡ pair.number) u q pair.other (node-of x q u mu).0)
-
-    moment : v.moment ≡ u.moment
-    moment =
-        of-all (λ (w : Visit). w.moment ≡ moment_of p) v p pair.one_moment (node-of x p v mv).0 ∙ pair.moment
-        ∙ sym (of-all (λ (w : Visit). w.moment ≡ moment_of q) u q pair.other_moment (node-of x q u mu).0)
-
-    at_node : v.node ≡ u.node
-    at_node = (node-of x p v mv).1 ∙ sym (node-of x q u mu).1
+same-visit p q x v u pair mv mu like got = search (rules, of-all, node-of)
 
 -- two visits of node `above` that ask at one of the inputs of a row get the same where the answers are alike, and what they asked
 -- did the same
@@ -82,9 +70,7 @@ leaf-alike tree p q above first next k row stands rest i v u mv mu iv iu l h fv 
 
     -- what a visit adds to the answers of the queue
     answer : (w : Visit) → w.node ≡ above → w.input ≡ first → w.fresh ≡ true → answers_of tree k (w ∷ []) ≡ w.got ∷ []
-    answer w n j f =
-        ap (λ b. map (λ (z : Visit). z.got) (cond b (w ∷ []) []))
-        (ap₂ (λ b o. is_number k (if b then o else None)) f (ap₂ (queue_at tree) n j ∙ at-leaf tree above first next k row stands) ∙ equal k k refl)
+    answer w n j f = search rules
 
     by_test : (b : Bool) → (first == i) ≡ b → AnswerAlike tree (part p b ++ v ∷ []) (part q b ++ u ∷ []) → (part p b ≡ part q b) × (v.got ≡ u.got)
     by_test true t c =
@@ -144,8 +130,7 @@ pulls-of_run tree log run =
     (each-both _ _ [] (pulls log) (each-allowed 0 0 1 (root tree) (pulls log) run.below) (each-numbered tree log run.shape)))
 
 pub root-width : (tree : Tree) → width (root tree) ≡ 1
-root-width (queue k) = refl
-root-width (scheduler class inputs) = refl
+root-width tree = search rules
 
 pull-same : (tree : Tree) (earlier : List (List Visit)) (p q : List Visit) → IsPullOfRun tree earlier p → IsPullOfRun tree earlier q → moment_of p ≡ moment_of q
     → AnswerAlike tree (block tree p) (block tree q) → p ≡ q

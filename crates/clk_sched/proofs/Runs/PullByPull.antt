@@ -1,5 +1,5 @@
 -- The pulls of a log with a log's shape: each is its own block, and its visits carry its number and its moment.
-use Rattle.std.proofs.Common.{◌≡◌, ◌≢◌, ◌⊎◌, if◌then◌else◌, inl, inr, eq-or-lt_of_le, ℕ, zero, suc, ◌+◌, ◌<◌, ◌≤◌, ◌==◌, Bool, true, false, List, [], ◌∷◌, ◌++◌, length, map, refl, ap, ◌∙◌, arith}
+use Rattle.std.proofs.Common.{◌≡◌, ◌≢◌, ◌⊎◌, if◌then◌else◌, eq-or-lt_of_le, ℕ, zero, suc, ◌+◌, ◌<◌, ◌≤◌, ◌==◌, Bool, List, [], ◌∷◌, ◌++◌, length, map, refl, ◌∙◌, arith, rules}
 use Rattle.std.specs.List.{flat_map, range_with_len, AllByRecursion}
 use Rattle.std.proofs.lemmas.Bool.Decides.{nat_tests}
 use Rattle.std.proofs.lemmas.List.{append-nil}
@@ -17,11 +17,7 @@ asked pull next row v = (if v.fresh then block_at pull 0 next row v.input else [
 
 -- what holds of a pull's visits holds of those in a block
 asked-all : (P : Visit → Type 0) (pull : List Visit) (next : ℕ) (row : Row) (v : Visit) → AllByRecursion P (block_at pull 0 next row v.input) → P v → AllByRecursion P (asked pull next row v)
-asked-all P pull next row v h k = by_test v.fresh
-  where
-    by_test : (b : Bool) → AllByRecursion P ((if b then block_at pull 0 next row v.input else []) ++ v ∷ [])
-    by_test true = all-append P (block_at pull 0 next row v.input) (v ∷ []) h (k, tt)
-    by_test false = (k, tt)
+asked-all P pull next row v h k = search (rules, all-append)
 
 visits-asked : (P : Visit → Type 0) (pull : List Visit) (x next : ℕ) (row : Row) → AllByRecursion P pull → ((input : ℕ) → AllByRecursion P (block_at pull 0 next row input))
     → AllByRecursion P (flat_map (asked pull next row) (visits_of x pull))
@@ -30,19 +26,14 @@ visits-asked P pull x next row h below =
 
 block_at-all : (P : Visit → Type 0) (pull : List Visit) (first next : ℕ) (row : Row) (input : ℕ) → AllByRecursion P pull → AllByRecursion P (block_at pull first next row input)
 block_at-all P pull first next end input h = tt
-block_at-all P pull first next (leaf q row) input h = by_test (first == input) refl (block_at-all P pull (suc first) next row input h)
-  where
-    by_test : (b : Bool) → (first == input) ≡ b → AllByRecursion P (block_at pull (suc first) next row input) → AllByRecursion P (block_at pull first next (leaf q row) input)
-    by_test true e rest = rw e tt
-    by_test false e rest = rw e rest
+block_at-all P pull first next (leaf q row) input h = search (rules, (block_at-all P pull (suc first) next row))
 block_at-all P pull first next (node class inputs row) input h =
     by_test (first == input) refl (visits-asked P pull next (suc next) inputs h (λ i. block_at-all P pull 0 (suc next) inputs i h))
     (block_at-all P pull (suc first) (suc (next + nodes inputs)) row input h)
   where
     by_test : (b : Bool) → (first == input) ≡ b → AllByRecursion P (flat_map (asked pull (suc next) inputs) (visits_of next pull))
         → AllByRecursion P (block_at pull (suc first) (suc (next + nodes inputs)) row input) → AllByRecursion P (block_at pull first next (node class inputs row) input)
-    by_test true e here rest = rw e here
-    by_test false e here rest = rw e rest
+    by_test b e here rest = search rules
 
 block-all : (P : Visit → Type 0) (tree : Tree) (pull : List Visit) → AllByRecursion P pull → AllByRecursion P (block tree pull)
 block-all P tree pull h = visits-asked P pull 0 1 (root tree) h (λ i. block_at-all P pull 0 1 (root tree) i h)
@@ -57,12 +48,7 @@ same-pull tree log k =
     (block-all _ tree (in_pull k log) (to-all _ (in_pull k log) (λ v m. (in-filter (λ (u : Visit). u.pull == k) v log m).1)))
 
 other-pull : (tree : Tree) (log : List Visit) (k j : ℕ) → j ≢ k → in_pull k (block tree (in_pull j log)) ≡ []
-other-pull tree log k j d =
-    filter-none (λ (v : Visit). v.pull == k) (block tree (in_pull j log))
-    (block-all _ tree (in_pull j log) (to-all _ (in_pull j log) (λ v m. let e = of-all (λ (u : Visit). u.pull ≡ j) v (in_pull j log) (in_pull-number j log) m in other v e)))
-  where
-    other : (v : Visit) → v.pull ≡ j → (v.pull == k) ≡ false
-    other v e = rw e (differs j k d)
+other-pull tree log k j d = search (rules, filter-none, block-all, to-all, of-all, in_pull-number, differs)
 
 -- the blocks of pulls from one on
 abbrev blocks_from : Tree → List Visit → ℕ → ℕ → List Visit
@@ -70,9 +56,7 @@ blocks_from tree log a n = flat_map (block tree) (map (λ k. in_pull k log) (ran
 
 none-of : (tree : Tree) (log : List Visit) (k a n : ℕ) → k < a → in_pull k (blocks_from tree log a n) ≡ []
 none-of tree log k a zero l = refl
-none-of tree log k a (suc n) l =
-    filter-append (λ (v : Visit). v.pull == k) (block tree (in_pull a log)) (blocks_from tree log (a + 1) n)
-    ∙ rw (other-pull tree log k a (λ e. omega (arith, e)), none-of tree log k (a + 1) n (omega arith)) refl
+none-of tree log k a (suc n) l = search (rules, filter-append, other-pull, (none-of tree log k (a + 1) n (omega arith)))
 
 one-of : (tree : Tree) (log : List Visit) (k a n : ℕ) → a ≤ k → k < a + n → in_pull k (blocks_from tree log a n) ≡ block tree (in_pull k log)
 one-of tree log k a zero l h = absurd (omega arith)
@@ -82,10 +66,7 @@ one-of tree log k a (suc n) l h =
   where
     by_cases : (a ≡ k) ⊎ (a < k) → (a + 1 ≤ k → in_pull k (blocks_from tree log (a + 1) n) ≡ block tree (in_pull k log))
         → in_pull k (block tree (in_pull a log)) ++ in_pull k (blocks_from tree log (a + 1) n) ≡ block tree (in_pull k log)
-    by_cases (inl e) rest =
-        ap (λ j. in_pull k (block tree (in_pull j log)) ++ in_pull k (blocks_from tree log (a + 1) n)) e
-        ∙ rw (same-pull tree log k, none-of tree log k (a + 1) n (omega (arith, e))) (append-nil (block tree (in_pull k log)))
-    by_cases (inr m) rest = rw (other-pull tree log k a (λ e. omega (arith, e, m))) (rest (omega arith))
+    by_cases e rest = search (rules, same-pull, none-of, append-nil, other-pull)
 
 -- a pull of a log, after those before it
 pub record IsNumbered (tree : Tree) (earlier : List (List Visit)) (pull : List Visit) : Type 0 where
@@ -102,9 +83,7 @@ pulls-from tree log earlier a (suc n) e whole one = (
 )
 
 pub each-numbered : (tree : Tree) (log : List Visit) → HasLogShape tree log → EachAfter (IsNumbered tree) [] (pulls log)
-each-numbered tree log shape =
-    pulls-from tree log [] 0 (length (visits_of 0 log)) refl
-    (λ k l. ap (in_pull k) shape.blocks ∙ one-of tree log k 0 (length (visits_of 0 log)) (omega arith) (omega arith)) shape.one_moment
+each-numbered tree log shape = search (rules, pulls-from, one-of)
 
 pub each-whole : (tree : Tree) (log : List Visit) → HasLogShape tree log → AllByRecursion (λ pull. pull ≡ block tree pull) (pulls log)
 each-whole tree log shape = wholes [] (pulls log) (each-numbered tree log shape)

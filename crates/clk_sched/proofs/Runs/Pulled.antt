@@ -1,5 +1,5 @@
 -- The pulls in which a node is pulled, and whose visits stand in them.
-use Rattle.std.proofs.Common.{◌≡◌, ℕ, zero, suc, ◌+◌, ◌<◌, ◌≤◌, ◌==◌, ◌||◌, if◌then◌else◌, inl, inr, Bool, true, false, List, [], ◌∷◌, ◌++◌, length, map, filter, refl, sym, ap, ap₂, ◌∙◌, subst, arith}
+use Rattle.std.proofs.Common.{◌≡◌, ℕ, zero, suc, ◌+◌, ◌<◌, ◌≤◌, ◌==◌, if◌then◌else◌, inl, inr, Bool, false, List, [], ◌∷◌, ◌++◌, length, map, filter, refl, sym, ap, ◌∙◌, subst, arith, rules}
 use Rattle.std.specs.List.{flat_map, range_with_len, AllByRecursion, list_any}
 use Rattle.std.specs.Bool.{⊤}
 use Rattle.std.proofs.lemmas.Bool.{false≢true}
@@ -8,7 +8,7 @@ use Rattle.clk_sched.specs.declared.visit.Visit.{Visit}
 use Rattle.clk_packet.specs.Scheduler.{Scheduler}
 use Rattle.clk_sched.specs.Tree.{Row, leaf, node, Tree, root, nodes}
 use Rattle.clk_sched.specs.Turns.{Turn, EachAfter, all_visits}
-use Rattle.clk_sched.specs.Log.{visits_of, in_pull, pulls, block, turn, asks, pulls_below}
+use Rattle.clk_sched.specs.Log.{visits_of, in_pull, pulls, block, turn, pulls_below}
 use Rattle.clk_sched.specs.Laws.{Manner, Follows}
 use Rattle.clk_sched.specs.Run.{IsRun}
 use Rattle.clk_packet.specs.Lists.{In}
@@ -34,11 +34,7 @@ rising-less log m n (p ∷ ps) l h = (h.0, let k = h.1 in omega arith, h.2, h.3,
 
 rising-filter : (log : List Visit) (test : List Visit → Bool) (least : ℕ) (ps : List (List Visit)) → Rising log least ps → Rising log least (filter test ps)
 rising-filter log test least [] h = tt
-rising-filter log test least (p ∷ ps) h = by_test (test p) (rising-filter log test (h.0 + 1) ps h.4)
-  where
-    by_test : (b : Bool) → Rising log (h.0 + 1) (filter test ps) → Rising log least (if b then p ∷ filter test ps else filter test ps)
-    by_test true rest = (h.0, h.1, h.2, h.3, rest)
-    by_test false rest = rising-less log least (h.0 + 1) (filter test ps) (let k = h.1 in omega arith) rest
+rising-filter log test least (p ∷ ps) h = search (rules, rising-less, (rising-filter log test (h.0 + 1) ps h.4))
 
 -- a pull of a log, by its number
 pub record IsPullOf (log pull : List Visit) : Type 0 where
@@ -54,7 +50,7 @@ rising-in log least (r ∷ ps) p h (inr m) = rising-in log (h.0 + 1) ps p h.4 m
 -- visits of one pull that end where one passed, before visits of later pulls
 ordered-append : (k : ℕ) (us ws : List Visit) → AllByRecursion (λ (v : Visit). v.pull ≡ k) us → PassesLast us → AllByRecursion (λ (v : Visit). k < v.pull) ws → IsOrdered ws → IsOrdered (us ++ ws)
 ordered-append k [] ws h l a o = o
-ordered-append k (v ∷ us) ws h l a o = (all-append (IsLater v) us ws (by_passed v.passed refl) (later ws a), ordered-append k us ws h.1 l.1 a o)
+ordered-append k (v ∷ us) ws h l a o = (all-append (IsLater v) us ws (search (rules, same)) (later ws a), ordered-append k us ws h.1 l.1 a o)
   where
     later : (xs : List Visit) → AllByRecursion (λ (w : Visit). k < w.pull) xs → AllByRecursion (IsLater v) xs
     later [] b = tt
@@ -63,10 +59,6 @@ ordered-append k (v ∷ us) ws h l a o = (all-append (IsLater v) us ws (by_passe
     same : v.passed ≡ false → (xs : List Visit) → AllByRecursion (λ (w : Visit). w.pull ≡ k) xs → AllByRecursion (IsLater v) xs
     same f [] b = tt
     same f (w ∷ xs) b = (record { pull = let e = h.0 in let m = b.0 in omega arith; passed = λ t. absurd (false≢true (sym f ∙ t)) }, same f xs b.1)
-
-    by_passed : (b : Bool) → v.passed ≡ b → AllByRecursion (IsLater v) us
-    by_passed true t = subst (AllByRecursion (IsLater v)) (sym (l.0 t)) tt
-    by_passed false f = same f us h.1
 
 pub ordered-turns : (log : List Visit) (x least : ℕ) (ps : List (List Visit)) → Rising log least ps → AllByRecursion (λ p. PassesLast (visits_of x p)) ps
     → IsOrdered (flat_map (visits_of x) ps) × AllByRecursion (λ (v : Visit). least ≤ v.pull) (flat_map (visits_of x) ps)
@@ -88,16 +80,11 @@ flat_map-filter test f [] h = refl
 flat_map-filter test f (x ∷ xs) h = by_test (test x) (h x (inl refl)) (flat_map-filter test f xs (λ y m. h y (inr m)))
   where
     by_test : (b : Bool) → (b ≡ false → f x ≡ []) → flat_map f xs ≡ flat_map f (filter test xs) → f x ++ flat_map f xs ≡ flat_map f (if b then x ∷ filter test xs else filter test xs)
-    by_test true e rest = ap (λ l. f x ++ l) rest
-    by_test false e rest = ap₂ (λ l m. l ++ m) (e refl) rest
+    by_test b e rest = search rules
 
 pub copies-unasked : {X Y : Type 0} (test : X → Bool) (ys : List Y) (xs : List X) → list_any test xs ≡ false → copies test ys xs ≡ []
 copies-unasked test ys [] e = refl
-copies-unasked test ys (x ∷ xs) e = by_test (test x) e (copies-unasked test ys xs)
-  where
-    by_test : (b : Bool) → (b || list_any test xs) ≡ false → (list_any test xs ≡ false → copies test ys xs ≡ []) → (if b then ys else []) ++ copies test ys xs ≡ []
-    by_test true k rest = absurd (false≢true (sym k))
-    by_test false k rest = rest k
+copies-unasked test ys (x ∷ xs) e = search (rules, false≢true, (copies-unasked test ys xs))
 
 -- a row that stands at the inputs of a node, and the pulls in which the node is pulled
 pub record IsPulledIn (log : List Visit) (above first next : ℕ) (row : Row) (pulled : List (List Visit)) : Type 0 where
@@ -109,50 +96,15 @@ pub record IsPulledIn (log : List Visit) (above first next : ℕ) (row : Row) (p
 
 pub pulled-after_leaf : (log : List Visit) (above first next q : ℕ) (row : Row) (pulled : List (List Visit)) → IsPulledIn log above first next (leaf q row) pulled
     → IsPulledIn log above (suc first) next row pulled
-pulled-after_leaf log above first next q row pulled h =
-    record {
-      ordered = h.ordered;
-      owns = λ y l m p k. owns-after_leaf y p above first next q row (h.owns y l m p k);
-      own_visits = h.own_visits;
-      below_visits = h.below_visits;
-      rising = h.rising;
-    }
+pulled-after_leaf log above first next q row pulled h = search (rules, owns-after_leaf)
 
 pub pulled-after_node : (log : List Visit) (above first next : ℕ) (class : Scheduler) (inputs row : Row) (pulled : List (List Visit))
     → IsPulledIn log above first next (node class inputs row) pulled → IsPulledIn log above (suc first) (suc (next + nodes inputs)) row pulled
-pulled-after_node log above first next class inputs row pulled h =
-    record {
-      ordered = let o = h.ordered in omega arith;
-      owns = λ y l m p k. owns-after_node y p above first next class inputs row l (h.owns y (omega arith) (omega arith) p k);
-      own_visits = h.own_visits;
-      below_visits = λ y l m. h.below_visits y (omega arith) (omega arith);
-      rising = h.rising;
-    }
+pulled-after_node log above first next class inputs row pulled h = search (rules, owns-after_node)
 
 pub pulled-inputs : (log : List Visit) (above first next : ℕ) (class : Scheduler) (inputs row : Row) (pulled : List (List Visit))
     → IsPulledIn log above first next (node class inputs row) pulled → IsPulledIn log next 0 (suc next) inputs (pulls_below above first pulled)
-pulled-inputs log above first next class inputs row pulled h =
-    record {
-      ordered = omega arith;
-      owns = λ y l m p k. let inside = (in-filter asked p pulled k).0 in own y p l (omega arith) inside;
-      own_visits = h.below_visits next (omega arith) (omega arith) ∙ flat_map-filter asked (visits_of next) pulled self_none;
-      below_visits =
-          λ y l m. h.below_visits y (omega arith) (omega arith)
-          ∙ flat_map-filter asked (visits_of y) pulled (λ p k e. own y p l (omega arith) k ∙ ap (flat_map _) (self_none p k e));
-      rising = rising-filter log asked 0 pulled h.rising;
-    }
-  where
-    asked : List Visit → Bool
-    asked p = list_any (asks first) (visits_of above p)
-
-    self : (p : List Visit) → In p pulled → Owns next p above first next (node class inputs row)
-    self p k = h.owns next (omega arith) (omega arith) p k
-
-    self_none : (p : List Visit) → In p pulled → asked p ≡ false → visits_of next p ≡ []
-    self_none p k e = owns-self p above first next class inputs row (self p k) ∙ copies-unasked (asks first) (visits_of next p) (visits_of above p) e
-
-    own : (y : ℕ) (p : List Visit) → suc next ≤ y → y < suc (next + nodes inputs) → In p pulled → Owns y p next 0 (suc next) inputs
-    own y p l m k = owns-inputs y p above first next class inputs row l m (self p k) (h.owns y (omega arith) (omega arith) p k)
+pulled-inputs log above first next class inputs row pulled h = search (rules, in-filter, flat_map-filter, rising-filter, owns-self, copies-unasked, owns-inputs)
 
 -- a node's turns have all its visits
 pub turns-visits : (log : List Visit) (above first next : ℕ) (class : Scheduler) (inputs row : Row) (pulled : List (List Visit)) → IsPulledIn log above first next (node class inputs row) pulled

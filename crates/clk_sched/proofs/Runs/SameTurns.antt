@@ -1,17 +1,14 @@
 -- Each manner settles a turn by what was got: two turns after the same earlier ones, in which like visits get alike, are alike.
-use Rattle.std.proofs.Common.{◌≡◌, ℕ, zero, suc, Bool, true, false, not, List, [], ◌∷◌, ◌++◌, map, filter, Option, Some, None, is_some, MatchOption, MatchBool, inl, inr, refl, sym, ap, ap₂, ◌∙◌, subst, append_assoc}
+use Rattle.std.proofs.Common.{◌≡◌, ℕ, zero, suc, Bool, false, List, [], ◌∷◌, ◌++◌, Option, MatchOption, MatchBool, inl, inr, refl, sym, ap, ap₂, ◌∙◌, subst, append_assoc, rules}
 use Rattle.std.specs.List.{flat_map}
-use Rattle.std.specs.Bool.{⊤}
-use Rattle.std.proofs.lemmas.Bool.{false≢true}
 use Rattle.std.proofs.lemmas.List.{map-append, append_cancel_left}
 use Rattle.std.proofs.lemmas.List.Elements.{filter-append}
 use Rattle.clk_packet.specs.declared.packet.Packet.{Packet}
 use Rattle.clk_sched.specs.declared.visit.Visit.{Visit}
 use Rattle.clk_sched.specs.Tree.{Tree}
-use Rattle.clk_sched.specs.Turns.{Turn, EachAfter, UpToFirst, IsPlain, AsksInOrder, visits_before}
-use Rattle.clk_sched.specs.Heads.{head_at, is_covered, LooksAtHeads, EndAtPass}
-use Rattle.clk_sched.specs.Laws.{Manner, in_order, with_heads, Follows}
-use Rattle.clk_sched.specs.Results.{asks_queue}
+use Rattle.clk_sched.specs.Turns.{Turn, EachAfter, UpToFirst, IsPlain, AsksInOrder}
+use Rattle.clk_sched.specs.Heads.{LooksAtHeads, EndAtPass}
+use Rattle.clk_sched.specs.Laws.{Manner, Follows}
 use Rattle.clk_sched.specs.Choice.{answers_of, GoAlike}
 use Rattle.clk_packet.specs.Lists.{In}
 
@@ -20,9 +17,7 @@ abbrev pub AnswerAlike : Tree → (xs ys : List Visit) → Type 0
 AnswerAlike tree xs ys = (q : ℕ) → GoAlike (answers_of tree q xs) (answers_of tree q ys)
 
 answers-append : (tree : Tree) (q : ℕ) (xs ys : List Visit) (more : List (Option Packet)) → answers_of tree q (xs ++ ys) ++ more ≡ answers_of tree q xs ++ (answers_of tree q ys ++ more)
-answers-append tree q xs ys more =
-    ap (λ vs. map (λ (v : Visit). v.got) vs ++ more) (filter-append (asks_queue tree q) xs ys)
-    ∙ ap (λ os. os ++ more) (map-append (λ (v : Visit). v.got) (filter (asks_queue tree q) xs) (filter (asks_queue tree q) ys)) ∙ append_assoc (answers_of tree q xs) (answers_of tree q ys) more
+answers-append tree q xs ys more = search (rules, filter-append, map-append, append_assoc)
 
 -- parts that answer alike begin alike
 pub begin-alike : (tree : Tree) (ws xs ys zs : List Visit) → AnswerAlike tree (ws ++ xs) (ys ++ zs) → AnswerAlike tree ws ys
@@ -78,13 +73,7 @@ and-then d v u vs us alike like rest e =
     record { visits = ap₂ (λ w ws. w ∷ ws) first.0 more.visits; parts = ap₂ (λ x xs. x ++ xs) first.1 more.parts }
 
 plain-like : (v u : Visit) → IsPlain v → IsPlain u → v.input ≡ u.input → AreLike v u
-plain-like v u p q same =
-    record {
-      input = same;
-      fresh = p.fresh ∙ sym q.fresh;
-      held = λ f. absurd (false≢true (sym f ∙ p.fresh));
-      passed = λ g. p.passed ∙ ap is_some g ∙ sym q.passed;
-    }
+plain-like v u p q same = search rules
 
 -- visits in the same order, up to the first that got a packet
 pub plain-same : (d : Sides) (order : List ℕ) (vs us : List Visit) → GetAlike d vs us → AsksInOrder order vs → AsksInOrder order us
@@ -101,24 +90,10 @@ plain-same d (i ∷ order) (v ∷ vs) (u ∷ us) alike p q e =
   where
     by_got : (o : Option Packet) → MatchOption o (UpToFirst order vs) (λ _. vs ≡ []) → MatchOption o (UpToFirst order us) (λ _. us ≡ [])
         → (UpToFirst order vs → UpToFirst order us → AreSameVisits d vs us) → AreSameVisits d vs us
-    by_got None a b rest = rest a b
-    by_got (Some x) a b rest = none-left d vs us a b
+    by_got o a b rest = search rules
 
 looks-like : (turn_of : List Visit → ℕ) (covers : List Visit → ℕ → Packet → Bool) (earlier : List Visit) (v u : Visit) → LooksAtHeads turn_of covers earlier v → LooksAtHeads turn_of covers earlier u → AreLike v u
-looks-like turn_of covers earlier v u p q =
-    record {
-      input = same;
-      fresh = p.fresh ∙ ap (λ i. not (is_some (head_at i earlier))) same ∙ sym q.fresh;
-      held = λ f. by_head (head_at v.input earlier) (sym f ∙ p.fresh) p.looks (subst (λ i. MatchOption (head_at i earlier) ⊤ (λ x. u.got ≡ Some x)) (sym same) q.looks);
-      passed = λ g. p.passes ∙ ap₂ (λ i o. is_covered (covers earlier i) o) same g ∙ sym q.passes;
-    }
-  where
-    same : v.input ≡ u.input
-    same = p.in_turn ∙ sym q.in_turn
-
-    by_head : (o : Option Packet) → false ≡ not (is_some o) → MatchOption o ⊤ (λ x. v.got ≡ Some x) → MatchOption o ⊤ (λ x. u.got ≡ Some x) → v.got ≡ u.got
-    by_head None f a b = absurd (false≢true f)
-    by_head (Some x) f a b = a ∙ sym b
+looks-like turn_of covers earlier v u p q = search rules
 
 heads-same : (d : Sides) (turn_of : List Visit → ℕ) (covers : List Visit → ℕ → Packet → Bool) (left : ℕ) (earlier vs us : List Visit) → GetAlike d vs us
     → EachAfter (LooksAtHeads turn_of covers) earlier vs → EachAfter (LooksAtHeads turn_of covers) earlier us → EndAtPass left vs → EndAtPass left us
@@ -132,12 +107,9 @@ heads-same d turn_of covers (suc left) earlier (v ∷ vs) (u ∷ us) alike p q a
     (λ c k. heads-same d turn_of covers left (v ∷ earlier) vs us more p.1 (subst (λ w. EachAfter (LooksAtHeads turn_of covers) (w ∷ earlier) us) (sym same) q.1) c k f)) e
   where
     by_passed : (m : Bool) → MatchBool m (vs ≡ []) (EndAtPass left vs) → MatchBool m (us ≡ []) (EndAtPass left us) → (EndAtPass left vs → EndAtPass left us → AreSameVisits d vs us) → AreSameVisits d vs us
-    by_passed true a b rest = none-left d vs us a b
-    by_passed false a b rest = rest a b
+    by_passed m a b rest = search rules
 
 -- two turns in one manner after the same earlier ones
 pub turn-same : (d : Sides) (m : Manner) (inputs : ℕ) (earlier : List Turn) (t u : Turn) → GetAlike d t.visits u.visits → Follows m inputs earlier t → Follows m inputs earlier u → t.moment ≡ u.moment
     → AnswerAlike d.tree (flat_map d.one t.visits) (flat_map d.other u.visits) → AreSameVisits d t.visits u.visits
-turn-same d (in_order order) inputs earlier t u alike p q now e =
-    plain-same d (order earlier t.moment) t.visits u.visits alike p (subst (λ moment. AsksInOrder (order earlier moment) u.visits) (sym now) q) e
-turn-same d (with_heads turn_of covers) inputs earlier t u alike p q now e = heads-same d turn_of covers inputs (visits_before earlier) t.visits u.visits alike p.0 q.0 p.1 q.1 e
+turn-same d m inputs earlier t u alike p q now e = search (rules, plain-same, heads-same)

@@ -1,24 +1,17 @@
 -- Runs of a PrioSched over one queue, pull by pull.
-use Rattle.std.proofs.Common.{◌≡◌, ℕ, ◌≤◌, List, [], ◌∷◌, ◌++◌, length, map, Option, Some, None, is_some, if◌then◌else◌, refl, lit≤}
+use Rattle.std.proofs.Common.{◌≡◌, ℕ, ◌≤◌, List, [], ◌∷◌, ◌++◌, length, map, Option, refl, lit≤, rules}
 use Rattle.clk_packet.specs.declared.packet.Packet.{Packet}
 use Rattle.clk_sched.specs.declared.visit.Visit.{Visit}
 use Rattle.clk_sched.specs.Turns.{AsksInOrder}
 use Rattle.clk_sched.specs.Log.{asking, pulls, moment_of, NeverFalls}
 use Rattle.clk_sched.specs.Run.{IsRun}
 use Rattle.clk_sched.specs.Step.{IsNextPull}
-use Rattle.clk_sched.specs.Examples.Priority.{p0_0}
 use Rattle.clk_sched.specs.Examples.Draining.{over_queue, pull_giving, first_two}
 use Rattle.clk_sched.proofs.Runs.GoesOn.{goes-on}
 
 -- a node asked its one input
 asks-one : (k t x : ℕ) (o : Option Packet) → AsksInOrder (0 ∷ []) (asking k t x 0 o ∷ [])
-asks-one k t x None = record { plain = (record { fresh = refl; passed = refl }, tt); in_order = (refl, tt) }
-asks-one k t x (Some p) = record { plain = (record { fresh = refl; passed = refl }, tt); in_order = (refl, refl) }
-
--- what it got is its result
-got-is-result : (o : Option Packet) → o ≡ (if is_some o then o else None)
-got-is-result None = refl
-got-is-result (Some p) = refl
+asks-one k t x o = search rules
 
 -- Such a run goes on by each pull of the next number, at a moment that is no earlier.
 pub goes-on-giving : (q k t : ℕ) (o : Option Packet) (log : List Visit) → IsRun (over_queue q) log → k ≡ length (pulls log) → NeverFalls 0 (map moment_of (pulls log ++ pull_giving k t o ∷ []))
@@ -26,20 +19,11 @@ pub goes-on-giving : (q k t : ℕ) (o : Option Packet) (log : List Visit) → Is
 goes-on-giving q k t o log run number moments = ((goes-on (over_queue q)).step log (pull_giving k t o) run next).run
   where
     next : IsNextPull (over_queue q) log (pull_giving k t o)
-    next =
-        record {
-          number = (number, (number, tt));
-          whole = refl;
-          one_moment = (refl, (refl, tt));
-          moments = moments;
-          device = asks-one k t 0 o;
-          below = (λ _. (record { within = (lit≤ tt, tt); follows = asks-one k t 1 o }, tt), (got-is-result o, tt), tt);
-        }
+    next = search rules
 
 -- the run of its first two pulls
 pub run-of-two : (q : ℕ) → IsRun (over_queue q) first_two
-run-of-two q =
-    goes-on-giving q 1 5 None (pull_giving 0 3 (Some p0_0)) (goes-on-giving q 0 3 (Some p0_0) [] ((goes-on (over_queue q)).start) refl (lit≤ tt, tt)) refl (lit≤ tt, (lit≤ tt, tt))
+run-of-two q = search rules
 
 -- the runs of these and of one or two pulls more
 pub run-of-three : (q m : ℕ) (o : Option Packet) → 5 ≤ m → IsRun (over_queue q) (first_two ++ pull_giving 2 m o)

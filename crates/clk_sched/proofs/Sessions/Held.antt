@@ -1,5 +1,6 @@
 -- What the states of nodes hold as heads is what their visits say.
-use Rattle.std.proofs.Common.{◌≡◌, ℕ, zero, suc, ◌+◌, ◌<◌, ◌==◌, List, [], ◌∷◌, ◌++◌, length, map, reverse, take, get_or, Option, Some, None, MatchOption, slice_get, refl, sym, ap, ap₂, ◌∙◌, append_assoc, append-nil, arith}
+use Rattle.std.proofs.lemmas.Grind.{common_steps}
+use Rattle.std.proofs.Common.{◌≡◌, ℕ, zero, suc, ◌+◌, ◌<◌, ◌==◌, List, [], ◌∷◌, ◌++◌, length, map, reverse, take, get_or, Option, Some, None, MatchOption, slice_get, refl, sym, ap, ap₂, ◌∙◌, append_assoc, append-nil, arith, rules}
 use Rattle.std.specs.List.{flat_map, filter_map, cons_option, range_with_len}
 use Rattle.std.proofs.lemmas.List.{take_more, map-append, reverse-append}
 use Rattle.std.proofs.lemmas.List.Elements.{filter_map-append}
@@ -14,12 +15,12 @@ use Rattle.clk_packet.specs.Scheduler.{Scheduler, prio, drr}
 use Rattle.clk_sched.specs.Tree.{Row, end, leaf, node, Tree, root, nodes, width}
 use Rattle.clk_sched.specs.Turns.{Turn, visits_before}
 use Rattle.clk_sched.specs.Heads.{head_at}
-use Rattle.clk_sched.specs.Log.{visits_of, pulls, moment_of}
+use Rattle.clk_sched.specs.Log.{visits_of, pulls}
 use Rattle.clk_sched.specs.Laws.{manner}
 use Rattle.clk_sched.specs.inside.Holds.OfClass.{Holds}
 use Rattle.clk_sched.specs.Results.{heads, Traced, traced, held_at, own_heads, traced_heads}
 use Rattle.clk_sched.specs.Run.{IsRun}
-use Rattle.clk_sched.specs.inside.Pulling.{History, with_turn, EachHolds}
+use Rattle.clk_sched.specs.inside.Pulling.{History, EachHolds}
 use Rattle.clk_sched.specs.inside.Session.{history_of, IsAfterRun}
 use Rattle.clk_sched.specs.inside.Held.{heads_in, heads_of, heads_of_all}
 use Rattle.clk_sched.proofs.Runs.Blocks.{filter-flat_map}
@@ -27,23 +28,16 @@ use Rattle.clk_sched.proofs.Runs.Pulled.{joined}
 
 -- what is there of the members up to the next
 pub filter_map-more : {X Y : Type 0} (h : X → Option Y) (xs : List X) (i : ℕ) (x : X) → i < length xs → x ≡ get_or xs i x → filter_map h (take (i + 1) xs) ≡ filter_map h (take i xs) ++ cons_option (h x) []
-filter_map-more h xs i x l e =
-    ap (filter_map h) (take_more xs i x l ∙ ap (λ y. take i xs ++ y ∷ []) (sym e)) ∙ filter_map-append h (take i xs) (x ∷ [])
+filter_map-more h xs i x l e = grind (arith, common_steps, take_more, filter_map-append)
 
 -- A history has all visits of a node.
 pub visits-history : (ps : List (List Visit)) (x : ℕ) → visits_before (history_of ps x) ≡ flat_map (λ p. reverse (visits_of x p)) ps
 visits-history [] x = refl
-visits-history (p ∷ ps) x = by_visits (visits_of x p) ∙ ap (λ l. reverse (visits_of x p) ++ l) (visits-history ps x)
-  where
-    by_visits : (visits : List Visit) → visits_before (with_turn (moment_of p) visits (history_of ps x)) ≡ reverse visits ++ visits_before (history_of ps x)
-    by_visits [] = refl
-    by_visits (v ∷ visits) = refl
+visits-history (p ∷ ps) x = search (rules, (visits-history ps x))
 
 flat_map-reverse : {X Y : Type 0} (f : X → List Y) (xs : List X) → flat_map (λ x. reverse (f x)) (reverse xs) ≡ reverse (flat_map f xs)
 flat_map-reverse f [] = refl
-flat_map-reverse f (x ∷ xs) =
-    ap (flat_map (λ y. reverse (f y))) (reverse-append (x ∷ []) xs) ∙ flat_map-append (λ y. reverse (f y)) (reverse xs) (x ∷ [])
-    ∙ ap₂ (λ l m. l ++ m) (flat_map-reverse f xs) (append-nil (reverse (f x))) ∙ sym (reverse-append (f x) (flat_map f xs))
+flat_map-reverse f (x ∷ xs) = grind (arith, common_steps, reverse-append, flat_map-append, append-nil, (flat_map-reverse f xs))
 
 -- The visits in the history of a node are all that it made, the latest first.
 pub visits-of_run : (tree : Tree) (log : List Visit) → IsRun tree log → (x : ℕ) → visits_before (history_of (reverse (pulls log)) x) ≡ reverse (visits_of x log)
@@ -56,12 +50,10 @@ abbrev without_origins : List Traced → List Packet
 without_origins ts = map (λ (t : Traced). t.0) ts
 
 traced-packet : (o : Option Packet) (origin : Option ℕ) → without_origins (traced o origin) ≡ cons_option o []
-traced-packet None origin = refl
-traced-packet (Some p) origin = refl
+traced-packet o origin = search rules
 
 cons-append : {X : Type 0} (o : Option X) (xs : List X) → cons_option o xs ≡ cons_option o [] ++ xs
-cons-append None xs = refl
-cons-append (Some x) xs = refl
+cons-append o xs = search rules
 
 -- the heads of inputs from one on
 heads-of_inputs : (log : List Visit) (x : ℕ) (inputs : Row) (row : List Served) (i n : ℕ) → length row ≡ n
@@ -115,8 +107,7 @@ from-all (s ∷ states) = ap (λ l. heads_of s ++ l) (from-later s states 0 (len
 -- what is held by the node of a number
 held-there : (log : List Visit) (x : ℕ) (class : Scheduler) (inputs : Row) (turns : List Turn) (o : Option State) → visits_before turns ≡ reverse (visits_of x log)
     → MatchOption o ⊥ (Holds class (width inputs) turns) → heads_there o ≡ without_origins (own_heads log x inputs (manner class (width inputs)))
-held-there log x class inputs turns None e h = absurd h
-held-there log x class inputs turns (Some s) e h = heads-of_node log x class inputs turns s e h
+held-there log x class inputs turns o e h = search (rules, heads-of_node)
 
 -- the heads of a row
 heads-of_row : (log : List Visit) (states : List State) (history : History) (next : ℕ) (row : Row) → ((x : ℕ) → visits_before (history x) ≡ reverse (visits_of x log))

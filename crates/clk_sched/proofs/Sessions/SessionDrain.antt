@@ -1,8 +1,6 @@
 -- A session that is drained, pull by pull.
-use Rattle.std.proofs.Common.{◌≡◌, ◌≢◌, ℕ, ◌+◌, ◌<◌, ◌≤◌, ◌==◌, if◌then◌else◌, Bool, map, filter, true, List, [], ◌∷◌, ◌++◌, length, reverse, drop, Option, Some, None, is_some, false, refl, sym, ap, ap₂, ◌∙◌, subst, append-nil, append_assoc, arith}
+use Rattle.std.proofs.Common.{◌≡◌, ℕ, ◌+◌, ◌<◌, ◌≤◌, if◌then◌else◌, Bool, map, filter, true, List, [], ◌∷◌, ◌++◌, length, reverse, drop, Option, Some, None, is_some, false, refl, sym, ap, ap₂, ◌∙◌, subst, append-nil, append_assoc, arith, rules}
 use Rattle.std.specs.List.{flat_map, range_with_len, cons_option}
-use Rattle.std.proofs.lemmas.Bool.{false≢true}
-use Rattle.std.proofs.lemmas.Bool.Decides.{nat_tests}
 use Rattle.std.proofs.Math.Seq.{drop-append_seam}
 use Rattle.std.proofs.lemmas.List.{map-append, reverse-append, length-append}
 use Rattle.std.proofs.lemmas.List.Concat.{flat_map-append}
@@ -18,8 +16,7 @@ use Rattle.clk_sched.specs.Drain.{GivesAll}
 use Rattle.clk_sched.specs.Tree.{Tree, root, queue_at, is_number, leaves_distinct, IsSound}
 use Rattle.clk_sched.specs.Results.{asks_queue}
 use Rattle.clk_sched.specs.Choice.{answers_of}
-use Rattle.clk_sched.specs.Closing.{GivesOut, TakesOne, LosesNothing, left_in}
-use Rattle.clk_sched.proofs.Lists.Numbers.{equal}
+use Rattle.clk_sched.specs.Closing.{GivesOut, LosesNothing, left_in}
 use Rattle.clk_sched.proofs.Nodes.Asking.{answers-then}
 use Rattle.clk_sched.proofs.Closing.Emptied.{IsClosingPull, IsEmptied, emptied-more}
 use Rattle.clk_sched.proofs.Lists.Ranges.{range-append}
@@ -104,12 +101,10 @@ draining-more gives old s t p q r moment made given left got d l once told =
     more = drained-more old s t moment made given got d.drained d.counted once
 
     by_enough : (o : Option Packet) → given + one_if o ≤ left
-    by_enough None = omega arith
-    by_enough (Some x) = omega arith
+    by_enough o = search rules
 
     by_got : (o : Option Packet) → o ≡ result_of (visits_of 0 (newly s t)) → given + one_if o ≡ left → LastGives (d.drained.more ++ newly s t ∷ [])
-    by_got None e f = absurd (omega (arith, f, l))
-    by_got (Some x) e f = last-more d.drained.more (newly s t) (ap is_some (sym e))
+    by_got o e f = search (rules, last-more, more)
 
     whole : t.log ≡ old.log ++ (newly old s ++ newly s t)
     whole =
@@ -122,11 +117,6 @@ draining-all gives old t p r moment made given left h l within =
     let all : given ≡ left = let e = h.enough in omega (arith, e, l) in
     let g : GivesAll old t moment made given = record { within = subst (λ n. made ≤ closing_bound old.tree n) (sym all) within; drained = h.drained; stops = h.stops all } in
     subst (λ n. GivesAll old t moment made n) all g
-
--- what an asker that loses nothing answered, queue by queue
-gives-then : (old mid new : ℕ) (o : Option Packet) (answers : List (Option Packet)) → GivesOut old (o ∷ []) mid → GivesOut mid answers new → GivesOut old (o ∷ answers) new
-gives-then old mid new None answers h k = (h.0, subst (λ l. GivesOut l answers new) (sym h.1) k)
-gives-then old mid new (Some p) answers h k = (h.0, h.1, subst (λ l. GivesOut l answers new) (sym h.2) k)
 
 answers-give : {S : Type 0} (gives : S → ℕ → Option Packet → S → Type 0) (holds : S → ℕ → ℕ) (tree : Tree) (q : ℕ) → LosesNothing gives holds → (visits : List Visit) (a b : S) → Answers gives (tree_queue tree) a visits b
     → GivesOut (holds a q) (answers_of tree q visits) (holds b q)
@@ -142,28 +132,13 @@ answers-give {S = S} gives holds tree q keeps (v ∷ visits) a b h = by_fresh v.
     Rest : Type 0
     Rest = (s : S) → Answers gives (tree_queue tree) s visits b → GivesOut (holds s q) (told rest) (holds b q)
 
-    by_queue : (p : ℕ) (same : Bool) → (p == q) ≡ same → (c : S) → TakesOne (holds a) (holds c) p v.got → GivesOut (holds c q) (told rest) (holds b q) → GivesOut (holds a q) (told (if same then v ∷ rest else rest)) (holds b q)
-    by_queue p true e c taken k =
-        let at : p ≡ q = grind (arith, nat_tests) in
-        gives-then (holds a q) (holds c q) (holds b q) v.got (told rest) (subst (λ n. GivesOut (holds a n) (v.got ∷ []) (holds c n)) at taken.here) k
-    by_queue p false e c taken k =
-        let other : q ≢ p = (λ f. false≢true (sym e ∙ equal p q (sym f))) in
-        subst (λ l. GivesOut l (told rest) (holds b q)) (taken.others q other) k
-
     by_fresh : (f : Bool) (o : Option ℕ) → at_queue gives (if f then o else None) v.got a (λ c. Answers gives (tree_queue tree) c visits b) → Rest → GivesOut (holds a q) (told (if is_number q (if f then o else None) then v ∷ rest else rest)) (holds b q)
-    by_fresh false o k more = more a k
-    by_fresh true None k more = more a k
-    by_fresh true (Some p) k more = by_queue p (p == q) refl k.0 (keeps a p v.got k.0 k.1) (more k.0 k.2)
+    by_fresh f o k more = search rules
 
 -- the closing of a session over an asker that loses nothing: a closing pull
 pub closing-pull : {S : Type 0} (gives : S → ℕ → Option Packet → S → Type 0) (holds : S → ℕ → ℕ) (s t : Progress) (a b : S) (moment : ℕ) (got : Option Packet) → LosesNothing gives holds → counted_moment s ≤ moment
     → IsPulledOnce s t (moment + 1) got → Answers gives (tree_queue s.tree) a (newly s t) b → IsClosingPull s.tree s.log (newly s t) moment (holds a) (holds b)
-closing-pull gives holds s t a b moment got keeps counted once told =
-    record {
-      goes_on = record { run = subst (IsRun s.tree) once.log (subst (λ tree. IsRun tree t.log) once.tree once.run); last = ap pulls (sym once.log) ∙ once.last };
-      at_moment = let e = once.at_moment in omega (arith, e, counted);
-      gives = λ q. answers-give gives holds s.tree q keeps (newly s t) a b told;
-    }
+closing-pull gives holds s t a b moment got keeps counted once told = search (rules, answers-give)
 
 -- A drain so far, over an asker that loses nothing and holds with the heads all that is left.
 abbrev pub Empties : {S : Type 0} → (S → ℕ → Option Packet → S → Type 0) → (S → ℕ → ℕ) → (old now : Progress) → (before after : S) → (made given left : ℕ) → Type 0

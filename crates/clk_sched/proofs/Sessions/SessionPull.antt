@@ -1,5 +1,5 @@
 -- One pull of a session: what its nodes did is the next pull of its run.
-use Rattle.std.proofs.Common.{◌≡◌, ℕ, suc, ◌+◌, ◌<◌, ◌≤◌, max, List, [], ◌∷◌, ◌++◌, length, map, reverse, if◌then◌else◌, Option, Some, None, MatchOption, refl, sym, ap, ◌∙◌, subst, append-nil, append_assoc, arith}
+use Rattle.std.proofs.Common.{◌≡◌, ℕ, suc, ◌+◌, ◌<◌, ◌≤◌, max, List, [], ◌∷◌, ◌++◌, length, map, reverse, if◌then◌else◌, Option, None, refl, sym, ap, ◌∙◌, subst, append-nil, append_assoc, arith, rules}
 use Rattle.std.specs.List.{AllByRecursion, filter_map, cons_option}
 use Rattle.std.proofs.lemmas.List.{map-append, reverse-append, length-append}
 use Rattle.clk_packet.specs.declared.packet.Packet.{Packet}
@@ -7,7 +7,7 @@ use Rattle.clk_sched.specs.declared.visit.Visit.{Visit}
 use Rattle.clk_sched.specs.declared.session.nodes.Nodes.{Nodes}
 use Rattle.clk_packet.specs.Scheduler.{prio}
 use Rattle.clk_sched.specs.Tree.{Tree, root, nodes}
-use Rattle.clk_sched.specs.Turns.{Turn, UpToFirst, AsksInOrder}
+use Rattle.clk_sched.specs.Turns.{Turn, AsksInOrder}
 use Rattle.clk_sched.specs.Log.{visits_of, pulls, moment_of, result_of, turn, NeverFalls}
 use Rattle.clk_sched.specs.Laws.Device.{IsDeviceTurn}
 use Rattle.clk_sched.specs.Results.{emitted}
@@ -53,8 +53,7 @@ latest-pulls ps = latest-onto ps [] ∙ ap latest_moment (append-nil (reverse ps
 
 -- no turn of a history is after the moments of its pulls
 with_turn-before : (moment at : ℕ) (visits : List Visit) (turns : List Turn) → at ≤ moment → AreBefore moment turns → AreBefore moment (with_turn at visits turns)
-with_turn-before moment at [] turns l h = h
-with_turn-before moment at (v ∷ visits) turns l h = (l, h)
+with_turn-before moment at visits turns l h = search rules
 
 history-before : (moment : ℕ) (ps : List (List Visit)) (x : ℕ) → AllByRecursion (λ p. moment_of p ≤ moment) ps → AreBefore moment (history_of ps x)
 history-before moment [] x h = tt
@@ -69,11 +68,7 @@ runs-before : (tree : Tree) (log : List Visit) (moment : ℕ) → IsRun tree log
 runs-before tree log moment run past y = history-before moment (reverse (pulls log)) y early
   where
     early : AllByRecursion (λ p. moment_of p ≤ moment) (reverse (pulls log))
-    early =
-        all-reverse (λ p. moment_of p ≤ moment) (pulls log)
-        (all-of-map (pulls log) moment
-        (all-weaker (λ n. n ≤ latest 0 (map moment_of (pulls log))) (λ n. n ≤ moment) (map moment_of (pulls log)) (λ n l. let g = latest-pulls (pulls log) in omega (arith, past, g, l))
-        (never-all 0 (map moment_of (pulls log)) run.shape.moments)))
+    early = search (rules, all-reverse, all-of-map, all-weaker, latest-pulls, never-all)
 
 pub run-before : (tree : Tree) (n : Nodes) → IsAfterRun tree n → (y : ℕ) → AreBefore n.moment (history_of (reverse (pulls n.log.items)) y)
 run-before tree n run = runs-before tree n.log.items n.moment run.run (let e = run.moment in omega (arith, e))
@@ -178,36 +173,15 @@ session-pulled tree a ready pulled moment most got run readied keeps pull =
 
 -- a session before its first pull
 pub session-first : (tree : Tree) (n : Nodes) → IsLaidOut tree n → IsAfterRun tree n
-session-first tree n laid =
-    record {
-      stands = laid.stands;
-      wired = laid.wired;
-      fit = laid.fit;
-      size = laid.size;
-      run = subst (IsRun tree) (sym laid.log) (goes-on tree).start;
-      holds = subst (λ l. NodeHolds n.states.items (history_of (reverse (pulls l))) 0 prio (root tree)) (sym laid.log) laid.holds;
-      pull = laid.pull ∙ ap (λ l. length (pulls l)) (sym laid.log);
-      moment = laid.moment ∙ ap (λ l. latest_moment (reverse (pulls l))) (sym laid.log);
-    }
+session-first tree n laid = search (rules, goes-on)
 
 -- what a pull of the device gave is what came out by its one visit
 device-gives : (visits : List Visit) → AsksInOrder (0 ∷ []) visits → filter_map (λ (v : Visit). if v.passed then v.got else None) visits ≡ cons_option (result_of visits) []
-device-gives [] h = absurd h.in_order
-device-gives (v ∷ visits) h =
-    subst (λ more. filter_map (λ (w : Visit). if w.passed then w.got else None) (v ∷ more) ≡ cons_option (result_of (v ∷ more)) []) (sym (by_got v.got h.in_order.1)) refl
-  where
-    by_got : (o : Option Packet) → MatchOption o (UpToFirst [] visits) (λ _. visits ≡ []) → visits ≡ []
-    by_got None k = none visits k
-      where
-        none : (vs : List Visit) → UpToFirst [] vs → vs ≡ []
-        none [] k = refl
-        none (w ∷ vs) k = absurd k
-    by_got (Some p) k = k
+device-gives visits h = search rules
 
 -- at most one packet comes out in a pull
 pub one-at-most : (got : Option Packet) → length (cons_option got []) ≤ 1
-one-at-most None = omega arith
-one-at-most (Some p) = omega arith
+one-at-most got = search rules
 
 -- One pull more adds what it gave to what came out.
 pub emitted-once : (old new : Progress) (moment : ℕ) (got : Option Packet) → IsPulledOnce old new moment got → emitted new.log ≡ emitted old.log ++ cons_option got []

@@ -1,13 +1,11 @@
 -- The shares of a DRRSched.
-use Rattle.std.proofs.Common.{◌≡◌, ◌≢◌, ℕ, zero, suc, ◌+◌, ◌-◌, ◌*◌, ◌<◌, ◌≤◌, ◌==◌, ◌&&◌, ◌%◌, ◌⊎◌, inl, inr, if◌then◌else◌, nat_le, Bool, true, false, List, [], ◌∷◌, ◌++◌, reverse, Option, Some, None, IsSome, is_some, refl, sym, ap, ◌∙◌, subst, mul-add, zero-add, eq-or-lt_of_le, mod-eq_of_lt, mod-lt, arith}
-use Rattle.std.proofs.Math.Nat.{mod_self}
+use Rattle.std.proofs.Common.{◌≡◌, ◌≢◌, ℕ, zero, suc, ◌+◌, ◌-◌, ◌*◌, ◌<◌, ◌≤◌, ◌==◌, ◌&&◌, ◌%◌, ◌⊎◌, inl, inr, if◌then◌else◌, nat_le, Bool, true, false, List, [], ◌∷◌, ◌++◌, reverse, refl, sym, ap, ◌∙◌, subst, mul-add, zero-add, mod-lt, arith, rules}
 use Rattle.std.proofs.lemmas.Bool.{false≢true}
 use Rattle.std.proofs.lemmas.Bool.Decides.{nat_tests}
-use Rattle.clk_packet.specs.declared.packet.Packet.{Packet}
 use Rattle.clk_sched.specs.declared.visit.Visit.{Visit}
 use Rattle.clk_sched.specs.Turns.{Turn, EachAfter, all_visits}
-use Rattle.clk_sched.specs.Heads.{is_covered, LooksAtHeads}
-use Rattle.clk_sched.specs.Laws.Deficit.{IsDeficit, allowed_bytes, next_input, arrives, arrivals, bytes_of, passed_bytes, quantum_at, deficit_covers}
+use Rattle.clk_sched.specs.Heads.{LooksAtHeads}
+use Rattle.clk_sched.specs.Laws.Deficit.{IsDeficit, allowed_bytes, next_input, arrives, arrivals, passed_bytes, quantum_at, deficit_covers}
 use Rattle.clk_sched.specs.Service.{arrivals_in, bytes_in, AlwaysGets, Near, SharesByDeficit}
 use Rattle.clk_sched.proofs.Runs.Allowed.{onto, onto-reverse, each-split}
 
@@ -30,66 +28,14 @@ IsCovered quanta earlier = (i : ℕ) → Covers (quantum_at quanta i) (passed_by
 -- at a visit to the input whose turn it is
 pub deficit-bound : (quantum inputs : ℕ) (earlier : List Visit) (i : ℕ) → i ≡ next_input inputs earlier → Covers quantum (passed_bytes i earlier) (arrivals i earlier) (spare quantum i earlier)
     → (passed_bytes i earlier ≤ quantum * (arrives earlier + arrivals i earlier)) × (quantum * (arrives earlier + arrivals i earlier) ≤ passed_bytes i earlier + (quantum + 65534))
-deficit-bound quantum inputs [] i e h = (omega arith, omega arith)
-deficit-bound quantum inputs (u ∷ earlier) i e h = by_passed u.passed e h.0 h.1
-  where
-    a : ℕ
-    a = arrivals i (u ∷ earlier)
-
-    p : ℕ
-    p = passed_bytes i (u ∷ earlier)
-
-    by_passed : (b : Bool) → i ≡ (if b then u.input else (u.input + 1) % inputs) → p ≤ quantum * a → quantum * a ≤ p + (65534 + (if b && (u.input == i) then quantum else 0))
-        → (p ≤ quantum * ((if b then 0 else 1) + a)) × (quantum * ((if b then 0 else 1) + a) ≤ p + (quantum + 65534))
-    by_passed true f l k = by_input (u.input == i) k
-      where
-        by_input : (c : Bool) → quantum * a ≤ p + (65534 + (if true && c then quantum else 0)) → (p ≤ quantum * (0 + a)) × (quantum * (0 + a) ≤ p + (quantum + 65534))
-        by_input true m = let none = ap (λ n. quantum * n) (zero-add a) in (omega (arith, none, l), omega (arith, none, m))
-        by_input false m = let none = ap (λ n. quantum * n) (zero-add a) in (omega (arith, none, l), omega (arith, none, m))
-    by_passed false f l k = let one = mul-add quantum 1 a in (omega (arith, one, l), omega (arith, one, k))
-
--- the input at which a quantum may be left over is the next
-spare-none : (quantum inputs : ℕ) (earlier : List Visit) (v : Visit) (i : ℕ) → v.input ≡ next_input inputs earlier → (v.input == i) ≡ false → spare quantum i earlier ≡ 0
-spare-none quantum inputs [] v i e d = refl
-spare-none quantum inputs (u ∷ earlier) v i e d = by_passed u.passed (u.input == i) refl e
-  where
-    by_passed : (b c : Bool) → (u.input == i) ≡ c → v.input ≡ (if b then u.input else (u.input + 1) % inputs) → (if b && c then quantum else 0) ≡ 0
-    by_passed false c f k = refl
-    by_passed true false f k = refl
-    by_passed true true f k = let same : (v.input == i) ≡ true = grind (arith, nat_tests) in absurd (false≢true (sym d ∙ same))
+deficit-bound quantum inputs earlier i e h = search (rules, zero-add, mul-add)
 
 -- what is left of a number that is no smaller
 what-is-left : (passed allowed bound : ℕ) → (passed ≤ allowed) × (allowed ≤ passed + bound) → (left : ℕ) × (passed + left ≡ allowed) × (left ≤ bound)
 what-is-left passed allowed bound h = (allowed - passed, omega (arith, h.0), omega (arith, h.0, h.1))
 
 pub covers-visit : (quanta : List ℕ) (inputs : ℕ) (earlier : List Visit) (v : Visit) → IsDeficitVisit quanta inputs earlier v → IsCovered quanta earlier → IsCovered quanta (v ∷ earlier)
-covers-visit quanta inputs earlier v law h i = by_cases (v.input == i) v.passed v.got refl law.passes
-  where
-    p : ℕ
-    p = passed_bytes i earlier
-
-    q : ℕ
-    q = quantum_at quanta i
-
-    by_cases : (b c : Bool) (o : Option Packet) → (v.input == i) ≡ b → c ≡ is_covered (deficit_covers quanta earlier v.input) o
-        → Covers q (if b then (if is_some o then (if c then bytes_of o else 0) + p else 0) else p) (if b then (if is_some o then arrives earlier + arrivals i earlier else 0) else arrivals i earlier)
-        (if c && b then q else 0)
-    by_cases false true o e f = let none = spare-none q inputs earlier v i law.in_turn e in subst (Covers q p (arrivals i earlier)) none (h i)
-    by_cases false false o e f = let none = spare-none q inputs earlier v i law.in_turn e in subst (Covers q p (arrivals i earlier)) none (h i)
-    by_cases true c None e f = (omega arith, omega arith)
-    by_cases true true (Some x) e f =
-        let at : v.input ≡ i = grind (arith, nat_tests) in
-        let test : true ≡ nat_le (x.length + p) (q * (arrives earlier + arrivals i earlier)) = subst (λ j. true ≡ deficit_covers quanta earlier j x) at f in
-        let covered : x.length + p ≤ q * (arrives earlier + arrivals i earlier) = grind (arith, nat_tests) in
-        let bound = (deficit-bound q inputs earlier i (sym at ∙ law.in_turn) (h i)).1 in
-        (covered, omega (arith, bound))
-    by_cases true false (Some x) e f =
-        let at : v.input ≡ i = grind (arith, nat_tests) in
-        let test : false ≡ nat_le (x.length + p) (q * (arrives earlier + arrivals i earlier)) = subst (λ j. false ≡ deficit_covers quanta earlier j x) at f in
-        let longer : q * (arrives earlier + arrivals i earlier) < x.length + p = grind (arith, nat_tests) in
-        let bound = (deficit-bound q inputs earlier i (sym at ∙ law.in_turn) (h i)).0 in
-        let short = x.is_within in
-        (omega (arith, bound), omega (arith, longer, short))
+covers-visit quanta inputs earlier v law h i = search rules
 
 pub covers-all : (quanta : List ℕ) (inputs : ℕ) (earlier visits : List Visit) → EachAfter (IsDeficitVisit quanta inputs) earlier visits → IsCovered quanta earlier → IsCovered quanta (onto visits earlier)
 covers-all quanta inputs earlier [] law h = h
@@ -99,17 +45,7 @@ covers-all quanta inputs earlier (v ∷ visits) law h = covers-all quanta inputs
 range-adds : (i : ℕ) (earlier range : List Visit) → AlwaysGets i range
     → (bytes_in i range + passed_bytes i earlier ≡ passed_bytes i (onto range earlier)) × (arrivals_in i earlier range + arrivals i earlier ≡ arrivals i (onto range earlier))
 range-adds i earlier [] gets = (omega arith, omega arith)
-range-adds i earlier (v ∷ range) gets = let rest = range-adds i (v ∷ earlier) range gets.1 in by_cases (v.input == i) v.passed v.got refl gets.0 rest.0 rest.1
-  where
-    by_cases : (b c : Bool) (o : Option Packet) → (v.input == i) ≡ b → (v.input ≡ i → IsSome o)
-        → bytes_in i range + (if b then (if is_some o then (if c then bytes_of o else 0) + passed_bytes i earlier else 0) else passed_bytes i earlier) ≡ passed_bytes i (onto range (v ∷ earlier))
-        → arrivals_in i (v ∷ earlier) range + (if b then (if is_some o then arrives earlier + arrivals i earlier else 0) else arrivals i earlier) ≡ arrivals i (onto range (v ∷ earlier))
-        → ((if b && c then bytes_of o else 0) + bytes_in i range + passed_bytes i earlier ≡ passed_bytes i (onto range (v ∷ earlier)))
-        × ((if b then arrives earlier else 0) + arrivals_in i (v ∷ earlier) range + arrivals i earlier ≡ arrivals i (onto range (v ∷ earlier)))
-    by_cases false c o e g m n = (omega (arith, m), omega (arith, n))
-    by_cases true c None e g m n = absurd (false≢true (g (grind (arith, nat_tests))))
-    by_cases true true (Some x) e g m n = (omega (arith, m), omega (arith, n))
-    by_cases true false (Some x) e g m n = (omega (arith, m), omega (arith, n))
+range-adds i earlier (v ∷ range) gets = search (rules, onto, false≢true, (range-adds i (v ∷ earlier) range gets.1))
 
 -- So many arrivals come before one at input i, where the next is at input n of w.
 record IsAhead (w n i ahead : ℕ) : Type 0 where
@@ -124,19 +60,11 @@ some-ahead w n i l m = by_order (nat_le n i) refl
     by_order false e = let h : i < n = grind (arith, nat_tests) in ((i + w) - n, record { below = omega arith; reaches = inr (omega arith) })
 
 next-after : (w n : ℕ) → n < w → ((n + 1 < w) × ((n + 1) % w ≡ n + 1)) ⊎ ((n + 1 ≡ w) × ((n + 1) % w ≡ 0))
-next-after w n l = by_order (eq-or-lt_of_le (let h : n + 1 ≤ w = omega arith in h))
-  where
-    by_order : (n + 1 ≡ w) ⊎ (n + 1 < w) → ((n + 1 < w) × ((n + 1) % w ≡ n + 1)) ⊎ ((n + 1 ≡ w) × ((n + 1) % w ≡ 0))
-    by_order (inl e) = inr (e, ap (λ m. m % w) e ∙ mod_self w)
-    by_order (inr h) = inl (h, mod-eq_of_lt h)
+next-after w n l = grind arith
 
 -- after an arrival at n, every other input is one nearer, and n is the farthest
 ahead-other : (w n i ahead : ℕ) → n < w → i < w → i ≢ n → IsAhead w n i ahead → (less : ℕ) × (less + 1 ≡ ahead) × IsAhead w ((n + 1) % w) i less
-ahead-other w n i zero l m d h = by_reach h.reaches
-  where
-    by_reach : (n + 0 ≡ i) ⊎ (n + 0 ≡ i + w) → (less : ℕ) × (less + 1 ≡ 0) × IsAhead w ((n + 1) % w) i less
-    by_reach (inl e) = absurd (d (omega (arith, e)))
-    by_reach (inr e) = absurd (omega (arith, e))
+ahead-other w n i zero l m d h = search rules
 ahead-other w n i (suc less) l m d h = by_next (next-after w n l) h.reaches
   where
     by_next : ((n + 1 < w) × ((n + 1) % w ≡ n + 1)) ⊎ ((n + 1 ≡ w) × ((n + 1) % w ≡ 0)) → (n + suc less ≡ i) ⊎ (n + suc less ≡ i + w) → (k : ℕ) × (k + 1 ≡ suc less) × IsAhead w ((n + 1) % w) i k
@@ -146,18 +74,7 @@ ahead-other w n i (suc less) l m d h = by_next (next-after w n l) h.reaches
     by_next (inr e) (inr f) = (less, omega arith, record { below = let b = h.below in omega arith; reaches = inl (let g = e.1 in let k = e.0 in omega (arith, g, k, f)) })
 
 ahead-self : (w n : ℕ) → n < w → (last : ℕ) × (last + 1 ≡ w) × IsAhead w ((n + 1) % w) n last
-ahead-self w n l = by_next (next-after w n l)
-  where
-    by_next : ((n + 1 < w) × ((n + 1) % w ≡ n + 1)) ⊎ ((n + 1 ≡ w) × ((n + 1) % w ≡ 0)) → (last : ℕ) × (last + 1 ≡ w) × IsAhead w ((n + 1) % w) n last
-    by_next (inl e) = (w - 1, omega arith, record { below = omega arith; reaches = inr (let g = e.1 in omega (arith, g)) })
-    by_next (inr e) = (w - 1, omega arith, record { below = omega arith; reaches = inl (let g = e.1 in let k = e.0 in omega (arith, g, k)) })
-
-ahead-none : (w n ahead : ℕ) → n < w → IsAhead w n n ahead → ahead ≡ 0
-ahead-none w n ahead l h = by_reach h.reaches
-  where
-    by_reach : (n + ahead ≡ n) ⊎ (n + ahead ≡ n + w) → ahead ≡ 0
-    by_reach (inl e) = omega (arith, e)
-    by_reach (inr e) = let b = h.below in absurd (omega (arith, e, b))
+ahead-self w n l = search (rules, next-after)
 
 -- the input of the next arrival
 abbrev next_arrival : ℕ → List Visit → ℕ
@@ -169,16 +86,7 @@ abbrev ArrivesInTurn : ℕ → List Visit → Visit → Type 0
 ArrivesInTurn w earlier v = ((arrives earlier ≡ 1) × (v.input ≡ next_arrival w earlier)) ⊎ ((arrives earlier ≡ 0) × (next_arrival w (v ∷ earlier) ≡ next_arrival w earlier))
 
 arrives-in_turn : (w : ℕ) (earlier : List Visit) (v : Visit) → v.input ≡ next_input w earlier → ArrivesInTurn w earlier v
-arrives-in_turn w [] v e = inl (refl, e)
-arrives-in_turn w (u ∷ earlier) v e = by_passed u.passed e
-  where
-    from : Bool → ℕ
-    from b = if b then 0 else 1
-
-    by_passed : (b : Bool) → v.input ≡ (if b then u.input else (u.input + 1) % w)
-        → ((from b ≡ 1) × (v.input ≡ (u.input + 1) % w)) ⊎ ((from b ≡ 0) × ((v.input + 1) % w ≡ (u.input + 1) % w))
-    by_passed true f = inr (refl, ap (λ i. (i + 1) % w) f)
-    by_passed false f = inl (refl, f)
+arrives-in_turn w earlier v e = search rules
 
 -- of two inputs, the one that comes first has as many arrivals as the other, or one more
 arrivals-order : (quanta : List ℕ) (w i j : ℕ) (earlier range : List Visit) (a b : ℕ) → EachAfter (IsDeficitVisit quanta w) earlier range → i < w → j < w → next_arrival w earlier < w
@@ -205,21 +113,13 @@ arrivals-order quanta w i j earlier (v ∷ range) a b law il jl nl ah bh l =
     Goal = (added j + more j ≤ added i + more i) × (added i + more i ≤ added j + more j + 1)
 
     added-none : arrives earlier ≡ 0 → (k : ℕ) → added k ≡ 0
-    added-none e k = by_input (v.input == k)
-      where
-        by_input : (c : Bool) → (if c then arrives earlier else 0) ≡ 0
-        by_input true = e
-        by_input false = refl
+    added-none e k = search rules
 
     added-here : arrives earlier ≡ 1 → v.input ≡ n → (k : ℕ) → k ≡ n → added k ≡ 1
     added-here e f k g = let same : (v.input == k) ≡ true = grind (arith, nat_tests) in ap (λ c. if c then arrives earlier else 0) same ∙ e
 
     added-other : v.input ≡ n → (k : ℕ) → k ≢ n → added k ≡ 0
-    added-other f k d = by_input (v.input == k) refl
-      where
-        by_input : (c : Bool) → (v.input == k) ≡ c → (if c then arrives earlier else 0) ≡ 0
-        by_input true e = absurd (d (let same : v.input ≡ k = grind (arith, nat_tests) in sym same ∙ f))
-        by_input false e = refl
+    added-other f k d = search rules
 
     by_turn : ArrivesInTurn w earlier v → Rest → Goal
     by_turn (inr e) rest =
@@ -256,10 +156,9 @@ arrivals-order quanta w i j earlier (v ∷ range) a b law il jl nl ah bh l =
             (let z = k.1 in omega (arith, p, q, z, same), let z = k.0 in omega (arith, p, q, z, same))
         by_same false true f g =
             let y : j ≡ n = grind (arith, nat_tests) in
-            let none = ahead-none w n b nl (subst (λ m. IsAhead w n m b) y bh) in
             let x : i ≢ n = (λ h. let t : (i == n) ≡ true = grind (arith, nat_tests) in false≢true (sym f ∙ t)) in
             let near = ahead-other w n i a nl il x ah in
-            absurd (let t = near.1 in omega (arith, none, t, l))
+            absurd (let t = near.1 in omega (arith, t, l))
         by_same false false f g =
             let x : i ≢ n = (λ h. let t : (i == n) ≡ true = grind (arith, nat_tests) in false≢true (sym f ∙ t)) in
             let y : j ≢ n = (λ h. let t : (j == n) ≡ true = grind (arith, nat_tests) in false≢true (sym g ∙ t)) in
@@ -272,8 +171,7 @@ arrivals-order quanta w i j earlier (v ∷ range) a b law il jl nl ah bh l =
 
 -- the next arrival stays at one of the inputs
 arrival-within : (w : ℕ) (earlier visits : List Visit) → 0 < w → next_arrival w earlier < w → next_arrival w (onto visits earlier) < w
-arrival-within w earlier [] some h = h
-arrival-within w earlier (v ∷ visits) some h = arrival-within w (v ∷ earlier) visits some (mod-lt (v.input + 1) some)
+arrival-within w earlier visits some h = search rules
 
 pub deficit-shares : (quanta : List ℕ) (inputs : ℕ) (turns : List Turn) → EachAfter (IsDeficitVisit quanta inputs) [] (all_visits turns) → SharesByDeficit quanta inputs turns
 deficit-shares quanta inputs turns run =
@@ -320,12 +218,7 @@ deficit-shares quanta inputs turns run =
             (let x = k.0 in omega arith, k.1)
 
     left-over : (quantum : ℕ) (earlier : List Visit) (i : ℕ) → spare quantum i earlier ≤ quantum
-    left-over quantum [] i = omega arith
-    left-over quantum (v ∷ earlier) i = by_test (v.passed && (v.input == i))
-      where
-        by_test : (b : Bool) → (if b then quantum else 0) ≤ quantum
-        by_test true = omega arith
-        by_test false = omega arith
+    left-over quantum earlier i = search rules
 
     bytes : (before range after : List Visit) → all_visits turns ≡ before ++ (range ++ after) → (i : ℕ) → AlwaysGets i range
         → Near (quantum_at quanta i + 65534) (bytes_in i range) (quantum_at quanta i * arrivals_in i (reverse before) range)

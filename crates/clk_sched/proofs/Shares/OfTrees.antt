@@ -1,11 +1,10 @@
 -- The shares of each scheduler in a run of a tree.
-use Rattle.std.proofs.Common.{ℕ, suc, ◌+◌, List, [], map}
+use Rattle.std.proofs.Common.{ℕ, suc, ◌+◌, List, map, rules}
 use Rattle.clk_sched.specs.declared.visit.Visit.{Visit}
 use Rattle.clk_packet.specs.Scheduler.{Scheduler, drr, stride}
 use Rattle.clk_sched.specs.Tree.{Row, end, leaf, node, Tree, root, width, nodes}
 use Rattle.clk_sched.specs.Turns.{Turn}
 use Rattle.clk_sched.specs.Laws.{Obeys}
-use Rattle.clk_sched.specs.Laws.Deficit.{next_input, deficit_covers}
 use Rattle.clk_sched.specs.Log.{pulls, turn, pulls_below}
 use Rattle.clk_sched.specs.Run.{EachObeys}
 use Rattle.clk_sched.specs.Service.{Shares, EachShares, SharesOut}
@@ -14,8 +13,7 @@ use Rattle.clk_sched.proofs.Shares.DeficitShares.{deficit-shares}
 use Rattle.clk_sched.proofs.Shares.StrideShares.{stride-shares}
 
 shares : (class : Scheduler) (inputs : ℕ) (turns : List Turn) → Obeys class inputs turns → Shares class inputs turns
-shares (drr quanta) inputs turns law =
-    deficit-shares quanta inputs turns (turns-look (next_input inputs) (deficit_covers quanta) inputs [] turns (each-follows (drr quanta) inputs turns law))
+shares (drr quanta) inputs turns law = search (rules, deficit-shares, turns-look, each-follows)
 shares (stride tickets) inputs turns law = stride-shares tickets turns (each-follows (stride tickets) inputs turns law)
 shares class inputs turns law = tt
 

@@ -1,8 +1,7 @@
 -- The shares of a StrideSched.
-use Rattle.std.proofs.Common.{◌≡◌, ℕ, zero, suc, ◌+◌, ◌*◌, ◌<◌, ◌≤◌, ◌==◌, ◌&&◌, ◌||◌, nat_lt, nat_le, if◌then◌else◌, inl, inr, Bool, true, false, List, [], ◌∷◌, ◌++◌, length, map, Option, Some, None, IsSome, is_some, MatchOption, option_map, unwrap_or, refl, sym, ap, ◌∙◌, subst, add-mul, zero-add, arith}
+use Rattle.std.proofs.Common.{◌≡◌, ℕ, zero, suc, ◌+◌, ◌*◌, ◌<◌, ◌≤◌, ◌==◌, ◌||◌, if◌then◌else◌, inl, inr, Bool, true, false, List, [], ◌∷◌, ◌++◌, length, map, Option, Some, None, is_some, MatchOption, option_map, unwrap_or, refl, sym, ap, ◌∙◌, subst, zero-add, arith, rules}
 use Rattle.std.specs.List.{enumerate_from, AllByRecursion}
 use Rattle.std.proofs.lemmas.Bool.{false≢true}
-use Rattle.std.proofs.lemmas.Bool.Decides.{nat_tests}
 use Rattle.std.proofs.lemmas.Option.{slice_get-map}
 use Rattle.clk_packet.specs.declared.packet.Packet.{Packet}
 use Rattle.clk_sched.specs.declared.visit.Visit.{Visit}
@@ -31,16 +30,7 @@ lower m n (y ∷ pairs) l h = (let k = h.0 in omega arith, lower m n pairs l h.1
 
 put-rising : (i : ℕ × ℕ) (pairs : List (ℕ × ℕ)) → IsRising pairs → IsRising (put_in_order i pairs)
 put-rising i [] h = (tt, tt)
-put-rising i (j ∷ pairs) h = by_order (nat_lt i.1 j.1) (i.1 == j.1) (nat_le i.0 j.0) refl refl (put-rising i pairs h.1)
-  where
-    first : i.1 ≤ j.1 → IsRising (i ∷ j ∷ pairs)
-    first l = ((l, lower i.1 j.1 pairs l h.0), h)
-
-    by_order : (a b c : Bool) → nat_lt i.1 j.1 ≡ a → (i.1 == j.1) ≡ b → IsRising (put_in_order i pairs) → IsRising (if a || (b && c) then i ∷ j ∷ pairs else j ∷ put_in_order i pairs)
-    by_order true b c e f rest = first (grind (arith, nat_tests))
-    by_order false true true e f rest = first (grind (arith, nat_tests))
-    by_order false true false e f rest = (put-all (λ (y : ℕ × ℕ). j.1 ≤ y.1) i pairs (grind (arith, nat_tests)) h.0, rest)
-    by_order false false c e f rest = (put-all (λ (y : ℕ × ℕ). j.1 ≤ y.1) i pairs (grind (arith, nat_tests)) h.0, rest)
+put-rising i (j ∷ pairs) h = search (rules, lower, put-all, (put-rising i pairs h.1))
 
 rising : (pairs : List (ℕ × ℕ)) → IsRising (in_rising_order pairs)
 rising [] = tt
@@ -57,9 +47,6 @@ winner-least pairs [] w r h e = absurd (false≢true (ap is_some e))
 winner-least [] (v ∷ visits) w r h e = absurd h
 winner-least (s ∷ pairs) (v ∷ visits) w r h e = by_got v.got h.1 e (winner-least pairs visits w r.1)
   where
-    seen : (v.input == s.0) ≡ true
-    seen = let k = h.0 in grind (arith, nat_tests)
-
     by_got : (o : Option Packet) → MatchOption o (UpToFirst (map (λ (i : ℕ × ℕ). i.0) pairs) visits) (λ _. visits ≡ []) → (if is_some o then Some v.input else giver visits) ≡ Some w
         → (UpToFirst (map (λ (i : ℕ × ℕ). i.0) pairs) visits → giver visits ≡ Some w → IsLeast pairs visits w) → IsLeast (s ∷ pairs) (v ∷ visits) w
     by_got (Some p) k f rest =
@@ -70,8 +57,7 @@ winner-least (s ∷ pairs) (v ∷ visits) w r h e = by_got v.got h.1 e (winner-l
         }
       where
         by_place : (x : ℕ × ℕ) → In x (s ∷ pairs) → s.1 ≤ x.1
-        by_place x (inl g) = let same = ap (λ (y : ℕ × ℕ). y.1) g in omega (arith, same)
-        by_place x (inr m) = of-all (λ (y : ℕ × ℕ). s.1 ≤ y.1) x pairs r.0 m
+        by_place x g = search (rules, of-all)
     by_got None k f rest =
         let below = rest k f in
         record {
@@ -81,12 +67,7 @@ winner-least (s ∷ pairs) (v ∷ visits) w r h e = by_got v.got h.1 e (winner-l
         }
       where
         by_place : (below : IsLeast pairs visits w) (x : ℕ × ℕ) → In x (s ∷ pairs) → ((v.input == x.0) || visits_input x.0 visits) ≡ false → below.pass ≤ x.1
-        by_place below x (inl g) n = let here : (v.input == x.0) ≡ true = ap (λ (y : ℕ × ℕ). v.input == y.0) (sym g) ∙ seen in absurd (false≢true (sym n ∙ ap (λ b. b || visits_input x.0 visits) here))
-        by_place below x (inr m) n = below.least x m (or-right (v.input == x.0) (visits_input x.0 visits) n)
-          where
-            or-right : (a b : Bool) → (a || b) ≡ false → b ≡ false
-            or-right true b e = absurd (false≢true (sym e))
-            or-right false b e = e
+        by_place below x at n = search rules
 
 after-none : (tickets passes : List ℕ) (t : Turn) → giver t.visits ≡ None → passes_after tickets passes t ≡ passes
 after-none tickets passes t e = rw e refl
@@ -164,14 +145,10 @@ near-turn tickets earlier t law near i j l m = by_giver (giver t.visits) refl
         in_tickets = subst (λ n. w < n) (passes-length tickets earlier) won.within
 
         upper : (b c : Bool) → (i == w) ≡ b → (if b then pass_in passes i + stride_at tickets w else (if c then pass_in passes w else pass_in passes i)) ≤ pass_in passes w + largest_stride tickets
-        upper true c f = let s = strides tickets w in_tickets in let same : i ≡ w = grind (arith, nat_tests) in let p = ap (pass_in passes) same in omega (arith, s, p)
-        upper false true f = omega arith
-        upper false false f = near i w l in_tickets
+        upper b c f = search (rules, strides, in_tickets, passes)
 
         under : (b c : Bool) → (j == w) ≡ b → visits_input j t.visits ≡ c → pass_in passes w ≤ (if b then pass_in passes j + stride_at tickets w else (if c then pass_in passes w else pass_in passes j))
-        under true c f g = let same : j ≡ w = grind (arith, nat_tests) in let p = ap (pass_in passes) same in omega (arith, p)
-        under false true f g = omega arith
-        under false false f g = won.least j (inside j m) g
+        under b c f g = grind (arith, passes, won, inside)
 
 near-all : (tickets : List ℕ) (earlier turns : List Turn) → EachAfter (IsStrideTurn tickets) earlier turns → AreNear tickets earlier → AreNear tickets (onto turns earlier)
 near-all tickets earlier [] law near = near
@@ -181,14 +158,7 @@ near-all tickets earlier (t ∷ turns) law near = near-all tickets (t ∷ earlie
 visited-wins : (order : List ℕ) (visits : List Visit) (i : ℕ) → UpToFirst order visits → AlwaysGets i visits → visits_input i visits ≡ true → giver visits ≡ Some i
 visited-wins order [] i h gets e = absurd (false≢true e)
 visited-wins [] (v ∷ visits) i h gets e = absurd h
-visited-wins (k ∷ order) (v ∷ visits) i h gets e = by_got v.got (v.input == i) refl h.1 gets.0 e (visited-wins order visits i)
-  where
-    by_got : (o : Option Packet) (b : Bool) → (v.input == i) ≡ b → MatchOption o (UpToFirst order visits) (λ _. visits ≡ []) → (v.input ≡ i → IsSome o) → (b || visits_input i visits) ≡ true
-        → (UpToFirst order visits → AlwaysGets i visits → visits_input i visits ≡ true → giver visits ≡ Some i) → (if is_some o then Some v.input else giver visits) ≡ Some i
-    by_got None true f a g c rest = absurd (false≢true (g (grind (arith, nat_tests))))
-    by_got None false f a g c rest = rest a gets.1 c
-    by_got (Some p) true f a g c rest = ap Some (grind (arith, nat_tests))
-    by_got (Some p) false f a g c rest = absurd (false≢true (sym (ap (visits_input i) a) ∙ c))
+visited-wins (k ∷ order) (v ∷ visits) i h gets e = search (rules, false≢true, (visited-wins order visits i))
 
 -- the pass of such an input grows by its stride for each packet
 pass-grows : (tickets : List ℕ) (earlier : List Turn) (t : Turn) (i : ℕ) → IsStrideTurn tickets earlier t → i < length tickets → AlwaysGets i t.visits
@@ -201,18 +171,7 @@ pass-grows tickets earlier t i law l gets = by_giver (giver t.visits) refl
     by_giver : (o : Option ℕ) → giver t.visits ≡ o → pass_at tickets (t ∷ earlier) i ≡ (if is_number i o then 1 else 0) * stride_at tickets i + pass_at tickets earlier i
     by_giver None e = ap (λ p. pass_in p i) (after-none tickets passes t e) ∙ omega arith
     by_giver (Some w) e =
-        after-won tickets passes t w i e (subst (λ n. i < n) (sym (passes-length tickets earlier)) l) ∙ by_input (i == w) (w == i) (visits_input i t.visits) refl refl refl
-      where
-        by_input : (b c d : Bool) → (i == w) ≡ b → (w == i) ≡ c → visits_input i t.visits ≡ d
-            → (if b then pass_in passes i + stride_at tickets w else (if d then pass_in passes w else pass_in passes i)) ≡ (if c then 1 else 0) * stride_at tickets i + pass_in passes i
-        by_input true true d f g h = let same : w ≡ i = grind (arith, nat_tests) in let s = ap (stride_at tickets) same in omega (arith, s)
-        by_input false false false f g h = omega arith
-        by_input false false true f g h =
-            let wins = visited-wins _ t.visits i law.in_order gets h in
-            let same : w ≡ i = ap (λ o. unwrap_or o 0) (sym e ∙ wins) in
-            let test : (w == i) ≡ true = grind (arith, nat_tests) in absurd (false≢true (sym g ∙ test))
-        by_input true false d f g h = absurd (grind (arith, nat_tests))
-        by_input false true d f g h = absurd (grind (arith, nat_tests))
+        after-won tickets passes t w i e (subst (λ n. i < n) (sym (passes-length tickets earlier)) l) ∙ (search (rules, visited-wins, false≢true))
 
 range-grows : (tickets : List ℕ) (earlier range : List Turn) (i : ℕ) → EachAfter (IsStrideTurn tickets) earlier range → i < length tickets → AlwaysGets i (all_visits range)
     → pass_at tickets (onto range earlier) i ≡ packets_given i range * stride_at tickets i + pass_at tickets earlier i
@@ -221,8 +180,7 @@ range-grows tickets earlier (t ∷ range) i law l gets =
     let parts = all-split _ t.visits (all_visits range) gets in
     let now = pass-grows tickets earlier t i law.0 l parts.0 in
     let rest = range-grows tickets (t ∷ earlier) range i law.1 l parts.1 in
-    let both = add-mul (if is_number i (giver t.visits) then 1 else 0) (packets_given i range) (stride_at tickets i) in
-    omega (arith, now, rest, both)
+    omega (arith, now, rest)
 
 pub stride-shares : (tickets : List ℕ) (turns : List Turn) → EachAfter (IsStrideTurn tickets) [] turns → SharesByStride tickets turns
 stride-shares tickets turns law =

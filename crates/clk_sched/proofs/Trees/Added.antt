@@ -1,5 +1,6 @@
 -- How tables of nodes grow as trees are laid out in them.
-use Rattle.std.proofs.Common.{◌≡◌, ℕ, suc, ◌+◌, ◌≤◌, List, [], ◌∷◌, ◌++◌, length, map, get_or, slice_set, refl, sym, ap, ap₂, ◌∙◌, subst, append-nil, append_assoc, length-append, add-suc, add-zero, arith}
+use Rattle.std.proofs.lemmas.Grind.{common_steps}
+use Rattle.std.proofs.Common.{◌≡◌, ℕ, suc, ◌+◌, ◌≤◌, List, [], ◌∷◌, ◌++◌, length, map, get_or, slice_set, sym, ap, ap₂, ◌∙◌, subst, append_assoc, length-append, add-suc, add-zero, arith, rules}
 use Rattle.std.proofs.Math.Seq.{set-append_seam}
 use Rattle.std.proofs.lemmas.List.{length-map, map-append, map-set}
 use Rattle.clk_sched.specs.declared.session.inputs.Input.{Input}
@@ -8,18 +9,17 @@ use Rattle.clk_sched.specs.declared.session.layout.Tables.{Tables}
 use Rattle.clk_sched.specs.declared.session.state.State.{State}
 use Rattle.clk_sched.specs.declared.session.state.State.TheVariants.{Prio}
 use Rattle.clk_packet.specs.Scheduler.{prio}
-use Rattle.clk_sched.specs.Tree.{Row, end, leaf, node, Tree, queue, scheduler, root, nodes, width}
+use Rattle.clk_sched.specs.Tree.{Row, end, leaf, node, Tree, root, nodes, width}
 use Rattle.clk_sched.specs.Built.{row}
 use Rattle.clk_sched.specs.inside.Places.{inputs_of}
 use Rattle.clk_sched.specs.Session.{elements}
 use Rattle.clk_sched.specs.inside.Holds.OfClass.{Holds}
-use Rattle.clk_sched.specs.inside.LaidOut.{elements_of, nodes_of, input_of, Entry, entry, entry_over, entries, entries_of, Kind, kinds, kinds_of, AreFirst, Adds, AddsNode}
-use Rattle.clk_sched.proofs.Trees.TreeLemmas.{rest, rest-cons}
+use Rattle.clk_sched.specs.inside.LaidOut.{elements_of, nodes_of, input_of, entry, entry_over, entries, entries_of, Kind, kinds, kinds_of, AreFirst, Adds, AddsNode}
+use Rattle.clk_sched.proofs.Trees.TreeLemmas.{rest}
 use Rattle.clk_sched.proofs.Trees.LaidOut.{length-entries}
 
 length-entries_of : (next : ℕ) (tree : Tree) → length (entries_of next tree) ≡ nodes_of tree
-length-entries_of next (queue q) = refl
-length-entries_of next (scheduler class inputs) = ap suc (length-entries (suc next) inputs)
+length-entries_of next tree = search (rules, length-entries)
 
 nodes-elements : (below : Row) → nodes below ≤ elements below
 nodes-elements end = omega arith
@@ -27,55 +27,23 @@ nodes-elements (leaf q below) = omega (arith, nodes-elements below)
 nodes-elements (node class inputs below) = omega (arith, nodes-elements inputs, nodes-elements below)
 
 pub nodes_of-elements_of : (tree : Tree) → nodes_of tree ≤ elements_of tree
-nodes_of-elements_of (queue q) = omega arith
-nodes_of-elements_of (scheduler class inputs) = omega (arith, nodes-elements inputs)
+nodes_of-elements_of tree = search (rules, nodes-elements)
 
 -- what a tree and those after it make
-
-entries-row : (next : ℕ) (trees : List Tree) (first : Tree) → 1 ≤ length trees → first ≡ get_or trees 0 first → entries_of next first ++ entries (next + nodes_of first) (row (rest trees)) ≡ entries next (row trees)
-entries-row next [] first h e = absurd (omega arith)
-entries-row next (queue q ∷ trees) first h e = rw (e, rest-cons (queue q) trees, add-zero next) refl
-entries-row next (scheduler class inputs ∷ trees) first h e = rw (e, rest-cons (scheduler class inputs) trees, add-suc next (nodes inputs)) refl
-
-kinds-row : (trees : List Tree) (first : Tree) → 1 ≤ length trees → first ≡ get_or trees 0 first → kinds_of first ++ kinds (row (rest trees)) ≡ kinds (row trees)
-kinds-row [] first h e = absurd (omega arith)
-kinds-row (queue q ∷ trees) first h e = rw (e, rest-cons (queue q) trees) refl
-kinds-row (scheduler class inputs ∷ trees) first h e = rw (e, rest-cons (scheduler class inputs) trees) refl
-
 inputs-row : (next : ℕ) (trees : List Tree) (first : Tree) → 1 ≤ length trees → first ≡ get_or trees 0 first → input_of next first ∷ inputs_of (next + nodes_of first) (row (rest trees)) ≡ inputs_of next (row trees)
-inputs-row next [] first h e = absurd (omega arith)
-inputs-row next (queue q ∷ trees) first h e = rw (e, rest-cons (queue q) trees, add-zero next) refl
-inputs-row next (scheduler class inputs ∷ trees) first h e = rw (e, rest-cons (scheduler class inputs) trees, add-suc next (nodes inputs)) refl
+inputs-row next trees first h e = grind (arith, common_steps, add-zero, add-suc)
 
 -- how tables grow
-
-pub adds-none : (t : Tables) → Adds t t [] []
-adds-none t = record { inputs = sym (append-nil (map entry t.inputs.items)); states = λ before h. subst (λ l. AreFirst l t.states.items) (sym (append-nil before)) h }
-
-adds-then : (a b c : Tables) (m k : List Entry) (x y : List Kind) → Adds a b m x → Adds b c k y → Adds a c (m ++ k) (x ++ y)
-adds-then a b c m k x y f g =
-    record {
-      inputs = g.inputs ∙ ap (λ l. l ++ k) f.inputs ∙ append_assoc (map entry a.inputs.items) m k;
-      states = λ before h. subst (λ l. AreFirst l c.states.items) (append_assoc before x y) (g.states (before ++ x) (f.states before h));
-    }
-
 pub adds-size : (a b : Tables) (tree : Tree) → Adds a b (entries_of (length a.inputs.items) tree) (kinds_of tree) → length b.inputs.items ≡ length a.inputs.items + nodes_of tree
-adds-size a b tree f =
-    sym (length-map b.inputs.items entry) ∙ ap length f.inputs ∙ length-append (map entry a.inputs.items) (entries_of (length a.inputs.items) tree)
-    ∙ ap₂ (λ n k. n + k) (length-map a.inputs.items entry) (length-entries_of (length a.inputs.items) tree)
+adds-size a b tree f = search (rules, length-map, length-append, length-entries_of)
 
 pub adds-row : (a b c : Tables) (trees : List Tree) (first : Tree) → 1 ≤ length trees → first ≡ get_or trees 0 first → Adds a b (entries_of (length a.inputs.items) first) (kinds_of first)
     → Adds b c (entries (length b.inputs.items) (row (rest trees))) (kinds (row (rest trees))) → Adds a c (entries (length a.inputs.items) (row trees)) (kinds (row trees))
-adds-row a b c trees first h e f g =
-    subst (λ k. Adds a c (entries (length a.inputs.items) (row trees)) k) (kinds-row trees first h e)
-    (subst (λ m. Adds a c m (kinds_of first ++ kinds (row (rest trees)))) (ap (λ n. entries_of (length a.inputs.items) first ++ entries n (row (rest trees))) (adds-size a b first f) ∙ entries-row (length a.inputs.items) trees first h e)
-    (adds-then a b c _ _ _ _ f g))
+adds-row a b c trees first h e f g = grind (arith, common_steps, adds-size)
 
 pub inputs-more : (a b : Tables) (trees : List Tree) (first : Tree) (each : List Input) → 1 ≤ length trees → first ≡ get_or trees 0 first → Adds a b (entries_of (length a.inputs.items) first) (kinds_of first)
     → (each ++ input_of (length a.inputs.items) first ∷ []) ++ inputs_of (length b.inputs.items) (row (rest trees)) ≡ each ++ inputs_of (length a.inputs.items) (row trees)
-inputs-more a b trees first each h e f =
-    append_assoc each (input_of (length a.inputs.items) first ∷ []) (inputs_of (length b.inputs.items) (row (rest trees)))
-    ∙ ap (λ l. each ++ l) (ap (λ n. input_of (length a.inputs.items) first ∷ inputs_of n (row (rest trees))) (adds-size a b first f) ∙ inputs-row (length a.inputs.items) trees first h e)
+inputs-more a b trees first each h e f = search (rules, append_assoc, adds-size, inputs-row)
 
 are_first-then : (before : List Kind) (states : List State) (k : Kind) (s : State) → AreFirst before states → Holds k.0 k.1 [] s → AreFirst (before ++ k ∷ []) (states ++ s ∷ [])
 are_first-then [] [] k s h f = (f, tt)
@@ -108,8 +76,7 @@ adds-node old a b new below state place p kept held f each edges put same class 
     size = ap length kept ∙ length-append old.inputs.items (place ∷ []) ∙ (let e : n + 1 ≡ suc n = omega arith in e)
 
 pub row-root : (tree : Tree) → row (tree ∷ []) ≡ root tree
-row-root (queue q) = refl
-row-root (scheduler class inputs) = refl
+row-root tree = search rules
 
 -- The device was added to empty tables, over a tree.
 pub adds-device : (tree : Tree) (trees : List Tree) (old new : Tables) → trees ≡ tree ∷ [] → old.inputs.items ≡ [] → old.states.items ≡ [] → AddsNode old new Prio (row trees)

@@ -1,5 +1,5 @@
 -- Which nodes stand at an input of a row or below, and that visits that were made there are theirs.
-use Rattle.std.proofs.Common.{◌≡◌, ℕ, zero, suc, ◌+◌, ◌<◌, ◌≤◌, Bool, true, false, if◌then◌else◌, List, [], ◌∷◌, ◌++◌, Option, refl, sym, ap, subst, arith}
+use Rattle.std.proofs.Common.{◌≡◌, ℕ, zero, suc, ◌+◌, ◌<◌, ◌≤◌, Bool, if◌then◌else◌, List, [], ◌∷◌, ◌++◌, Option, refl, sym, ap, subst, arith, rules}
 use Rattle.std.specs.List.{AllByRecursion}
 use Rattle.clk_packet.specs.declared.packet.Packet.{Packet}
 use Rattle.clk_sched.specs.declared.visit.Visit.{Visit}
@@ -68,8 +68,7 @@ asked-below now history next (node class inputs row) zero visits got h =
 
     below : (v : Visit) → In v h.own → (IsAskedAt now history (suc next) inputs v.input (h.made v.input) v.got → AllByRecursion (IsVisitBelow now (suc next) inputs v.input) (h.made v.input))
         → (b : Bool) → v.fresh ≡ b → AllByRecursion (IsVisitBelow now next (node class inputs row) zero) (if b then h.made v.input else [])
-    below v m made true e = further v.input (h.made v.input) (made (of-all _ v h.own h.each m e))
-    below v m made false e = tt
+    below v m made b e = search (rules, of-all, further, own)
 asked-below now history next (node class inputs row) (suc i) visits got h = again visits (asked-below now history (suc (next + nodes inputs)) row i visits got h)
   where
     again : (vs : List Visit) → AllByRecursion (IsVisitBelow now (suc (next + nodes inputs)) row i) vs → AllByRecursion (IsVisitBelow now next (node class inputs row) (suc i)) vs

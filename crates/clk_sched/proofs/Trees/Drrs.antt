@@ -1,10 +1,10 @@
 -- DRRScheds above the queues of trees, as they are counted one tree after another.
-use Rattle.std.proofs.Common.{◌≡◌, ℕ, ◌+◌, ◌<◌, ◌≤◌, ◌||◌, Bool, true, false, if◌then◌else◌, List, ◌∷◌, ◌++◌, length, get_or, suc, max, refl, sym, ap, ◌∙◌, subst, append-nil, arith, eq-eqb}
+use Rattle.std.proofs.Common.{◌≡◌, ℕ, ◌+◌, ◌<◌, ◌≤◌, ◌||◌, Bool, true, false, if◌then◌else◌, List, ◌∷◌, ◌++◌, length, get_or, max, refl, sym, ap, ◌∙◌, subst, append-nil, arith, eq-eqb, rules}
 use Rattle.std.proofs.lemmas.Bool.{false≢true}
 use Rattle.clk_packet.specs.Limits.{most_levels}
 use Rattle.clk_packet.specs.Lists.{stands_in, are_distinct}
-use Rattle.clk_packet.specs.Scheduler.{Scheduler, drr}
-use Rattle.clk_sched.specs.Tree.{Row, end, leaf, node, Tree, queue, scheduler, root, height, leaves}
+use Rattle.clk_packet.specs.Scheduler.{Scheduler}
+use Rattle.clk_sched.specs.Tree.{Row, end, leaf, node, Tree, queue, root, height, leaves}
 use Rattle.clk_sched.specs.Built.{row, levels}
 use Rattle.clk_sched.specs.FewHeads.{most_heads, drrs_above}
 use Rattle.clk_sched.specs.inside.Drrs.{HasPlaces, IsCounted}
@@ -12,8 +12,7 @@ use Rattle.clk_sched.proofs.Trees.Distinct.{or-neither, stands-neither, distinct
 use Rattle.clk_sched.proofs.Trees.TreeLemmas.{stands_in-append}
 
 or_true : (b : Bool) → (b || true) ≡ true
-or_true true = refl
-or_true false = refl
+or_true b = search rules
 
 -- no DRRSched stands above a queue that a row doesn't have
 drrs-none : (q : ℕ) (r : Row) → stands_in q (leaves r) ≡ false → drrs_above q r ≡ 0
@@ -25,45 +24,29 @@ drrs-none q (node class inputs r) none =
 
 -- the queues of a tree and of those after it
 leaves-cons : (t : Tree) (ts : List Tree) → leaves (row (t ∷ ts)) ≡ leaves (root t) ++ leaves (row ts)
-leaves-cons (queue p) ts = refl
-leaves-cons (scheduler class inputs) ts = ap (λ qs. qs ++ leaves (row ts)) (sym (append-nil (leaves inputs)))
+leaves-cons t ts = search rules
 
 -- a queue of the first tree, and one of those after it, has as many DRRScheds above it as there alone
 drrs-first : (q : ℕ) (t : Tree) (ts : List Tree) → stands_in q (leaves (root t)) ≡ true → stands_in q (leaves (row ts)) ≡ false → drrs_above q (row (t ∷ ts)) ≡ drrs_above q (root t)
-drrs-first q (queue p) ts first later = drrs-none q (row ts) later
-drrs-first q (scheduler class inputs) ts first later =
-    let among : stands_in q (leaves inputs) ≡ true = ap (stands_in q) (sym (append-nil (leaves inputs))) ∙ first in
-    ap (λ (b : Bool). if b then most_heads class + drrs_above q inputs else drrs_above q (row ts)) among
-    ∙ sym (ap (λ (b : Bool). if b then most_heads class + drrs_above q inputs else 0) among)
+drrs-first q t ts first later = search (rules, drrs-none, append-nil)
 
 drrs-later : (q : ℕ) (t : Tree) (ts : List Tree) → stands_in q (leaves (root t)) ≡ false → drrs_above q (row (t ∷ ts)) ≡ drrs_above q (row ts)
-drrs-later q (queue p) ts first = refl
-drrs-later q (scheduler class inputs) ts first =
-    let among : stands_in q (leaves inputs) ≡ false = ap (stands_in q) (sym (append-nil (leaves inputs))) ∙ first in
-    ap (λ (b : Bool). if b then most_heads class + drrs_above q inputs else drrs_above q (row ts)) among
+drrs-later q t ts first = search rules
 
 height-cons : (t : Tree) (ts : List Tree) → height (row (t ∷ ts)) ≡ max (height (root t)) (height (row ts))
-height-cons (queue p) ts = omega arith
-height-cons (scheduler class inputs) ts = omega arith
+height-cons t ts = search rules
 
 height-root : (t : Tree) → height (root t) ≡ levels t
-height-root (queue p) = refl
-height-root (scheduler class inputs) = omega arith
+height-root t = search rules
 
 most-one : (class : Scheduler) → most_heads class ≤ 1
-most-one (drr quanta) = omega arith
-most-one class = omega arith
+most-one class = search rules
 
 -- no more DRRScheds stand above a queue than schedulers on the longest path
 drrs-low : (q : ℕ) (r : Row) → drrs_above q r ≤ height r
 drrs-low q end = omega arith
 drrs-low q (leaf p r) = drrs-low q r
-drrs-low q (node class inputs r) = by_test (stands_in q (leaves inputs)) (most-one class) (drrs-low q inputs) (drrs-low q r)
-  where
-    by_test : (b : Bool) → most_heads class ≤ 1 → drrs_above q inputs ≤ height inputs → drrs_above q r ≤ height r
-        → (if b then most_heads class + drrs_above q inputs else drrs_above q r) ≤ max (suc (height inputs)) (height r)
-    by_test true one below beside = omega (arith, one, below)
-    by_test false one below beside = omega (arith, beside)
+drrs-low q (node class inputs r) = search (rules, (stands_in q (leaves inputs)), (most-one class), (drrs-low q inputs), (drrs-low q r))
 
 pub drrs-within : (q : ℕ) (t : Tree) → levels t ≤ most_levels → drrs_above q (root t) ≤ most_levels
 drrs-within q t low = omega (arith, low, height-root t, drrs-low q (root t))

@@ -1,5 +1,5 @@
 -- Tables that have an entry and a state for each scheduler of a tree lay it out.
-use Rattle.std.proofs.Common.{◌≡◌, ℕ, suc, ◌+◌, ◌<◌, ◌≤◌, ◌==◌, nat_lt, Bool, true, false, List, [], ◌∷◌, ◌++◌, length, map, slice_get, Option, Some, None, MatchOption, refl, sym, ap, ap₂, ◌∙◌, subst, append-nil, append_assoc, length-append, add-zero, arith}
+use Rattle.std.proofs.Common.{◌≡◌, ℕ, suc, ◌+◌, ◌<◌, ◌≤◌, ◌==◌, nat_lt, Bool, true, false, List, [], ◌∷◌, ◌++◌, length, map, slice_get, Option, Some, MatchOption, refl, sym, ap, ap₂, ◌∙◌, subst, append-nil, append_assoc, length-append, add-zero, arith, rules}
 use Rattle.std.proofs.lemmas.Bool.Decides.{nat_tests}
 use Rattle.std.proofs.lemmas.List.{length-map}
 use Rattle.std.proofs.lemmas.Option.{slice_get_within}
@@ -9,14 +9,13 @@ use Rattle.clk_sched.specs.declared.session.inputs.Inputs.{Inputs}
 use Rattle.clk_sched.specs.declared.session.nodes.Nodes.{Nodes}
 use Rattle.clk_sched.specs.declared.session.state.State.{State}
 use Rattle.clk_packet.specs.Scheduler.{Scheduler, prio, HasArguments}
-use Rattle.clk_sched.specs.Tree.{Row, end, leaf, node, Tree, queue, scheduler, root, nodes, width, IsWellFormed}
-use Rattle.clk_sched.specs.inside.Places.{inputs_of, EachHasInputs, option_edges, edges_to_all, IsAfter, IsWired}
+use Rattle.clk_sched.specs.Tree.{Row, end, leaf, node, Tree, root, nodes, width, IsWellFormed}
+use Rattle.clk_sched.specs.inside.Places.{inputs_of, EachHasInputs, edges_to_all, IsAfter, IsWired}
 use Rattle.clk_sched.specs.inside.Pulling.{EachHolds}
 use Rattle.clk_sched.specs.Session.{elements}
 use Rattle.clk_sched.specs.inside.Session.{IsLaidOut}
 use Rattle.clk_sched.specs.inside.Holds.OfClass.{Fits, Holds}
-use Rattle.clk_sched.specs.inside.LaidOut.{elements_of, Entry, entry, entry_over, entries, Kind, kinds, AreFirst}
-use Rattle.clk_sched.proofs.Classes.Table.{fits-first}
+use Rattle.clk_sched.specs.inside.LaidOut.{Entry, entry, entry_over, entries, Kind, kinds, AreFirst}
 
 -- how many there are of each
 
@@ -51,9 +50,7 @@ seam [] x xs = refl
 seam (y ∷ before) x xs = seam before x xs
 
 sits-next : {X Y : Type 0} (R : Y → X → Type 0) (before : List X) (x : X) (xs : List X) (ys : List Y) → Sits R ((before ++ x ∷ []) ++ xs) (length (before ++ x ∷ [])) ys → Sits R (before ++ x ∷ xs) (suc (length before)) ys
-sits-next R before x xs ys h =
-    subst (λ n. Sits R (before ++ x ∷ xs) n ys) (length-append before (x ∷ []) ∙ (let e : length before + 1 ≡ suc (length before) = omega arith in e))
-    (subst (λ l. Sits R l (length (before ++ x ∷ [])) ys) (append_assoc before (x ∷ []) xs) h)
+sits-next R before x xs ys h = search (rules, length-append, append_assoc)
 
 abbrev IsEntry : Entry → Inputs → Type 0
 IsEntry e p = entry p ≡ e
@@ -99,22 +96,15 @@ after-all size x next end l k = tt
 after-all size x next (leaf q row) l k = (tt, after-all size x next row l k)
 after-all size x next (node class inputs row) l k = ((l, omega arith), after-all size x (suc (next + nodes inputs)) row (omega arith) (omega arith))
 
-option_edges-is : (o : Option Inputs) (e : Entry) → MatchOption o ⊥ (IsEntry e) → option_edges o ≡ e.1
-option_edges-is None e h = absurd h
-option_edges-is (Some p) e h = ap (λ (q : Entry). q.1) h
-
 -- the entries of a row after those of the inputs of its first scheduler
 entries-after : (table : List Inputs) (next : ℕ) (inputs row : Row) → Sits IsEntry table (suc next) (entries (suc next) inputs ++ entries (suc (next + nodes inputs)) row)
     → Sits IsEntry table (suc next) (entries (suc next) inputs) × Sits IsEntry table (suc (next + nodes inputs)) (entries (suc (next + nodes inputs)) row)
-entries-after table next inputs row h =
-    let both = sits-split IsEntry table (suc next) (entries (suc next) inputs) (entries (suc (next + nodes inputs)) row) h in
-    (both.0, subst (λ n. Sits IsEntry table n (entries (suc (next + nodes inputs)) row)) (let e = length-entries (suc next) inputs in let s : suc next + length (entries (suc next) inputs) ≡ suc (next + nodes inputs) = omega (arith, e) in s) both.1)
+entries-after table next inputs row h = search (rules, sits-split, length-entries)
 
 edges-all : (table : List Inputs) (next : ℕ) (row : Row) → Sits IsEntry table next (entries next row) → elements row ≡ edges_to_all table (inputs_of next row)
 edges-all table next end h = refl
 edges-all table next (leaf q row) h = omega (arith, edges-all table next row h)
-edges-all table next (node class inputs row) h =
-    omega (arith, option_edges-is (slice_get table next) (entry_over next inputs) h.0, edges-all table (suc (next + nodes inputs)) row (entries-after table next inputs row h.1).1)
+edges-all table next (node class inputs row) h = search (rules, entries-after, (edges-all table (suc (next + nodes inputs)) row (entries-after table next inputs row h.1).1))
 
 placed : (table : List Inputs) (states : List State) (next : ℕ) (row : Row) → IsWellFormed row → next + nodes row ≤ length table → Sits IsEntry table next (entries next row) → Sits IsFirst states next (kinds row)
     → ArePlaced table states next row
@@ -138,8 +128,7 @@ placed table states next (node class inputs row) formed size e f =
     )
 
 match-weaker : {X : Type 0} (P Q : X → Type 0) (o : Option X) → ((x : X) → P x → Q x) → MatchOption o ⊥ P → MatchOption o ⊥ Q
-match-weaker P Q None f h = absurd h
-match-weaker P Q (Some x) f h = f x h
+match-weaker P Q o f h = search rules
 
 has-inputs : (table : List Inputs) (states : List State) (x : ℕ) (class : Scheduler) (row : Row) → IsPlaced table states x class row → MatchOption (slice_get table x) ⊥ (λ (p : Inputs). p.each.items ≡ inputs_of (suc x) row)
 has-inputs table states x class row h = match-weaker (IsEntry (entry_over x row)) (λ (p : Inputs). p.each.items ≡ inputs_of (suc x) row) (slice_get table x) (λ p e. ap (λ (q : Entry). q.0) e) h.inputs
@@ -183,32 +172,17 @@ at : {X : Type 0} (P : X → Type 0) (o : Option X) (x : X) → o ≡ Some x →
 at P o x e h = subst (λ u. MatchOption u ⊥ P) e h
 
 wired : (table : List Inputs) (states : List State) (x : ℕ) (p : Inputs) → slice_get table x ≡ Some p → Found table states x → IsWired table x p
-wired table states x p e f =
-    let same = at (IsEntry (entry_over x f.row)) (slice_get table x) p e f.placed.inputs in
-    let each : p.each.items ≡ inputs_of (suc x) f.row = ap (λ (q : Entry). q.0) same in
-    record {
-      few = let size = ap length each ∙ length-inputs (suc x) f.row in let few = f.placed.few in omega (arith, size, few);
-      after = subst (AllByRecursion (IsAfter (length table) x)) (sym each) f.placed.after;
-      edges = ap (λ (q : Entry). q.1) same ∙ f.placed.edges ∙ ap (edges_to_all table) (sym each);
-    }
+wired table states x p e f = search (rules, at, placed, length-inputs)
 
 fits : (table : List Inputs) (states : List State) (x : ℕ) (p : Inputs) (s : State) → slice_get table x ≡ Some p → slice_get states x ≡ Some s → Found table states x → Fits s (length p.each.items)
-fits table states x p s e g f =
-    let same = at (IsEntry (entry_over x f.row)) (slice_get table x) p e f.placed.inputs in
-    let size : width f.row ≡ length p.each.items = sym (ap (λ (q : Entry). length q.0) same ∙ length-inputs (suc x) f.row) in
-    subst (Fits s) size (fits-first f.class (width f.row) s f.placed.some f.placed.arguments (at (Holds f.class (width f.row) []) (slice_get states x) s g f.placed.state))
+fits table states x p s e g f = search (rules, at, placed, length-inputs)
 
 -- the device over a tree
 abbrev device : Tree → Row
 device tree = node prio (root tree) end
 
 width-root : (tree : Tree) → width (root tree) ≡ 1
-width-root (queue q) = refl
-width-root (scheduler class inputs) = refl
-
-pub elements-root : (tree : Tree) → elements_of tree ≡ elements (root tree)
-elements-root (queue q) = refl
-elements-root (scheduler class inputs) = omega arith
+width-root tree = search rules
 
 -- Tables to which the device was added, with all that is below it, lay out a tree.
 pub lays-out : (tree : Tree) (n : Nodes) → IsWellFormed (root tree) → map entry n.inputs.items ≡ entry_over 0 (root tree) ∷ entries 1 (root tree) → AreFirst ((prio, width (root tree)) ∷ kinds (root tree)) n.states.items

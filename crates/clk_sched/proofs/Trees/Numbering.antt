@@ -1,17 +1,15 @@
 -- Which queue stands at which input of which node.
-use Rattle.std.proofs.Common.{◌≡◌, ◌≢◌, ℕ, ◌+◌, ◌<◌, ◌≤◌, ◌==◌, ◌&&◌, suc, Bool, true, false, Option, Some, None, refl, sym, ◌∙◌, arith}
+use Rattle.std.proofs.Common.{◌≡◌, ◌≢◌, ℕ, ◌+◌, ◌<◌, ◌≤◌, ◌==◌, ◌&&◌, suc, Bool, false, Option, Some, None, refl, sym, ◌∙◌, arith, rules}
 use Rattle.std.specs.Option.{option_or}
 use Rattle.clk_packet.specs.Scheduler.{Scheduler}
 use Rattle.clk_sched.specs.Tree.{Row, end, leaf, node, Tree, root, nodes, queue_in, queue_at}
 use Rattle.clk_sched.proofs.Lists.Numbers.{equal, differs}
 
 and_false : (b : Bool) → (b && false) ≡ false
-and_false true = refl
-and_false false = refl
+and_false b = search rules
 
 pub or_none : (o : Option ℕ) → option_or o None ≡ o
-or_none None = refl
-or_none (Some q) = refl
+or_none o = search rules
 
 -- no queue of a row stands at a node numbered before those of the row
 pub queue_in-before : (above first next : ℕ) (row : Row) (x i : ℕ) → x < next → x ≢ above → queue_in above first next row x i ≡ None
@@ -31,8 +29,7 @@ queue_in-after above first next (node class inputs row) x i o l =
 pub queue_in-earlier : (above first next : ℕ) (row : Row) (i : ℕ) → above < next → i < first → queue_in above first next row above i ≡ None
 queue_in-earlier above first next end i o l = refl
 queue_in-earlier above first next (leaf q row) i o l = rw (differs first i (λ e. omega (arith, e)), and_false (above == above)) (queue_in-earlier above (suc first) next row i o (omega arith))
-queue_in-earlier above first next (node class inputs row) i o l =
-    rw (queue_in-before next 0 (suc next) inputs above i (omega arith) (λ e. omega (arith, e)), queue_in-earlier above (suc first) (suc (next + nodes inputs)) row i (omega arith) (omega arith)) refl
+queue_in-earlier above first next (node class inputs row) i o l = search (rules, queue_in-before, (queue_in-earlier above (suc first) (suc (next + nodes inputs)) row i (omega arith) (omega arith)))
 
 -- What a tree says of the queues at the inputs of node `above` from `first` on, and at those of the nodes of a row, is what
 -- the row says.
@@ -45,35 +42,15 @@ pub stands-root : (tree : Tree) → StandsAt tree 0 0 1 (root tree)
 stands-root tree = record { ordered = omega arith; own = λ i l. refl; below = λ x i l h. refl }
 
 pub stands-after_leaf : (tree : Tree) (above first next q : ℕ) (row : Row) → StandsAt tree above first next (leaf q row) → StandsAt tree above (suc first) next row
-stands-after_leaf tree above first next q row s =
-    record {
-      ordered = s.ordered;
-      own = λ i l. s.own i (omega arith) ∙ rw (differs first i (λ e. omega (arith, e)), and_false (above == above)) refl;
-      below = λ x i l h. s.below x i l h ∙ (let o = s.ordered in rw (differs above x (λ e. omega (arith, e, o))) refl);
-    }
+stands-after_leaf tree above first next q row s = search rules
 
 pub stands-after_node : (tree : Tree) (above first next : ℕ) (class : Scheduler) (inputs row : Row) → StandsAt tree above first next (node class inputs row)
     → StandsAt tree above (suc first) (suc (next + nodes inputs)) row
-stands-after_node tree above first next class inputs row s =
-    let o = s.ordered in
-    record {
-      ordered = omega arith;
-      own = λ i l. s.own i (omega arith) ∙ rw (queue_in-before next 0 (suc next) inputs above i (omega arith) (λ e. omega (arith, e))) refl;
-      below = λ x i l h. s.below x i (omega arith) (omega arith) ∙ rw (queue_in-after next 0 (suc next) inputs x i (omega arith) (omega arith)) refl;
-    }
+stands-after_node tree above first next class inputs row s = search (rules, queue_in-before, queue_in-after)
 
 pub stands-inputs : (tree : Tree) (above first next : ℕ) (class : Scheduler) (inputs row : Row) → StandsAt tree above first next (node class inputs row)
     → StandsAt tree next 0 (suc next) inputs
-stands-inputs tree above first next class inputs row s =
-    let o = s.ordered in
-    record {
-      ordered = omega arith;
-      own = λ i l. s.below next i (omega arith) (omega arith) ∙ rw (later next i (omega arith) (omega arith)) (or_none (queue_in next 0 (suc next) inputs next i));
-      below = λ x i l h. s.below x i (omega arith) (omega arith) ∙ rw (later x i (omega arith) (omega arith)) (or_none (queue_in next 0 (suc next) inputs x i));
-    }
-  where
-    later : (x i : ℕ) → above < x → x < suc (next + nodes inputs) → queue_in above (suc first) (suc (next + nodes inputs)) row x i ≡ None
-    later x i a l = queue_in-before above (suc first) (suc (next + nodes inputs)) row x i l (λ e. omega (arith, e))
+stands-inputs tree above first next class inputs row s = search (rules, or_none, queue_in-before)
 
 pub at-leaf : (tree : Tree) (above first next q : ℕ) (row : Row) → StandsAt tree above first next (leaf q row) → queue_at tree above first ≡ Some q
 at-leaf tree above first next q row s = s.own first (omega arith) ∙ rw (equal above above refl, equal first first refl) refl

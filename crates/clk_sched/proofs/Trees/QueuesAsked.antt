@@ -1,5 +1,5 @@
 -- The queues that visits asked, as the tree has them and as a table has them.
-use Rattle.std.proofs.Common.{◌≡◌, ◌⊎◌, ℕ, zero, suc, ◌+◌, ◌<◌, ◌≤◌, ◌==◌, Bool, true, false, if◌then◌else◌, List, [], ◌∷◌, slice_get, Option, Some, None, MatchOption, inl, inr, refl, sym, ap, ◌∙◌, subst, eq-or-lt_of_le, arith}
+use Rattle.std.proofs.Common.{◌≡◌, ◌⊎◌, ℕ, zero, suc, ◌+◌, ◌<◌, ◌≤◌, ◌==◌, List, [], ◌∷◌, slice_get, Option, refl, eq-or-lt_of_le, arith, rules}
 use Rattle.std.specs.List.{AllByRecursion}
 use Rattle.std.proofs.lemmas.Bool.{cases_lt}
 use Rattle.std.proofs.Math.Bool.{and-false}
@@ -9,7 +9,7 @@ use Rattle.clk_sched.specs.declared.session.inputs.Inputs.{Inputs}
 use Rattle.clk_packet.specs.Scheduler.{Scheduler}
 use Rattle.clk_sched.specs.Tree.{Row, end, leaf, node, Tree, root, nodes, queue_in, queue_at}
 use Rattle.clk_sched.specs.Answers.{at_queue, Answers, tree_queue}
-use Rattle.clk_sched.specs.inside.Places.{inputs_of, HasInputs, EachHasInputs, StandsIn, option_input, input_at, queue_of, queue_asked}
+use Rattle.clk_sched.specs.inside.Places.{inputs_of, HasInputs, EachHasInputs, StandsIn, input_at, queue_of, queue_asked}
 use Rattle.clk_sched.specs.inside.Pulling.{Now, History, IsBlock}
 use Rattle.clk_sched.proofs.Lists.Numbers.{equal, differs}
 use Rattle.clk_sched.proofs.Lists.Members.{all-weaker}
@@ -21,18 +21,12 @@ row-queue : (above first next : ℕ) (row : Row) (i j : ℕ) → above < next �
 row-queue above first next end i j o e = refl
 row-queue above first next (leaf q row) zero j o e = rw (equal above above refl, equal first j (omega (arith, e))) refl
 row-queue above first next (leaf q row) (suc i) j o e = rw (differs first j (λ d. omega (arith, e, d)), and-false (above == above)) (row-queue above (suc first) next row i j o (omega (arith, e)))
-row-queue above first next (node class inputs row) zero j o e =
-    rw (queue_in-before next 0 (suc next) inputs above j (omega arith) (λ d. omega (arith, d)), queue_in-earlier above (suc first) (suc (next + nodes inputs)) row j (omega arith) (omega (arith, e))) refl
-row-queue above first next (node class inputs row) (suc i) j o e =
-    rw (queue_in-before next 0 (suc next) inputs above j (omega arith) (λ d. omega (arith, d))) (row-queue above (suc first) (suc (next + nodes inputs)) row i j (omega arith) (omega (arith, e)))
+row-queue above first next (node class inputs row) zero j o e = search (rules, queue_in-before, queue_in-earlier)
+row-queue above first next (node class inputs row) (suc i) j o e = search (rules, queue_in-before, (row-queue above (suc first) (suc (next + nodes inputs)) row i j (omega arith) (omega (arith, e))))
 
 -- the queue at an input of a node whose inputs in the table are those of a row
 table-queue : (table : List Inputs) (x : ℕ) (row : Row) (i : ℕ) → HasInputs table x row → queue_of (input_at table x i) ≡ queue_in x 0 (suc x) row x i
-table-queue table x row i h = by_place (slice_get table x) h ∙ row-queue x 0 (suc x) row i i (omega arith) (omega arith)
-  where
-    by_place : (o : Option Inputs) → MatchOption o ⊥ (λ (p : Inputs). p.each.items ≡ inputs_of (suc x) row) → queue_of (option_input o i) ≡ queue_of (slice_get (inputs_of (suc x) row) i)
-    by_place None k = absurd k
-    by_place (Some p) k = ap (λ l. queue_of (slice_get l i)) k
+table-queue table x row i h = search (rules, row-queue)
 
 -- the table and the tree have the same queues at the inputs of the nodes of a row
 row-queues : (tree : Tree) (table : List Inputs) (above first next : ℕ) (row : Row) → StandsAt tree above first next row → EachHasInputs table next row → (x i : ℕ) → next ≤ x → x < next + nodes row
@@ -48,9 +42,7 @@ row-queues tree table above first next (node class inputs row) s h x i l m =
 
     by_place : (next ≡ x) ⊎ (next < x) → (x < suc (next + nodes inputs)) ⊎ (suc (next + nodes inputs) ≤ x) → (suc next ≤ x → x < suc next + nodes inputs → queue_of (input_at table x i) ≡ queue_at tree x i)
         → (suc (next + nodes inputs) ≤ x → queue_of (input_at table x i) ≡ queue_at tree x i) → queue_of (input_at table x i) ≡ queue_at tree x i
-    by_place (inl e) place below later = subst (λ y. queue_of (input_at table y i) ≡ queue_at tree y i) e (table-queue table next inputs i h.0 ∙ sym (within.own i (omega arith)))
-    by_place (inr k) (inl n) below later = below (omega arith) (omega arith)
-    by_place (inr k) (inr n) below later = later n
+    by_place e place below later = search (rules, table-queue, within)
 
 -- a table in which a tree stands has the queues of the tree
 pub queue-is : (tree : Tree) (table : List Inputs) → StandsIn table 0 (root tree) → (x i : ℕ) → x < suc (nodes (root tree)) → queue_of (input_at table x i) ≡ queue_at tree x i
@@ -69,13 +61,8 @@ pub answers-tree : {S : Type 0} (gives : S → ℕ → Option Packet → S → T
     → AllByRecursion (λ (v : Visit). v.node < suc (nodes (root tree))) visits → Answers gives (queue_asked table) a visits b → Answers gives (tree_queue tree) a visits b
 answers-tree gives tree table [] a b stands within h = h
 answers-tree {S = S} gives tree table (v ∷ visits) a b stands within h =
-    by_queue (queue_asked table v) (tree_queue tree v) (same v.fresh) (λ c k. answers-tree gives tree table visits c b stands within.1 k) h
+    by_queue (queue_asked table v) (tree_queue tree v) (search (rules, queue-is)) (λ c k. answers-tree gives tree table visits c b stands within.1 k) h
   where
-    same : (f : Bool) → (if f then queue_of (input_at table v.node v.input) else None) ≡ (if f then queue_at tree v.node v.input else None)
-    same true = queue-is tree table stands v.node v.input within.0
-    same false = refl
-
     by_queue : (o p : Option ℕ) → o ≡ p → ((c : S) → Answers gives (queue_asked table) c visits b → Answers gives (tree_queue tree) c visits b)
         → at_queue gives o v.got a (λ c. Answers gives (queue_asked table) c visits b) → at_queue gives p v.got a (λ c. Answers gives (tree_queue tree) c visits b)
-    by_queue None p e rest k = subst (λ r. at_queue gives r v.got a (λ c. Answers gives (tree_queue tree) c visits b)) e (rest a k)
-    by_queue (Some q) p e rest k = subst (λ r. at_queue gives r v.got a (λ c. Answers gives (tree_queue tree) c visits b)) e (k.0, k.1, rest k.0 k.2)
+    by_queue o p e rest k = search rules

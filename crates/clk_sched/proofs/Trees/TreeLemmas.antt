@@ -1,7 +1,6 @@
 -- What the constructors of trees build.
-use Rattle.std.proofs.Common.{◌≡◌, ℕ, ◌+◌, ◌-◌, ◌<◌, ◌≤◌, ◌==◌, ◌||◌, Bool, List, [], ◌∷◌, ◌++◌, length, take, drop, get_or, Ok, Err, suc, true, false, nat_lt, refl, sym, append_assoc, append-nil, arith}
-use Rattle.std.proofs.lemmas.Bool.Decides.{nat_tests}
-use Rattle.std.proofs.lemmas.List.{take_all}
+use Rattle.std.proofs.lemmas.Grind.{common_steps}
+use Rattle.std.proofs.Common.{◌≡◌, ℕ, ◌+◌, ◌-◌, ◌<◌, ◌≤◌, ◌==◌, ◌||◌, Bool, List, [], ◌∷◌, ◌++◌, length, take, drop, get_or, Ok, Err, refl, append_assoc, arith, rules}
 use Rattle.clk_packet.specs.declared.fault.Fault.TheVariants.{TooLarge}
 use Rattle.clk_packet.specs.Limits.{most_inputs, most_levels}
 use Rattle.clk_packet.specs.Lists.{stands_in}
@@ -13,23 +12,15 @@ use Rattle.clk_sched.specs.inside.LaidOut.{elements_of}
 
 pub built-wide : (class : Scheduler) (children : List Tree) → most_inputs < length children → Err TooLarge ≡ built class children
 unfolding built
-built-wide class children wide =
-    let e : nat_lt most_inputs (length children) ≡ true = grind (arith, nat_tests) in
-    rw e refl
+built-wide class children wide = search rules
 
 pub built-high : (class : Scheduler) (children : List Tree) → length children ≤ most_inputs → most_levels ≤ height (row children) → Err TooLarge ≡ built class children
 unfolding built
-built-high class children narrow high =
-    let e : nat_lt most_inputs (length children) ≡ false = grind (arith, nat_tests) in
-    let f : nat_lt most_levels (suc (height (row children))) ≡ true = grind (arith, nat_tests) in
-    rw (e, f) refl
+built-high class children narrow high = search rules
 
 pub built-fits : (class : Scheduler) (children : List Tree) → length children ≤ most_inputs → height (row children) < most_levels → Ok (scheduler class (row children)) ≡ built class children
 unfolding built
-built-fits class children narrow low =
-    let e : nat_lt most_inputs (length children) ≡ false = grind (arith, nat_tests) in
-    let f : nat_lt most_levels (suc (height (row children))) ≡ false = grind (arith, nat_tests) in
-    rw (e, f) refl
+built-fits class children narrow low = search rules
 
 pub width-row : (trees : List Tree) → length trees ≡ width (row trees)
 width-row [] = refl
@@ -37,8 +28,7 @@ width-row (queue q ∷ trees) = omega (arith, width-row trees)
 width-row (scheduler class inputs ∷ trees) = omega (arith, width-row trees)
 
 or_assoc : (a b c : Bool) → ((a || b) || c) ≡ (a || (b || c))
-or_assoc true b c = refl
-or_assoc false b c = refl
+or_assoc a b c = search rules
 
 pub stands_in-append : (q : ℕ) (ps rs : List ℕ) → stands_in q (ps ++ rs) ≡ (stands_in q ps || stands_in q rs)
 stands_in-append q [] rs = refl
@@ -48,27 +38,18 @@ stands_in-append q (p ∷ ps) rs = rw (stands_in-append q ps rs, or_assoc (p == 
 abbrev pub rest : {X : Type 0} → List X → List X
 rest xs = take (length xs - 1) (drop 1 xs)
 
-pub rest-cons : {X : Type 0} (x : X) (xs : List X) → rest (x ∷ xs) ≡ xs
-rest-cons x xs = let e : length (x ∷ xs) - 1 ≡ length xs = omega arith in rw e (take_all (length xs) xs (omega arith))
-
 pub first-rest : {X : Type 0} (xs : List X) (first : X) → 1 ≤ length xs → first ≡ get_or xs 0 first → xs ≡ first ∷ rest xs
-first-rest [] first some e = absurd (omega arith)
-first-rest (x ∷ xs) first some e = rw (e, rest-cons x xs) refl
+first-rest xs first some e = grind (arith, common_steps)
 
 -- the queues of the first tree and of the others, after more
 pub leaves-row : (before : List ℕ) (trees : List Tree) (first : Tree) → 1 ≤ length trees → first ≡ get_or trees 0 first → (before ++ leaves_of first) ++ leaves (row (rest trees)) ≡ before ++ leaves (row trees)
-leaves-row before [] first h e = absurd (omega arith)
-leaves-row before (queue q ∷ trees) first h e = rw (e, rest-cons (queue q) trees) (append_assoc before (q ∷ []) (leaves (row trees)))
-leaves-row before (scheduler class inputs ∷ trees) first h e = rw (e, rest-cons (scheduler class inputs) trees) (append_assoc before (leaves inputs) (leaves (row trees)))
+leaves-row before trees first h e = grind (arith, common_steps, append_assoc)
 
 pub elements-row : (trees : List Tree) (first : Tree) → 1 ≤ length trees → first ≡ get_or trees 0 first → (elements_of first + elements (row (rest trees)) ≡ elements (row trees)) × (1 ≤ elements_of first)
-elements-row [] first h e = absurd (omega arith)
-elements-row (queue q ∷ trees) first h e = rw (e, rest-cons (queue q) trees) (omega arith, omega arith)
-elements-row (scheduler class inputs ∷ trees) first h e = rw (e, rest-cons (scheduler class inputs) trees) (omega arith, omega arith)
+elements-row trees first h e = grind (arith, common_steps)
 
 pub leaves-root : (tree : Tree) → leaves_of tree ≡ leaves (root tree)
-leaves-root (queue q) = refl
-leaves-root (scheduler class inputs) = sym (append-nil (leaves inputs))
+leaves-root tree = search rules
 
 -- what is well formed is sound
 pub sound-formed : (r : Row) → IsWellFormed r → IsSound r

@@ -1,5 +1,5 @@
 -- A DRRSched looks at the input whose turn it is.
-use Rattle.std.proofs.Common.{◌≡◌, ℕ, ◌-◌, ◌≤◌, Bool, true, false, not, List, [], ◌∷◌, ◌++◌, slice_get, Option, Some, None, is_some, IsSome, MatchOption, refl, sym, ap, ◌∙◌, subst, arith}
+use Rattle.std.proofs.Common.{◌≡◌, ℕ, ◌-◌, ◌≤◌, Bool, true, false, not, List, [], ◌∷◌, ◌++◌, Option, Some, None, is_some, IsSome, MatchOption, refl, sym, ◌∙◌, subst, arith, rules}
 use Rattle.std.specs.Bool.{⊤}
 use Rattle.std.proofs.lemmas.Bool.{false≢true}
 use Rattle.clk_packet.specs.declared.packet.Packet.{Packet}
@@ -8,12 +8,12 @@ use Rattle.clk_sched.specs.declared.session.inputs.Input.{Input}
 use Rattle.clk_sched.specs.declared.session.inputs.Inputs.{Inputs}
 use Rattle.clk_sched.specs.declared.session.drr.Deficits.{Deficits}
 use Rattle.clk_sched.specs.declared.session.nodes.Nodes.{Nodes}
-use Rattle.clk_sched.specs.Heads.{LooksAtHeads, head_at, is_covered}
+use Rattle.clk_sched.specs.Heads.{LooksAtHeads, head_at}
 use Rattle.clk_sched.specs.Laws.Deficit.{next_input, deficit_covers}
 use Rattle.clk_sched.specs.inside.Holds.Deficit.{HoldsDeficits}
-use Rattle.clk_sched.specs.Answers.{Answers, at_queue}
+use Rattle.clk_sched.specs.Answers.{Answers}
 use Rattle.clk_sched.specs.inside.Places.{AllFit, edges_at, input_at, queue_asked}
-use Rattle.clk_sched.specs.inside.Pulling.{Keeps, Asks, AsksAll, IsPulling, IsVisitAt, added, now_of}
+use Rattle.clk_sched.specs.inside.Pulling.{Keeps, Asks, AsksAll, IsVisitAt, added, now_of}
 use Rattle.clk_sched.specs.inside.Turning.{IsIdle}
 use Rattle.clk_sched.specs.inside.Looking.{looking, IsHead, Logs, Settles, Looks, LooksAt}
 use Rattle.clk_sched.proofs.Nodes.Pulling.{pulling-looks}
@@ -23,36 +23,16 @@ use Rattle.clk_sched.proofs.Nodes.Asking.{added-is, keeps-more, keeps-none}
 use Rattle.clk_sched.proofs.Nodes.Logged.{asks-fresh, edge-there, keeps-logged, added-logged, queue-answers}
 
 pub asks-held : (a c : Nodes) (x : ℕ) (v : Visit) → Logs a c v → IsVisitAt (now_of a) x v → v.fresh ≡ false → AsksAll a c x (v.input ∷ []) (v ∷ [])
-asks-held a c x v l at fresh row history visits own going unasked apart =
-    let r = pulling-looks (now_of a) history x row a.states.items visits own going.pulling v at fresh in
-    record {
-      pulling =
-          subst (λ k. IsPulling (now_of a) history x row c.states.items (visits ++ k) (own ++ v ∷ [])) (sym (added-is a c (v ∷ []) (ap (λ k. k.items) l.log)))
-          (subst (λ s. IsPulling (now_of a) history x row s (visits ++ v ∷ []) (own ++ v ∷ [])) (sym l.states) r);
-      outside = λ y k. ap (λ s. slice_get s y) l.states;
-    }
+asks-held a c x v l at fresh row history visits own going unasked apart = search (rules, pulling-looks, added-is)
 
 pub answers-held : {S : Type 0} (gives : S → ℕ → Option Packet → S → Type 0) (table : List Inputs) (a c : Nodes) (q : S) (v : Visit) → Logs a c v → v.fresh ≡ false
     → Answers gives (queue_asked table) q (added a c) q
-answers-held gives table a c q v l fresh =
-    subst (λ k. Answers gives (queue_asked table) q k q) (sym (added-is a c (v ∷ []) (ap (λ k. k.items) l.log)))
-    (subst (λ o. at_queue gives o v.got q (λ s. s ≡ q)) (sym none) refl)
-  where
-    none : queue_asked table v ≡ None
-    none = rw fresh refl
+answers-held gives table a c q v l fresh = search (rules, added-is)
 
 -- A look at the input whose turn it is keeps to the law, whether a head is held there or none is.
 looks-lawful : (d later : Deficits) (v : Visit) (head : Option Packet) (quanta : List ℕ) (inputs : ℕ) (earlier : List Visit) → Settles d later v.got v.passed → (held : HoldsDeficits quanta inputs earlier d) → v.input ≡ d.cursor
     → head_at (next_input inputs earlier) earlier ≡ head → v.fresh ≡ not (is_some head) → MatchOption head ⊤ (λ p. v.got ≡ Some p) → LooksAtHeads (next_input inputs) (deficit_covers quanta) earlier v
-looks-lawful d later v head quanta inputs earlier settles held at is fresh looks =
-    let turn : v.input ≡ next_input inputs earlier = at ∙ held.cursor_is in
-    let there : head_at v.input earlier ≡ head = ap (λ i. head_at i earlier) turn ∙ is in
-    record {
-      in_turn = turn;
-      fresh = fresh ∙ sym (ap (λ o. not (is_some o)) there);
-      looks = subst (λ o. MatchOption o ⊤ (λ p. v.got ≡ Some p)) (sym there) looks;
-      passes = settles.covered quanta inputs earlier held ∙ ap (λ i. is_covered (deficit_covers quanta earlier i) v.got) (sym turn);
-    }
+looks-lawful d later v head quanta inputs earlier settles held at is fresh looks = search rules
 
 -- a head that is held is looked at
 pub looks-held : (a c : Nodes) (x : ℕ) (d later : Deficits) (p : Packet) (got : Option Packet) (passed : Bool) → got ≡ Some p

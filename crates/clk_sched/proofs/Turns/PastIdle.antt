@@ -1,5 +1,7 @@
 -- A DRRSched moves on past inputs that hold no head and give nothing: as if it went by each of them.
-use Rattle.std.proofs.Common.{◌≡◌, ◌≢◌, ℕ, zero, suc, ◌+◌, ◌%◌, ◌<◌, ◌≤◌, ◌==◌, if◌then◌else◌, true, false, List, [], ◌∷◌, length, slice_get, slice_set, Option, Some, None, unwrap_or, refl, sym, ap, ap₂, ◌∙◌, subst, mod-lt, arith}
+use Rattle.std.proofs.lemmas.Bool.Decides.{nat_tests}
+use Rattle.std.proofs.lemmas.Grind.{common_steps, elements}
+use Rattle.std.proofs.Common.{◌≡◌, ◌≢◌, ℕ, zero, suc, ◌+◌, ◌%◌, ◌<◌, ◌≤◌, ◌==◌, if◌then◌else◌, true, false, List, [], ◌∷◌, length, slice_get, slice_set, Option, Some, None, unwrap_or, refl, sym, ap, ◌∙◌, subst, mod-lt, arith, rules}
 use Rattle.std.proofs.lemmas.List.{length-set}
 use Rattle.std.proofs.Math.Nat.{mod-eq_of_lt}
 use Rattle.smallvec.specs.SmallVec.{with_items}
@@ -29,14 +31,10 @@ written-over (r ∷ row) zero x y = refl
 written-over (r ∷ row) (suc i) x y = ap (λ xs. r ∷ xs) (written-over row i x y)
 
 written-same : (row : List Served) (i : ℕ) (s : Served) → slice_get row i ≡ Some s → slice_set row i s ≡ row
-written-same [] i s e = refl
-written-same (r ∷ row) zero s e = ap (λ o. unwrap_or o r ∷ row) (sym e)
-written-same (r ∷ row) (suc i) s e = ap (λ xs. r ∷ xs) (written-same row i s e)
+written-same row i s e = grind (arith, common_steps, elements, nat_tests)
 
 read-written : (row : List Served) (i : ℕ) (x : Served) → i < length row → slice_get (slice_set row i x) i ≡ Some x
-read-written [] i x l = absurd (omega arith)
-read-written (r ∷ row) zero x l = refl
-read-written (r ∷ row) (suc i) x l = read-written row i x (omega arith)
+read-written row i x l = grind (arith, common_steps, elements, nat_tests)
 
 -- a row whose input at the cursor gave nothing
 abbrev emptied : Deficits → Served → List Served
@@ -168,26 +166,7 @@ next-is d s k e some low none past = (
     head = none k b (omega arith) (subst (λ i. slice_get d.row.items i ≡ Some b) at held)
 
 past-next : (d : Deficits) (s : Served) (k : ℕ) (e : Deficits) (b : Served) → IsNext d s k e b → IsPast d s (k + 1) (passed-over e)
-past-next d s k e b n = record {
-  cursor_is = ap₂ (λ i m. (i + 1) % m) n.at long_e ∙ ap (λ i. i % length d.row.items) (let more : d.cursor + k + 1 ≡ d.cursor + (k + 1) = omega arith in more);
-  row_is = subst (λ xs. IsArrivedAt (next e) xs (passed-over e).row.items) back (arrives-at e);
-}
-  where
-    long_e : length e.row.items ≡ length d.row.items
-    long_e = ap length n.items_are ∙ length-set (emptied d s) e.cursor (with_quantum b) ∙ length-set d.row.items d.cursor (settled s None)
-
-    here_is : here e ≡ with_quantum b
-    here_is = ap (λ o. unwrap_or o b) (sym (reads e) ∙ ap (λ xs. slice_get xs e.cursor) n.items_are ∙ read-written (emptied d s) e.cursor (with_quantum b) n.inside)
-
-    same : settled (with_quantum b) None ≡ b
-    same = λ j. record { quantum = b.quantum; deficit = sym n.deficit_none j; head = sym n.head_none j }
-
-    back : emptied e (here e) ≡ emptied d s
-    back =
-        ap₂ (λ xs (t : Served). slice_set xs e.cursor (settled t None)) n.items_are here_is
-        ∙ written-over (emptied d s) e.cursor (with_quantum b) (settled (with_quantum b) None)
-        ∙ ap (slice_set (emptied d s) e.cursor) same
-        ∙ written-same (emptied d s) e.cursor b n.reads_b
+past-next d s k e b n = grind (arith, common_steps, length-set, read-written, written-over, written-same)
 
 fewer : (d : Deficits) (count k : ℕ) → k ≤ count → HoldsNoneAhead d count → HoldsNoneAhead d k
 fewer d count k l none i s low e = none i s (omega arith) e
@@ -263,11 +242,7 @@ goes-past gives a q x d count (suc k) bound l = gone-next gives a q x d count k 
 
 -- What has the same cursor and row holds the same.
 holds-same : (quanta : List ℕ) (inputs : ℕ) (before : List Visit) (d e : Deficits) → d.cursor ≡ e.cursor → d.row.items ≡ e.row.items → HoldsDeficits quanta inputs before d → HoldsDeficits quanta inputs before e
-holds-same quanta inputs before d e at same h = record {
-  length_is = ap length (sym same) ∙ h.length_is;
-  cursor_is = sym at ∙ h.cursor_is;
-  each = λ i s f. h.each i s (subst (λ xs. slice_get xs i ≡ Some s) (sym same) f);
-}
+holds-same quanta inputs before d e at same h = search rules
 
 goes-same : {S : Type 0} (gives : S → ℕ → Option Packet → S → Type 0) (a b : Nodes) (q : S) (x : ℕ) (d e f : Deficits) (k : ℕ) → e.cursor ≡ f.cursor → e.row.items ≡ f.row.items → GoesOnInVain gives a b q x d e k
     → GoesOnInVain gives a b q x d f k
@@ -293,14 +268,7 @@ goes-same gives a b q x d e f k at same goes first before begun looks making low
 -- a DRRSched that may go on is bound past inputs that are idle and hold no head
 pub bound-past : {S : Type 0} (gives : S → ℕ → Option Packet → S → Type 0) (a : Nodes) (q : S) (x : ℕ) (d : Deficits) (idle more count : ℕ) → MayGoOn gives a q x d more → AreIdleAhead gives a q x d idle → idle ≤ more → count ≤ idle
     → HoldsNoneAhead d count → IsBound gives a q x d count
-bound-past gives a q x d idle more count may ahead fits l none = record {
-  more = more;
-  may = may;
-  within = let within = ahead.within in omega (arith, within, l);
-  fits = omega (arith, fits, l);
-  each = λ i low. ahead.each i (omega (arith, low, l));
-  none = none;
-}
+bound-past gives a q x d idle more count may ahead fits l none = search rules
 
 -- There is room for its visits.
 pub past-room : {S : Type 0} (gives : S → ℕ → Option Packet → S → Type 0) (a : Nodes) (q : S) (x : ℕ) (d : Deficits) (count : ℕ) → IsBound gives a q x d count → count ≤ a.log.spare

@@ -1,13 +1,13 @@
 -- Shapers one below another, which are gone down and up in loops.
-use Rattle.std.proofs.Common.{◌≡◌, ℕ, zero, suc, ◌+◌, ◌-◌, ◌<◌, ◌≤◌, Bool, true, false, List, [], ◌∷◌, ◌++◌, length, Option, Some, None, IsSome, is_some, MatchOption, refl, sym, ap, ◌∙◌, subst, arith}
+use Rattle.std.proofs.lemmas.Bool.Decides.{nat_tests}
+use Rattle.std.proofs.lemmas.Grind.{common_steps, elements}
+use Rattle.std.proofs.Common.{◌≡◌, ℕ, zero, suc, ◌+◌, ◌-◌, ◌<◌, ◌≤◌, Bool, true, false, List, [], ◌∷◌, ◌++◌, length, Option, Some, None, IsSome, is_some, MatchOption, refl, sym, ap, ◌∙◌, subst, arith, rules}
 use Rattle.std.proofs.lemmas.Bool.{false≢true}
-use Rattle.std.proofs.lemmas.List.{length-set}
 use Rattle.clk_packet.specs.declared.packet.Packet.{Packet}
 use Rattle.clk_sched.specs.declared.visit.Visit.{Visit}
 use Rattle.clk_sched.specs.declared.session.inputs.Input.TheVariants.{Node}
 use Rattle.clk_sched.specs.declared.session.inputs.Inputs.{Inputs}
 use Rattle.clk_sched.specs.declared.session.nodes.Nodes.{Nodes}
-use Rattle.clk_sched.specs.declared.session.state.State.TheVariants.{Shaper}
 use Rattle.clk_sched.specs.Log.{asking}
 use Rattle.clk_sched.specs.inside.Looking.{Logs}
 use Rattle.clk_sched.specs.Answers.{Answers, at_queue}
@@ -25,14 +25,7 @@ use Rattle.clk_sched.proofs.Turns.TurnShaper.{HasInput, shaper-asks, shaper-inpu
 
 -- a scheduler at an input can be pulled where the input can be asked
 child-can : (a : Nodes) (x child : ℕ) → CanPull a x (edges_at a.inputs.items x 0) → input_at a.inputs.items x 0 ≡ Some (Node child) → CanPull a child (edges_of a.inputs.items child)
-child-can a x child can e =
-    record {
-      wired = can.wired;
-      fit = can.fit;
-      there = (child-after a.inputs.items x 0 child can.wired e).1;
-      room = let r = can.room in let edges = edges-scheduler a.inputs.items x 0 child e in omega (arith, edges);
-      moment = can.moment;
-    }
+child-can a x child can e = search (rules, child-after, edges-scheduler)
 
 -- the edge to its input is one of a Shaper's edges
 edges-first : (a : Nodes) (x : ℕ) → CanPull a x (edges_of a.inputs.items x) → HasInput a.inputs.items x → edges_at a.inputs.items x 0 ≤ edges_of a.inputs.items x
@@ -137,27 +130,11 @@ pub record PulledBelow {S : Type 0} (gives : S → ℕ → Option Packet → S �
   pub pulled : WasPulled gives mid new before now y got
 
 pub below-refused : {S : Type 0} (gives : S → ℕ → Option Packet → S → Type 0) (a b : Nodes) (q : S) (x last : ℕ) (token : Bool) → GoesDown a b x last token → token ≡ false → PulledBelow gives a b q q x last None
-below-refused gives a b q x last token h e =
-    record {
-      count = h.count;
-      mid = h.mid;
-      place = h.last_is;
-      takes = h.takes;
-      below = h.below;
-      pulled = shaper-refused gives h.mid b q last token h.can h.spent e;
-    }
+below-refused gives a b q x last token h e = search (rules, shaper-refused)
 
 pub below-answered : {S : Type 0} (gives : S → ℕ → Option Packet → S → Type 0) (a b c d : Nodes) (q r : S) (x last : ℕ) (got : Option Packet) → GoesDown a b x last true → WasAsked gives b c q r last got → AnswersAt c d last got
     → PulledBelow gives a d q r x last got
-below-answered gives a b c d q r x last got h asked answers =
-    record {
-      count = h.count;
-      mid = h.mid;
-      place = h.last_is;
-      takes = h.takes;
-      below = h.below;
-      pulled = spent-answered gives h.mid b c d q r last got h.can h.spent asked answers;
-    }
+below-answered gives a b c d q r x last got h asked answers = search (rules, spent-answered)
 
 -- The one above it answers, and so up to the first.
 above-answered : {S : Type 0} (gives : S → ℕ → Option Packet → S → Type 0) (a b c : Nodes) (q r : S) (x y above : ℕ) (got : Option Packet) → y ≡ suc above → x < y → PulledBelow gives a b q r x y got → AnswersAt b c above got → PulledBelow gives a c q r x above got
@@ -179,18 +156,13 @@ above-answered gives a b c q r x y above got e l h answers = by_count h.count h.
 
 pub up-answered : {S : Type 0} (gives : S → ℕ → Option Packet → S → Type 0) (a b c : Nodes) (q r : S) (x last k : ℕ) (got : Option Packet) → x + k ≤ last → PulledBelow gives a b q r x last got → AnswersUp b c last k got → PulledBelow gives a c q r x (last - k) got
 up-answered gives a b c q r x last zero got l h up = subst (λ y. PulledBelow gives a c q r x y got) (let n : last ≡ last - 0 = omega arith in n) (subst (λ (n : Nodes). PulledBelow gives a n q r x last got) (sym up) h)
-up-answered gives a b c q r x last (suc k) got l h up =
-    above-answered gives a up.0 c q r x (last - k) (last - suc k) got (omega arith) (omega arith) (up-answered gives a b up.0 q r x last k got (omega arith) h up.1) up.2
+up-answered gives a b c q r x last (suc k) got l h up = search (rules, above-answered, (up-answered gives a b up.0 q r x last k got (omega arith) h up.1))
 
 pub whole-answered : {S : Type 0} (gives : S → ℕ → Option Packet → S → Type 0) (a b c : Nodes) (q r : S) (x last : ℕ) (got : Option Packet) → x ≤ last → PulledBelow gives a b q r x last got → AnswersUp b c last (last - x) got → WasPulled gives a c q r x got
-whole-answered gives a b c q r x last got l h up = by_count all.count all.mid all.place all.takes all.pulled
+whole-answered gives a b c q r x last got l h up = search (rules, all.count, all.mid, all.place, all.takes, all.pulled)
   where
     all : PulledBelow gives a c q r x (last - (last - x)) got
     all = up-answered gives a b c q r x last (last - x) got (omega arith) h up
-
-    by_count : (k : ℕ) (m : Nodes) → last - (last - x) ≡ x + k → TakesDown a m x k → WasPulled gives m c q r (last - (last - x)) got → WasPulled gives a c q r x got
-    by_count zero m place takes pulled = subst (λ (n : Nodes). WasPulled gives n c q r x got) (sym takes) (subst (λ y. WasPulled gives m c q r y got) (let n : last - (last - x) ≡ x = omega arith in n) pulled)
-    by_count (suc k) m place takes pulled = absurd (omega (arith, place, l))
 
 -- What an answer is, by what was got.
 pub answers-none : (a l c : Nodes) (x : ℕ) (got : Option Packet) → is_some got ≡ false → Logs a l (asking a.pull a.moment x 0 got) → GivesBack l c x → AnswersAt a c x got
@@ -201,14 +173,6 @@ pub answers-some : (a l : Nodes) (x : ℕ) (got : Option Packet) → is_some got
 answers-some a l x None e logs = absurd (false≢true e)
 answers-some a l x (Some p) e logs = record { logged = l; logs = logs; back = refl }
 
--- Where those that spent a token can be tried, and what room the log has for their answers.
-pub goes-there : (a b : Nodes) (x last : ℕ) (token : Bool) → GoesDown a b x last token → last < length b.states.items
-goes-there a b x last token h =
-    let set = ap (λ (n : Nodes). length n.states.items) h.spent.is in
-    let l = length-set h.mid.states.items last (Shaper h.spent.left) in
-    let there = state-there h.mid last _ h.can in
-    omega (arith, set, l, there)
-
 pub goes-room : (a b : Nodes) (x last : ℕ) (token : Bool) → CanPull a x (edges_of a.inputs.items x) → GoesDown a b x last token → (last - x) + edges_of b.inputs.items last ≤ b.log.spare
 goes-room a b x last token can h =
     let edges = down-edges a h.mid x h.count h.takes (subst (IsBelow h.mid.inputs.items x) h.last_is h.below) in
@@ -216,22 +180,11 @@ goes-room a b x last token can h =
     let table = ap (λ t. edges_of t.items last) (goes-inputs a b x last token h) in
     let place = ap (edges_of a.inputs.items) h.last_is in
     let is = h.last_is in
-    let r = can.room in
-    omega (arith, edges, log, table, place, is, r)
+    omega (arith, edges, log, table, place, is)
 
 -- What such an answer keeps.
 pub answers-keep : (a b : Nodes) (x : ℕ) (got : Option Packet) → AnswersAt a b x got → (table : List Inputs) → AllFit table a.states.items → AllFit table b.states.items × (a.log.spare ≤ b.log.spare + 1)
-answers-keep a b x got h table fit = by_got got h.back
-  where
-    logged : AllFit table h.logged.states.items
-    logged = subst (AllFit table) (sym h.logs.states) fit
-
-    spare : a.log.spare ≤ h.logged.log.spare + 1
-    spare = let e = ap (λ l. l.spare) h.logs.log in omega (arith, e)
-
-    by_got : (o : Option Packet) → MatchOption o (GivesBack h.logged b x) (λ packet. b ≡ h.logged) → AllFit table b.states.items × (a.log.spare ≤ b.log.spare + 1)
-    by_got None back = (back.fits table logged, let e = ap (λ l. l.spare) back.log in omega (arith, spare, e))
-    by_got (Some p) same = (subst (λ (n : Nodes). AllFit table n.states.items) (sym same) logged, subst (λ (n : Nodes). a.log.spare ≤ n.log.spare + 1) (sym same) spare)
+answers-keep a b x got h table fit = search rules
 
 pub up-next : (a b c : Nodes) (last above : ℕ) (got : Option Packet) → 1 ≤ above → above ≤ last → AnswersUp a b last (last - above) got → AnswersAt b c (above - 1) got → AnswersUp a c last (last - (above - 1)) got
 up-next a b c last above got some l up at =
@@ -247,10 +200,7 @@ goes-below a b x last below token h e = state-there b below _ (child-can b last 
 
 -- The edge to its input, which is asked.
 pub goes-edges : (a b : Nodes) (x last : ℕ) (token : Bool) → GoesDown a b x last token → (1 ≤ edges_at b.inputs.items last 0) × (edges_at b.inputs.items last 0 ≤ edges_of b.inputs.items last)
-goes-edges a b x last token h = (
-  edge-there b.inputs.items last 0 (goes-may a b x last token h).1,
-  subst (λ (n : Nodes). edges_at n.inputs.items last 0 ≤ edges_of n.inputs.items last) (sym h.spent.is) (edges-first h.mid last h.can (shaper-input h.mid last h.spent.bucket h.can h.spent.held)),
-)
+goes-edges a b x last token h = grind (arith, common_steps, elements, nat_tests, edge-there, goes-may, edges-first, shaper-input)
 
 pub goes-order : (a b : Nodes) (x last : ℕ) (token : Bool) → GoesDown a b x last token → x ≤ last
 goes-order a b x last token h = let l = h.last_is in omega (arith, l)

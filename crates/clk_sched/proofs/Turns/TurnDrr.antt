@@ -1,5 +1,6 @@
 -- The turn of a DRRSched, visit by visit.
-use Rattle.std.proofs.Common.{◌≡◌, ◌≢◌, ℕ, zero, suc, ◌+◌, ◌-◌, ◌%◌, ◌<◌, Bool, true, false, if◌then◌else◌, List, [], ◌∷◌, ◌++◌, length, map, slice_get, Option, Some, None, IsSome, IfSome, MatchBool, inl, inr, refl, sym, ap, ◌∙◌, subst, mod-eq_of_lt, arith}
+use Rattle.std.proofs.lemmas.Grind.{common_steps}
+use Rattle.std.proofs.Common.{◌≡◌, ◌≢◌, ℕ, zero, suc, ◌+◌, ◌%◌, ◌<◌, Bool, true, false, if◌then◌else◌, List, [], ◌∷◌, ◌++◌, length, map, slice_get, Option, Some, None, IsSome, IfSome, MatchBool, inl, inr, refl, sym, ap, ◌∙◌, subst, arith, rules}
 use Rattle.std.specs.List.{AllByRecursion}
 use Rattle.std.proofs.lemmas.List.{map-append, length-append}
 use Rattle.std.specs.Global.{Box}
@@ -20,16 +21,15 @@ use Rattle.clk_sched.specs.inside.Holds.Deficit.{HoldsDeficits}
 use Rattle.clk_sched.specs.Answers.{Answers}
 use Rattle.clk_sched.specs.inside.Places.{AllFit, edges_of, edges_at, edges_in, input_at, queue_asked}
 use Rattle.clk_sched.specs.inside.Pulling.{AreApart, input_of, CanPull, Keeps, AsksAll, GoesOnBy, IsUnasked, added, now_of, with_turn, TakesTurn}
-use Rattle.clk_sched.specs.inside.Looking.{LooksAt, AreIdleAhead}
+use Rattle.clk_sched.specs.inside.Looking.{LooksAt}
 use Rattle.clk_sched.specs.inside.Making.{HasMade, IsAround, IsMaking, RowFits, MayGoOn, GoesOnInVain}
-use Rattle.clk_sched.specs.inside.Turning.{HadTurn, IsIdle}
+use Rattle.clk_sched.specs.inside.Turning.{HadTurn}
 use Rattle.clk_packet.specs.Lists.{In}
 use Rattle.clk_sched.proofs.Lists.Members.{to-all, all-append, all-weaker}
 use Rattle.clk_sched.proofs.Runs.Allowed.{onto, onto-append, each-join}
 use Rattle.clk_sched.proofs.Lists.Apart.{apart-map}
 use Rattle.clk_sched.proofs.Classes.Orders.{IsPlace, first-place, next-place, beyond-differs}
 use Rattle.clk_sched.proofs.Nodes.Pulling.{pulling-first, pulling-own}
-use Rattle.clk_sched.proofs.Nodes.Idle.{idle-then}
 use Rattle.clk_sched.proofs.Nodes.Asking.{added-none, added-then, keeps-then, keeps-none, can-go_on, answers-then, edges-append, asks-then, asks-none}
 use Rattle.clk_sched.proofs.Nodes.Ordered.{item-there, stands-width, can-order, order-there, keeps-order}
 
@@ -75,10 +75,7 @@ inputs-next : (own : List Visit) (v : Visit) → map input_of (own ++ v ∷ []) 
 inputs-next own v = map-append input_of own (v ∷ [])
 
 edges-next : (table : List Inputs) (x : ℕ) (own : List Visit) (v : Visit) → edges_in table x (map input_of (own ++ v ∷ [])) ≡ edges_in table x (map input_of own) + edges_at table x v.input
-edges-next table x own v =
-    let e = edges-append table x (map input_of own) (v.input ∷ []) in
-    let f = ap (edges_in table x) (inputs-next own v) in
-    omega (arith, e, f)
+edges-next table x own v = search (rules, edges-append, inputs-next)
 
 onto-next : (own earlier : List Visit) (v : Visit) → onto (own ++ v ∷ []) earlier ≡ v ∷ onto own earlier
 onto-next [] earlier v = refl
@@ -109,36 +106,12 @@ made-then gives a b c p q r x first mid last own v h within new k =
     second = subst (λ t. Keeps b c (edges_at t x v.input)) h.keeps.inputs k.keeps
 
 pub making-first : {S : Type 0} (gives : S → ℕ → Option Packet → S → Type 0) (a : Nodes) (q : S) (x : ℕ) (d : Deficits) → AllFit a.inputs.items a.states.items → IsMaking gives a a q q x d d 0
-making-first gives a q x d fit =
-    record {
-      own = [];
-      made = record {
-        keeps = keeps-none a fit;
-        answers = subst (λ l. Answers gives (queue_asked a.inputs.items) q l q) (sym (added-none a)) refl;
-        asks = asks-none a x;
-        length_is = refl;
-        within = tt;
-        apart = tt;
-        lawful = λ quanta inputs earlier held. (tt, held);
-      };
-      count_is = refl;
-      vain = tt;
-      around = tt;
-      next = first-place (length d.row.items) d.cursor d.cursor_within;
-    }
+making-first gives a q x d fit = grind (arith, common_steps, keeps-none, added-none, asks-none, first-place)
 
 -- the next input is none of those
 making-new : {S : Type 0} (gives : S → ℕ → Option Packet → S → Type 0) (a b : Nodes) (p q : S) (x : ℕ) (first mid : Deficits) (count : ℕ) (h : IsMaking gives a b p q x first mid count) → count < length first.row.items
     → (i : ℕ) → i ≡ mid.cursor → AllByRecursion (λ (u : Visit). i ≢ u.input) h.own
-making-new gives a b p q x first mid count h l i e =
-    all-weaker (IsAround n s count) (λ (u : Visit). i ≢ u.input) h.own
-    (λ u k. beyond-differs n s k.places u.input i (let m = k.below in omega arith) k.place (record { places = count; above = (let m = k.below in omega arith); below = l; place = subst (IsPlace n s count) (sym e) h.next })) h.around
-  where
-    n : ℕ
-    n = length first.row.items
-
-    s : ℕ
-    s = first.cursor
+making-new gives a b p q x first mid count h l i e = search (rules, all-weaker, beyond-differs)
 
 record HasRow (table : List Inputs) (x : ℕ) (d : Deficits) : Type 0 where
   inputs : Inputs
@@ -200,33 +173,6 @@ making-next gives a b c p q r x first mid last count got passed h l look vain =
     at : v.input ≡ mid.cursor
     at = look.looks.input
 
--- those that are left once the first of idle inputs was passed over
-pub idle-behind : {S : Type 0} (gives : S → ℕ → Option Packet → S → Type 0) (b c : Nodes) (q : S) (x : ℕ) (mid last : Deficits) (idle : ℕ) → AreIdleAhead gives b q x mid idle → 0 < idle
-    → LooksAt gives b c q q x mid last None false → AreIdleAhead gives c q x last (idle - 1)
-idle-behind gives b c q x mid last idle h some look = by_rest (idle - 1) refl
-  where
-    next_is : 1 < idle → last.cursor ≡ mid.cursor + 1
-    next_is many = look.moves refl ∙ mod-eq_of_lt (let inside = h.within in omega (arith, many, inside))
-
-    by_rest : (n : ℕ) → idle - 1 ≡ n → AreIdleAhead gives c q x last n
-    by_rest zero e = record { within = (let below = last.cursor_within in omega (arith, below)); each = λ i none. absurd (omega (arith, none)) }
-    by_rest (suc n) e =
-        let many : 1 < idle = omega (arith, e) in
-        let next = next_is many in
-        let inside = h.within in
-        let long = look.length_is in
-        record {
-          within = omega (arith, e, next, inside, long);
-          each = λ i l.
-              let same : mid.cursor + (i + 1) ≡ last.cursor + i = omega (arith, next) in
-              subst (λ j. IsIdle gives c q x j) same (idle-then gives b c q x (mid.cursor + (i + 1)) _ look.keeps (h.each (i + 1) (omega (arith, l, e)))).1;
-        }
-
--- the row of inputs fits as before
-pub row-still : (table more : List Inputs) (x : ℕ) (d later : Deficits) → more ≡ table → length later.row.items ≡ length d.row.items → RowFits table x d → RowFits more x later
-row-still table more x d later same long fits =
-    subst (λ t. IfSome (slice_get t x) (λ (p : Inputs). length later.row.items ≡ length p.each.items)) (sym same) (subst (λ n. IfSome (slice_get table x) (λ (p : Inputs). n ≡ length p.each.items)) (sym long) fits)
-
 -- how the visits end, and their result
 end-passed : (n : ℕ) (own : List Visit) (v : Visit) → AllByRecursion (λ (u : Visit). u.passed ≡ false) own → length own < n → v.passed ≡ true → EndAtPass n (own ++ v ∷ [])
 end-passed zero own v h l e = absurd (omega arith)
@@ -256,17 +202,7 @@ pub record HasEnded {S : Type 0} (gives : S → ℕ → Option Packet → S → 
 pub looks-below : (d : Deficits) (looks count : ℕ) → looks < count → count ≡ length d.row.items → looks < length d.row.items
 looks-below d looks count below all = omega (arith, below, all)
 
-pub first-idle : {S : Type 0} (gives : S → ℕ → Option Packet → S → Type 0) (n : Nodes) (q : S) (x : ℕ) (d : Deficits) (idle : ℕ) → AreIdleAhead gives n q x d idle → 0 < idle → IsIdle gives n q x d.cursor
-first-idle gives n q x d idle h some = let here : d.cursor + 0 ≡ d.cursor = omega arith in subst (λ i. IsIdle gives n q x i) here (h.each 0 some)
-
--- A DRRSched that may go on stands over its inputs, and can ask the next.
-pub going-fits : {S : Type 0} (gives : S → ℕ → Option Packet → S → Type 0) (a : Nodes) (q : S) (x : ℕ) (d : Deficits) (more : ℕ) → MayGoOn gives a q x d more → (x < length a.inputs.items) × RowFits a.inputs.items x d
-going-fits gives a q x d more h =
-    let same = h.making.made.keeps.inputs in (
-      subst (λ (table : List Inputs). x < length table) (sym same) h.can.there,
-      row-still h.first.inputs.items a.inputs.items x h.begun d same h.making.made.length_is h.fits,
-    )
-
+-- A DRRSched that may go on can ask the next.
 pub going-can : {S : Type 0} (gives : S → ℕ → Option Packet → S → Type 0) (a b : Nodes) (q : S) (x : ℕ) (d mid : Deficits) (more k : ℕ) → MayGoOn gives a q x d more → GoesOnInVain gives a b q x d mid k → k < more
     → CanPull b x (edges_at b.inputs.items x mid.cursor)
 going-can gives a b q x d mid more k h goes l =
@@ -298,18 +234,11 @@ making-passed gives a b c p q r x first mid last count got passed h l look is =
 
 pub making-all : {S : Type 0} (gives : S → ℕ → Option Packet → S → Type 0) (a b : Nodes) (p q : S) (x : ℕ) (first last : Deficits) (count : ℕ) → IsMaking gives a b p q x first last count
     → count ≡ length first.row.items → HasEnded gives a b p q x first last None
-making-all gives a b p q x first last count h all =
-    record {
-      own = h.own;
-      made = h.made;
-      end = subst (λ n. EndAtPass n h.own) (h.count_is ∙ all) (end-all h.own h.vain);
-      result = sym (result-none h.own h.vain);
-    }
+making-all gives a b p q x first last count h all = search (rules, end-all, result-none)
 
 -- the visits before, once the turn is one of them
 turn-before : (moment : ℕ) (own : List Visit) (turns : List Turn) → onto own (visits_before turns) ≡ visits_before (with_turn moment own turns)
-turn-before moment [] turns = refl
-turn-before moment (v ∷ own) turns = onto-append (v ∷ own) (visits_before turns)
+turn-before moment own turns = search (rules, onto-append)
 
 pub drr-turn : {S : Type 0} (gives : S → ℕ → Option Packet → S → Type 0) (a b : Nodes) (p q : S) (x : ℕ) (first last : Box Deficits) (got : Option Packet) (inputs : Inputs) → slice_get a.inputs.items x ≡ Some inputs
     → length first.value.row.items ≡ length inputs.each.items → HasEnded gives a b p q x first.value last.value got → (quanta : List ℕ) → TakesTurn a b x (drr quanta) (Drr first) (Drr last) got

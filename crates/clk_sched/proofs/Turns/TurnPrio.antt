@@ -1,5 +1,5 @@
 -- The turn of a PrioSched.
-use Rattle.std.proofs.Common.{◌≡◌, ℕ, ◌+◌, ◌<◌, ◌≤◌, List, length, slice_get, Option, Some, None, IsSome, IfSome, refl, sym, ap, ◌∙◌, subst, arith}
+use Rattle.std.proofs.Common.{◌≡◌, ℕ, ◌+◌, ◌<◌, ◌≤◌, List, length, slice_get, Option, Some, None, IsSome, IfSome, refl, sym, ap, ◌∙◌, subst, arith, rules}
 use Rattle.std.specs.List.{AllByRecursion, range_with_len}
 use Rattle.clk_packet.specs.declared.packet.Packet.{Packet}
 use Rattle.clk_sched.specs.declared.session.inputs.Inputs.{Inputs}
@@ -47,11 +47,7 @@ prio-order table x n p e all q f = subst (λ m. IsOrderOf m (range_with_len 0 n)
 
 pub prio-asks : (a : Nodes) (x n : ℕ) (p : Inputs) → CanPull a x (edges_of a.inputs.items x) → slice_get a.inputs.items x ≡ Some p → n ≡ length p.each.items
     → CanPull a x (edges_in a.inputs.items x (range_with_len 0 n)) × AllByRecursion (λ i. IsSome (input_at a.inputs.items x i)) (range_with_len 0 n) × (0 + n ≤ 64)
-prio-asks a x n p can e all = let is = prio-order a.inputs.items x n p e all in let few = (can.wired x p e).few in (
-  can-ask a x (range_with_len 0 n) can is,
-  inputs-asked a.inputs.items x (range_with_len 0 n) can.there is,
-  omega (arith, few, all),
-)
+prio-asks a x n p can e all = search (rules, prio-order, can-ask, inputs-asked)
 
 pub prio-pulled : {S : Type 0} (gives : S → ℕ → Option Packet → S → Type 0) (a b : Nodes) (q r : S) (x n : ℕ) (p : Inputs) (o : Option (ℕ × Packet)) → CanPull a x (edges_of a.inputs.items x) → IfSome (slice_get a.states.items x) IsPrio
     → slice_get a.inputs.items x ≡ Some p → n ≡ length p.each.items → IfSome o (λ k. k.0 < n) → HasAskedAll gives a b q r x (range_with_len 0 n) o → WasPulled gives a b q r x (packet_of o)
@@ -67,12 +63,10 @@ at_first None = None
 at_first (Some p) = Some (0, p)
 
 packet-first : (got : Option Packet) → packet_of (at_first got) ≡ got
-packet-first None = refl
-packet-first (Some p) = refl
+packet-first got = search rules
 
 within-first : (got : Option Packet) → IfSome (at_first got) (λ k. k.0 < 1)
-within-first None = tt
-within-first (Some p) = omega arith
+within-first got = search rules
 
 asked-first : {S : Type 0} (gives : S → ℕ → Option Packet → S → Type 0) (a b : Nodes) (q r : S) (x : ℕ) (got : Option Packet) → HasAsked gives a b q r x 0 got → HasAskedAll gives a b q r x (range_with_len 0 1) (at_first got)
 asked-first gives a b q r x None h = record { keeps = keeps-more a b _ _ h.keeps (omega arith); answers = h.answers; asks = h.asks }

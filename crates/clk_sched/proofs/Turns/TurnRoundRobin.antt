@@ -1,5 +1,6 @@
 -- The turn of a RoundRobinSched.
-use Rattle.std.proofs.Common.{◌≡◌, ℕ, zero, suc, ◌+◌, ◌-◌, ◌*◌, ◌%◌, ◌<◌, ◌≤◌, List, [], ◌∷◌, ◌++◌, length, map, get_or, slice_get, slice_index, Option, Some, None, IsSome, IfSome, refl, sym, ap, ap₂, ◌∙◌, subst, mod-lt, mod-eq_of_lt, arith}
+use Rattle.std.proofs.lemmas.Grind.{common_steps}
+use Rattle.std.proofs.Common.{◌≡◌, ℕ, zero, suc, ◌+◌, ◌-◌, ◌*◌, ◌%◌, ◌<◌, ◌≤◌, List, ◌∷◌, ◌++◌, length, map, get_or, slice_get, slice_index, Option, Some, None, IsSome, IfSome, refl, sym, ap, ap₂, ◌∙◌, subst, mod-lt, mod-eq_of_lt, arith, rules}
 use Rattle.std.specs.List.{AllByRecursion, range_with_len}
 use Rattle.std.specs.Vec.{vec_len}
 use Rattle.std.proofs.lemmas.List.{length-append}
@@ -14,10 +15,10 @@ use Rattle.clk_sched.specs.declared.session.state.State.TheVariants.{RoundRobin}
 use Rattle.clk_sched.specs.declared.session.round_robin.Beginning.{Beginning}
 use Rattle.clk_packet.specs.Scheduler.{Scheduler, round_robin}
 use Rattle.clk_sched.specs.Tree.{width}
-use Rattle.clk_sched.specs.Turns.{Turn, AsksInOrder, giver}
+use Rattle.clk_sched.specs.Turns.{AsksInOrder}
 use Rattle.clk_sched.specs.Laws.RoundRobin.{beginning, round_robin_order}
 use Rattle.clk_sched.specs.inside.Places.{edges_of, edges_in, input_at}
-use Rattle.clk_sched.specs.inside.Pulling.{CanPull, Keeps, AsksAll, now_of, after, with_turn, added, asked_in_order, TakesTurn}
+use Rattle.clk_sched.specs.inside.Pulling.{CanPull, Keeps, AsksAll, now_of, after, added, asked_in_order, TakesTurn}
 use Rattle.clk_sched.specs.inside.Turning.{HasAskedAll, HadTurn}
 use Rattle.clk_sched.proofs.Lists.Members.{all-weaker, all-split}
 use Rattle.clk_sched.proofs.Lists.Ranges.{range-append}
@@ -26,7 +27,7 @@ use Rattle.clk_sched.proofs.Nodes.Asked.{entry}
 use Rattle.clk_sched.proofs.Nodes.InTwo.{past, past-length, in_order-first, index-first, index-second, asked-both}
 use Rattle.clk_sched.proofs.Classes.Orders.{IsOrderOf, IsBeyond, around}
 use Rattle.clk_sched.proofs.Classes.RoundRobinTurns.{round_robin-order}
-use Rattle.clk_sched.proofs.Nodes.InOrder.{IsWithin, HasTurnedBy, packet_of, turned-in-order, after-own, with_turn-given, giver_at, in_order-giver}
+use Rattle.clk_sched.proofs.Nodes.InOrder.{IsWithin, HasTurnedBy, packet_of, turned-in-order, after-own, giver_at, in_order-giver}
 use Rattle.clk_sched.proofs.Nodes.Ordered.{stands-width, can-order, order-there, keeps-order}
 
 -- by what a RoundRobinSched holds, a scheduler of no other class has a turn
@@ -37,10 +38,7 @@ round_robin-alone a b x s now got h class row history ready holds = absurd holds
 -- numbers around so many, before they wrap and after
 before-wrap : (n s j m : ℕ) → s + j + m ≤ n → map (λ k. (s + k) % n) (range_with_len j m) ≡ range_with_len (s + j) m
 before-wrap n s j zero l = refl
-before-wrap n s j (suc m) l =
-    let here : s + j < n = omega arith in
-    let next : s + (j + 1) ≡ s + j + 1 = omega arith in
-    ap₂ (λ i is. i ∷ is) (mod-eq_of_lt here) (before-wrap n s (j + 1) m (omega arith) ∙ ap (λ i. range_with_len i m) next)
+before-wrap n s j (suc m) l = search (rules, mod-eq_of_lt, (before-wrap n s (j + 1) m (omega arith)))
 
 after-wrap : (n s j m low : ℕ) → s + j ≡ n + low → low + m ≤ n → map (λ k. (s + k) % n) (range_with_len j m) ≡ range_with_len low m
 after-wrap n s j zero low e l = refl
@@ -50,28 +48,14 @@ after-wrap n s j (suc m) low e l =
     ap₂ (λ i is. i ∷ is) here (after-wrap n s (j + 1) m (low + 1) (omega (arith, e)) (omega arith))
 
 map-join : (f : ℕ → ℕ) (xs ys : List ℕ) → map f (xs ++ ys) ≡ map f xs ++ map f ys
-map-join f [] ys = refl
-map-join f (x ∷ xs) ys = ap (λ l. f x ∷ l) (map-join f xs ys)
+map-join f xs ys = grind (arith, common_steps)
 
 -- the order of a RoundRobinSched, in two parts
 abbrev pub parts : ℕ → ℕ → List ℕ
 parts first n = range_with_len first (n - first) ++ range_with_len 0 first
 
 pub order-parts : (n first : ℕ) → first < n → map (λ k. (first + k) % n) (range_with_len 0 n) ≡ parts first n
-order-parts n first l =
-    let whole : n ≡ (n - first) + first = omega arith in
-    let start : first + 0 ≡ first = omega arith in
-    ap (λ m. map (λ k. (first + k) % n) (range_with_len 0 m)) whole ∙ ap (map (λ k. (first + k) % n)) (range-append 0 (n - first) first)
-    ∙ map-join (λ k. (first + k) % n) (range_with_len 0 (n - first)) (range_with_len (0 + (n - first)) first)
-    ∙ ap₂ (λ a b. a ++ b) (before-wrap n first 0 (n - first) (omega arith) ∙ ap (λ i. range_with_len i (n - first)) start) (after-wrap n first (0 + (n - first)) first 0 (omega arith) (omega arith))
-
--- the beginning after a turn
-beginning-none : (n moment : ℕ) (own : List Visit) (turns : List Turn) → giver own ≡ None → beginning n (with_turn moment own turns) ≡ beginning n turns
-beginning-none n moment [] turns e = refl
-beginning-none n moment (v ∷ own) turns e = rw e refl
-
-beginning-given : (n moment : ℕ) (own : List Visit) (turns : List Turn) (i : ℕ) → giver own ≡ Some i → beginning n (with_turn moment own turns) ≡ (i + 1) % n
-beginning-given n moment own turns i e = ap (beginning n) (with_turn-given moment own turns i e) ∙ rw e refl
+order-parts n first l = search (rules, range-append, map-join, before-wrap, after-wrap)
 
 -- the next beginning, by what was given
 abbrev pub begins_next : ℕ → ℕ → Option ℕ → ℕ
@@ -84,7 +68,7 @@ pub round_robin-turn : (a b : Nodes) (x n first next : ℕ) (p : Inputs) (r : Op
 round_robin-turn a b x n first next p r e all low within asked is row history ready holds =
     record {
       turned = done.turned;
-      holds = is ∙ by_giver (giver_at order r) (in_order-giver (now_of a) x order r within) ∙ ap (λ k. beginning k (after history a.moment (added a b) x)) inputs;
+      holds = is ∙ (search (rules, after-own, first_is, own, done, (giver_at order r), (in_order-giver (now_of a) x order r within))) ∙ ap (λ k. beginning k (after history a.moment (added a b) x)) inputs;
     }
   where
     order : List ℕ
@@ -107,10 +91,6 @@ round_robin-turn a b x n first next p r e all low within asked is row history re
         turned-in-order a b history x round_robin row order r ready within asked
         (subst (λ k. IsOrderOf k order) inputs (subst (IsOrderOf n) (sym law) (round_robin-order n (history x) (omega arith))))
         (λ h. subst (λ k. AsksInOrder (round_robin_order k (history x)) own) inputs (subst (λ l. AsksInOrder l own) law h))
-
-    by_giver : (o : Option ℕ) → giver own ≡ o → begins_next n first o ≡ beginning n (after history a.moment (added a b) x)
-    by_giver None g = first_is ∙ sym (beginning-none n a.moment own (history x) g) ∙ ap (beginning n) (sym (after-own a b history x own done.own_is))
-    by_giver (Some i) g = sym (beginning-given n a.moment own (history x) i g) ∙ ap (beginning n) (sym (after-own a b history x own done.own_is))
 
 -- both parts name all inputs, and none twice
 pub parts-order : (n first : ℕ) → first < n → IsOrderOf n (parts first n)
@@ -248,10 +228,3 @@ had-none gives a b c q r s x n first o u h can none vain neither given =
     let one = range_with_len first (n - first) in
     let other = range_with_len 0 first in
     had-both gives a c q s x n first first None h can (asked-both gives a b c q r s x one other None (asked-vain gives a b q r x one o none vain) (subst (HasAskedAll gives b c r s x other) neither given)) tt refl h.low
-
--- The place at which a part gave a packet names one of 64 inputs.
-pub few-first : (table : List Inputs) (x n first k : ℕ) (p : Packet) (o : Option (ℕ × Packet)) → Begins table x n first → o ≡ Some (k, p) → IfSome o (λ g. g.0 < n - first) → first + k < 64
-few-first table x n first k p o h is place = let within : k < n - first = subst (λ g. IfSome g (λ v. v.0 < n - first)) is place in let few = h.few in let low = h.low in omega (arith, within, few, low)
-
-pub few-second : (table : List Inputs) (x n first k : ℕ) (p : Packet) (o : Option (ℕ × Packet)) → Begins table x n first → o ≡ Some (k, p) → IfSome o (λ g. g.0 < first) → k < 64
-few-second table x n first k p o h is place = let within : k < first = subst (λ g. IfSome g (λ v. v.0 < first)) is place in let few = h.few in let low = h.low in omega (arith, within, few, low)

@@ -1,5 +1,5 @@
 -- The turn of a Shaper.
-use Rattle.std.proofs.Common.{◌≡◌, ◌≢◌, ℕ, ◌+◌, ◌<◌, ◌≤◌, ◌-◌, Bool, true, false, if◌then◌else◌, List, [], ◌∷◌, ◌++◌, length, drop, slice_get, Option, Some, None, IfSome, IsSome, is_some, MatchBool, refl, sym, ap, ◌∙◌, subst, arith}
+use Rattle.std.proofs.Common.{◌≡◌, ◌≢◌, ℕ, ◌+◌, ◌<◌, ◌≤◌, ◌-◌, Bool, true, false, if◌then◌else◌, List, [], ◌∷◌, ◌++◌, length, drop, slice_get, Option, Some, None, IfSome, IsSome, is_some, MatchBool, refl, sym, ap, ◌∙◌, subst, arith, rules}
 use Rattle.std.proofs.lemmas.Bool.{false≢true}
 use Rattle.std.proofs.lemmas.Option.{slice_get_within}
 use Rattle.clk_packet.specs.declared.packet.Packet.{Packet}
@@ -13,7 +13,6 @@ use Rattle.clk_packet.specs.Scheduler.{Scheduler, shaper}
 use Rattle.clk_sched.specs.Turns.{Turn, AsksInOrder, giver}
 use Rattle.clk_sched.specs.Laws.Shaper.{has_room}
 use Rattle.clk_sched.specs.Log.{asking}
-use Rattle.clk_sched.specs.inside.Holds.OfClass.{IsShaper}
 use Rattle.clk_sched.specs.inside.Holds.Shaper.{AreBefore, HoldsBucket, IsTaken, IsGivenBack, Tells, tokens_at}
 use Rattle.clk_sched.specs.inside.Pulling.{AsksAll, added, now_of, as_turn, with_turn, asked_in_order, CanPull, Keeps, TakesTurn}
 use Rattle.clk_sched.specs.Answers.{Answers}
@@ -31,10 +30,6 @@ shaper-alone : (a b : Nodes) (x : ℕ) (s : Bucket) (now : State) (got : Option 
 shaper-alone a b x s now got h (shaper rate burst) row history ready holds = h rate burst row history ready holds
 shaper-alone a b x s now got h class row history ready holds = absurd holds
 
-pub is-shaper : (s : State) → IsShaper s → (b : Bucket) × (s ≡ Shaper b)
-is-shaper (Shaper b) h = (b, refl)
-is-shaper s h = absurd h
-
 -- what is asked with a token, and without one
 abbrev pub asked_by : Bool → List ℕ
 asked_by token = if token then 0 ∷ [] else []
@@ -44,8 +39,7 @@ abbrev pub HasInput : List Inputs → ℕ → Type 0
 HasInput table x = IfSome (slice_get table x) (λ p. 1 ≤ length p.each.items)
 
 pub shaper-asks : (table : List Inputs) (x : ℕ) (token : Bool) → HasInput table x → IsOrderAt table x (asked_by token)
-shaper-asks table x true some p e = record { within = (subst (λ o. IfSome o (λ (q : Inputs). 1 ≤ length q.each.items)) e some, tt); apart = (tt, tt) }
-shaper-asks table x false some p e = record { within = tt; apart = tt }
+shaper-asks table x token some p e = search rules
 
 -- What it takes to ask its input, and what stays.
 pub can-look : (a : Nodes) (x : ℕ) → CanPull a x (edges_of a.inputs.items x) → HasInput a.inputs.items x → CanPull a x (edges_at a.inputs.items x 0)
@@ -89,8 +83,7 @@ shaper-taken a x (Some p) s z e l tells taken rate burst turns holds before =
     subst (λ ts. HoldsBucket rate burst ts z) (sym (with_turn-given a.moment own turns _ gives)) (taken rate burst turns (as_turn a.moment own) holds before (sym (tells rate burst turns holds before)) refl (ap is_some gives))
 
 none-turn : (moment : ℕ) (own : List Visit) (rate burst : ℕ) (turns : List Turn) (s : Bucket) → giver own ≡ None → HoldsBucket rate burst turns s → HoldsBucket rate burst (with_turn moment own turns) s
-none-turn moment [] rate burst turns s e holds = holds
-none-turn moment (v ∷ own) rate burst turns s e holds = bucket-none rate burst turns (as_turn moment (v ∷ own)) s holds e
+none-turn moment own rate burst turns s e holds = search rules
 
 pub shaper-none : (a : Nodes) (x : ℕ) (token : Bool) (s : Bucket) → HoldsThen a x token None s s
 shaper-none a x token s rate burst turns holds before = none-turn a.moment (asked_in_order (now_of a) x (asked_by token) None) rate burst turns s (in_order-giver (now_of a) x (asked_by token) None tt) holds
@@ -256,12 +249,4 @@ given-back a x s z state back =
 
 -- Nothing is given back where no bucket stands.
 pub none-given : (a : Nodes) (x : ℕ) (w : State) → slice_get a.states.items x ≡ Some w → ((b : Bucket) → w ≢ Shaper b) → GivesBack a (with_state a x w) x
-none-given a x w state other =
-    record {
-      inputs = refl;
-      log = refl;
-      pull = refl;
-      moment = refl;
-      fits = λ table fit. fit-set table a.states.items x w fit (λ p e. fit.each x p w e state);
-      given = λ b e. absurd (other b (some-same w (Shaper b) (sym state ∙ e)));
-    }
+none-given a x w state other = search (rules, fit-set, some-same)

@@ -1,5 +1,5 @@
 -- The turn of a StrideSched.
-use Rattle.std.proofs.Common.{◌≡◌, ℕ, suc, ◌+◌, ◌<◌, List, [], ◌∷◌, length, map, take, slice_get, slice_index, Option, Some, None, IsSome, IfSome, sym, ap, ap₂, ◌∙◌, subst, arith}
+use Rattle.std.proofs.Common.{◌≡◌, ℕ, suc, ◌+◌, ◌<◌, List, ◌∷◌, length, map, take, slice_get, slice_index, Option, Some, None, IsSome, IfSome, sym, ap, ap₂, ◌∙◌, subst, arith, rules}
 use Rattle.std.specs.List.{AllByRecursion}
 use Rattle.std.proofs.lemmas.List.{length-map}
 use Rattle.std.proofs.lemmas.Option.{slice_get-get_or}
@@ -21,7 +21,7 @@ use Rattle.clk_sched.specs.inside.Pulling.{Now, CanPull, AsksAll, TakesTurn, now
 use Rattle.clk_sched.specs.inside.Ranks.{AreInOrder, inputs_in}
 use Rattle.clk_sched.specs.inside.Turning.{HasAskedAll, HadTurn}
 use Rattle.clk_sched.proofs.Classes.Orders.{IsOrderOf, stride-order}
-use Rattle.clk_sched.proofs.Classes.StridePasses.{order-is, passes-none, row-in_order}
+use Rattle.clk_sched.proofs.Classes.StridePasses.{order-is, row-in_order}
 use Rattle.clk_sched.proofs.Nodes.InOrder.{IsWithin, packet_of, HasTurnedBy, turned-in-order, in_order-giver, walked-inputs, with_turn-given, after-own}
 use Rattle.clk_sched.proofs.Nodes.Ordered.{item-there, IsOrderAt, row-order, can-ask, inputs-asked, had-order}
 
@@ -85,8 +85,7 @@ stride-won a x place packet order s z is l won tickets turns holds =
     (won-turn (now_of a) x place a.moment packet order tickets turns s z is l won holds)
 
 none-turn : (moment : ℕ) (own : List Visit) (tickets : List ℕ) (turns : List Turn) (s : Passes) → giver own ≡ None → HoldsPasses tickets turns s → HoldsPasses tickets (with_turn moment own turns) s
-none-turn moment [] tickets turns s e holds = holds
-none-turn moment (v ∷ own) tickets turns s e holds = passes-none tickets turns (as_turn moment (v ∷ own)) s holds e
+none-turn moment own tickets turns s e holds = search rules
 
 pub stride-none : (a : Nodes) (x : ℕ) (order : List ℕ) (s : Passes) → HoldsThen a x order None s s
 stride-none a x order s tickets turns holds = none-turn a.moment (asked_in_order (now_of a) x order None) tickets turns s (in_order-giver (now_of a) x order None tt) holds

@@ -1,4 +1,6 @@
-use Rattle.std.proofs.Common.{IfSome, slice_get, ◌≡◌, ◌+◌, ◌<◌, ◌≤◌, true, true≢false, ◌∷◌, [], length, take, Some, None, IsSome, refl, sym, ap, ap₂, ◌∙◌, subst, arith}
+use Rattle.std.proofs.lemmas.Bool.Decides.{nat_tests}
+use Rattle.std.proofs.lemmas.Grind.{common_steps, elements}
+use Rattle.std.proofs.Common.{IfSome, slice_get, ◌≡◌, ◌+◌, ◌<◌, ◌≤◌, true, length, take, Some, None, IsSome, refl, sym, ap, ◌∙◌, subst, arith, rules}
 use Rattle.std.specs.Global.{Box}
 use Rattle.std.specs.List.{AllByRecursion, range_with_len}
 use Rattle.std.proofs.lemmas.List.{length-drop, length-map}
@@ -8,21 +10,19 @@ use Rattle.clk_sched.specs.declared.session.stride.Passes.{Passes}
 use Rattle.clk_sched.specs.declared.session.stride.Rank.{Rank}
 use Rattle.clk_sched.specs.declared.session.inputs.Inputs.{Inputs}
 use Rattle.clk_sched.specs.declared.session.nodes.Nodes.{Nodes}
-use Rattle.clk_sched.specs.declared.session.inputs.Input.TheVariants.{Queue, Node}
+use Rattle.clk_sched.specs.declared.session.inputs.Input.TheVariants.{Node}
 use Rattle.clk_sched.specs.declared.session.state.State.TheVariants.{RoundRobin, Drr, Stride}
-use Rattle.clk_sched.specs.Answers.{at_queue}
-use Rattle.clk_sched.specs.inside.Places.{edges_in, input_at, queue_asked}
-use Rattle.clk_sched.specs.inside.Pulling.{CanPull, added}
+use Rattle.clk_sched.specs.inside.Places.{edges_in, input_at}
+use Rattle.clk_sched.specs.inside.Pulling.{CanPull}
 use Rattle.clk_sched.specs.inside.Ranks.{AreInOrder, inputs_in}
-use Rattle.clk_sched.proofs.Nodes.Asking.{keeps-more, answers-then, asking-first, asking-ready, asking-given, asking-next, asking-all}
+use Rattle.clk_sched.proofs.Nodes.Asking.{keeps-more, answers-then, asking-ready, asking-given, asking-next, asking-all}
 use Rattle.clk_sched.proofs.Nodes.Asked.{entry, rank_at, entry-input, input-is, edges-scheduler, queue-visited, asks-queue, asks-child}
 use Rattle.clk_sched.proofs.Classes.RankLemmas.{after-place, inputs-after, in_order-after}
 use Rattle.clk_sched.proofs.Nodes.Idle.{rest-can, asking-past, asking-still, turn-can, turn-past}
 use Rattle.clk_sched.proofs.Nodes.Placed.{can-turn, kept-there, pulled-back}
 use Rattle.clk_sched.proofs.Turns.TurnPrio.{prio-asks, prio-pulled}
-use Rattle.clk_sched.proofs.Turns.TurnRoundRobin.{begins, may-first, may-second, had-first, had-second, had-none, few-first, few-second}
-use Rattle.clk_sched.proofs.Nodes.Logged.{edge-there, queue-answers, asked-logged}
-use Rattle.clk_sched.proofs.Nodes.Idle.{idle-room}
+use Rattle.clk_sched.proofs.Turns.TurnRoundRobin.{begins, may-first, may-second, had-first, had-second, had-none}
+use Rattle.clk_sched.proofs.Nodes.Logged.{queue-answers, asked-logged}
 use Rattle.clk_sched.proofs.Turns.LooksDrr.{looks-at-asked}
 use Rattle.clk_sched.proofs.Turns.TurnDrr.{looks-below, making-first, making-can, making-next, making-passed, making-all, had-ended}
 use Rattle.clk_sched.proofs.Turns.TurnStride.{FitsAt, stride-in_order, stride-may, had-won, had-lost}
@@ -38,35 +38,16 @@ abbrev boxed : {X : Type 0} → Box X → X → Box X
 boxed b x = record { ptr = b.ptr; alloc = b.alloc; value = x }
 
 pub nodes::Nodes::ask-returns-in-Queue-clause-answers : goal.nodes::Nodes::ask-returns-in-Queue-clause-answers
-nodes::Nodes::ask-returns-in-Queue-clause-answers g t c =
-    let table = c.args.self.now.inputs.items in
-    let place = entry table c.args.node c.index.result.now (c.requires.can_pull.there) c.index.ensures in
-    let input : input_at table c.args.node c.args.input ≡ Some (Queue c.in-Queue.leaf) = input-is table c.args.node c.args.input c.index.result.now c.index-2.result.now place c.requires.within c.index-2.ensures ∙ ap Some c.in-Queue.is in
-    queue-answers g.Q.Ask.gives c.args.self.now c.args.q.now c.ask.new.self c.args.node c.args.input c.in-Queue.leaf c.ask.result input c.ask.ensures.answer
+nodes::Nodes::ask-returns-in-Queue-clause-answers g t c = search (rules, entry, input-is, queue-answers)
 
 pub nodes::Nodes::ask-returns-in-Queue-clause-asks : goal.nodes::Nodes::ask-returns-in-Queue-clause-asks
-nodes::Nodes::ask-returns-in-Queue-clause-asks g t c =
-    let table = c.args.self.now.inputs.items in
-    let place = entry table c.args.node c.index.result.now (c.requires.can_pull.there) c.index.ensures in
-    let input : input_at table c.args.node c.args.input ≡ Some (Queue c.in-Queue.leaf) = input-is table c.args.node c.args.input c.index.result.now c.index-2.result.now place c.requires.within c.index-2.ensures ∙ ap Some c.in-Queue.is in
-    asks-queue c.args.self.now c.args.node c.args.input c.in-Queue.leaf c.ask.result input
+nodes::Nodes::ask-returns-in-Queue-clause-asks g t c = search (rules, entry, input-is, asks-queue)
 
 pub nodes::Nodes::ask-returns-in-Node-clause-keeps : goal.nodes::Nodes::ask-returns-in-Node-clause-keeps
-nodes::Nodes::ask-returns-in-Node-clause-keeps g t c =
-    let table = c.args.self.now.inputs.items in
-    let place = entry table c.args.node c.index.result.now (c.requires.can_pull.there) c.index.ensures in
-    let input : input_at table c.args.node c.args.input ≡ Some (Node c.in-Node.child) = input-is table c.args.node c.args.input c.index.result.now c.index-2.result.now place c.requires.within c.index-2.ensures ∙ ap Some c.in-Node.is in
-    let edges = edges-scheduler table c.args.node c.args.input c.in-Node.child input in
-    keeps-more c.args.self.now c.pull.new.self _ _ c.pull.ensures.keeps (omega (arith, edges))
+nodes::Nodes::ask-returns-in-Node-clause-keeps g t c = search (rules, entry, input-is, edges-scheduler, keeps-more)
 
 pub nodes::Nodes::ask-returns-in-Node-clause-answers : goal.nodes::Nodes::ask-returns-in-Node-clause-answers
-nodes::Nodes::ask-returns-in-Node-clause-answers g t c =
-    let table = c.args.self.now.inputs.items in
-    let place = entry table c.args.node c.index.result.now (c.requires.can_pull.there) c.index.ensures in
-    let input : input_at table c.args.node c.args.input ≡ Some (Node c.in-Node.child) = input-is table c.args.node c.args.input c.index.result.now c.index-2.result.now place c.requires.within c.index-2.ensures ∙ ap Some c.in-Node.is in
-    λ v node at fresh got.
-    answers-then g.Q.Ask.gives (queue_asked table) (added c.args.self.now c.pull.new.self) (v ∷ []) c.args.q.now c.pull.new.q c.pull.new.q c.pull.ensures.answers
-    (subst (λ o. at_queue g.Q.Ask.gives o v.got c.pull.new.q (λ s. s ≡ c.pull.new.q)) (sym (queue-visited table c.args.node c.args.input (Node c.in-Node.child) v input node at fresh)) refl)
+nodes::Nodes::ask-returns-in-Node-clause-answers g t c = search (rules, entry, input-is, answers-then, queue-visited)
 
 pub nodes::Nodes::ask-returns-in-Node-clause-asks : goal.nodes::Nodes::ask-returns-in-Node-clause-asks
 nodes::Nodes::ask-returns-in-Node-clause-asks g t c =
@@ -74,10 +55,6 @@ nodes::Nodes::ask-returns-in-Node-clause-asks g t c =
     let place = entry table c.args.node c.index.result.now (c.requires.can_pull.there) c.index.ensures in
     let input : input_at table c.args.node c.args.input ≡ Some (Node c.in-Node.child) = input-is table c.args.node c.args.input c.index.result.now c.index-2.result.now place c.requires.within c.index-2.ensures ∙ ap Some c.in-Node.is in
     asks-child c.args.self.now c.pull.new.self c.args.node c.args.input c.in-Node.child c.pull.result input c.pull.ensures.pulls
-
-pub nodes::Nodes::ask_in_order-loop-place-init : goal.nodes::Nodes::ask_in_order-loop-place-init
-nodes::Nodes::ask_in_order-loop-place-init g t c =
-    (omega arith, asking-first g.Q.Ask.gives c.args.self.now c.args.q.now c.args.node c.requires.can_pull.fit)
 
 pub nodes::Nodes::ask_in_order-pass_idle_of-idle-requires : goal.nodes::Nodes::ask_in_order-pass_idle_of-idle-requires
 nodes::Nodes::ask_in_order-pass_idle_of-idle-requires g t c =
@@ -96,67 +73,38 @@ nodes::Nodes::ask_in_order-loop-place-preserved-then-idle-gt0 g t c =
     let k = c.loop-place.place in
     let n = c.pass_idle_of-idle.result in
     let within = c.pass_idle_of-idle.ensures.within in
-    let test = c.loop-place-test.true in
     let size = ap length (after-place c.args.order.now k) ∙ length-drop k c.args.order.now in (
-      omega (arith, within, size, test),
+      omega (arith, within, size),
       asking-past g.Q.Ask.gives c.args.self.now c.loop-place.self c.pass_idle_of-idle.new.self c.args.q.now c.loop-place.q c.args.node k n (inputs_in c.args.order.now) c.loop-place.invariant.1
           (subst (λ l. HasAskedAll g.Q.Ask.gives c.loop-place.self c.pass_idle_of-idle.new.self c.loop-place.q c.loop-place.q c.args.node (take n l) None) (inputs-after c.args.order.now k) c.pass_idle_of-idle.ensures.asked),
     )
 
 pub nodes::Nodes::ask_in_order-look-requires : goal.nodes::Nodes::ask_in_order-look-requires
-nodes::Nodes::ask_in_order-look-requires g t c =
-    let order = inputs_in c.args.order.now in
-    let k = c.loop-place.place in
-    let now = c.pass_idle_of-idle.new.self in
-    let none = c.if-idle-gt0.false in
-    let h = asking-still g.Q.Ask.gives c.args.self.now c.loop-place.self now c.args.q.now c.loop-place.q c.args.node k c.pass_idle_of-idle.result c.args.order.now (omega (arith, none)) c.loop-place.invariant.1 c.pass_idle_of-idle.ensures.asked in
-    let ready = asking-ready g.Q.Ask.gives c.args.self.now now c.args.q.now c.loop-place.q c.args.node k (rank_at c.args.order.now k).input order c.requires.can_pull c.requires.within h (subst (λ n. k < n) (sym (length-map c.args.order.now (λ (r : Rank). r.input))) c.loop-place-test.true) (entry-input c.args.order.now k c.loop-place-test.true) in
-    let same = ap length h.keeps.inputs in
-    let less = c.decreases in
-    λ κs le. (omega (arith, same, less), (search, (ready.0, ready.1)))
+nodes::Nodes::ask_in_order-look-requires g t c = grind (arith, common_steps, asking-still, asking-ready, length-map, entry-input)
 
-pub nodes::Nodes::ask_in_order-returns-in-Some : goal.nodes::Nodes::ask_in_order-returns-in-Some
-nodes::Nodes::ask_in_order-returns-in-Some g t c =
+pub nodes::Nodes::ask_in_order-returns-in-Some-clause-asked : goal.nodes::Nodes::ask_in_order-returns-in-Some-clause-asked
+nodes::Nodes::ask_in_order-returns-in-Some-clause-asked g t c =
     let order = inputs_in c.args.order.now in
     let k = c.loop-place.place in
     let now = c.pass_idle_of-idle.new.self in
-    let none = c.if-idle-gt0.false in
-    let h = asking-still g.Q.Ask.gives c.args.self.now c.loop-place.self now c.args.q.now c.loop-place.q c.args.node k c.pass_idle_of-idle.result c.args.order.now (omega (arith, none)) c.loop-place.invariant.1 c.pass_idle_of-idle.ensures.asked in
-    record {
-      place = c.loop-place-test.true;
-      asked = asking-given g.Q.Ask.gives c.args.self.now now c.look.new.self c.args.q.now c.loop-place.q c.look.new.q c.args.node k (rank_at c.args.order.now k).input c.look.result c.in-Some.packet order (subst (λ n. k < n) (sym (length-map c.args.order.now (λ (r : Rank). r.input))) c.loop-place-test.true) h (entry-input c.args.order.now k c.loop-place-test.true) c.in-Some.is c.look.ensures;
-    }
+    let h = asking-still g.Q.Ask.gives c.args.self.now c.loop-place.self now c.args.q.now c.loop-place.q c.args.node k c.pass_idle_of-idle.result c.args.order.now (omega arith) c.loop-place.invariant.1 c.pass_idle_of-idle.ensures.asked in
+    asking-given g.Q.Ask.gives c.args.self.now now c.look.new.self c.args.q.now c.loop-place.q c.look.new.q c.args.node k (rank_at c.args.order.now k).input c.look.result c.in-Some.packet order (subst (λ n. k < n) (sym (length-map c.args.order.now (λ (r : Rank). r.input))) c.loop-place-test.true) h (entry-input c.args.order.now k c.loop-place-test.true) c.in-Some.is c.look.ensures
 
 pub nodes::Nodes::ask_in_order-loop-place-preserved : goal.nodes::Nodes::ask_in_order-loop-place-preserved
 nodes::Nodes::ask_in_order-loop-place-preserved g t c =
     let k = c.loop-place.place in
     let now = c.pass_idle_of-idle.new.self in
-    let none = c.if-idle-gt0.false in
-    let h = asking-still g.Q.Ask.gives c.args.self.now c.loop-place.self now c.args.q.now c.loop-place.q c.args.node k c.pass_idle_of-idle.result c.args.order.now (omega (arith, none)) c.loop-place.invariant.1 c.pass_idle_of-idle.ensures.asked in
+    let h = asking-still g.Q.Ask.gives c.args.self.now c.loop-place.self now c.args.q.now c.loop-place.q c.args.node k c.pass_idle_of-idle.result c.args.order.now (omega arith) c.loop-place.invariant.1 c.pass_idle_of-idle.ensures.asked in
     let test = c.loop-place-test.true in (
       omega (arith, test),
       asking-next g.Q.Ask.gives c.args.self.now now c.look.new.self c.args.q.now c.loop-place.q c.look.new.q c.args.node k (rank_at c.args.order.now k).input c.look.result (inputs_in c.args.order.now) (subst (λ n. k < n) (sym (length-map c.args.order.now (λ (r : Rank). r.input))) test) h (entry-input c.args.order.now k test) c.in_default.is c.look.ensures,
     )
 
 pub nodes::Nodes::ask_in_order-returns : goal.nodes::Nodes::ask_in_order-returns
-nodes::Nodes::ask_in_order-returns g t c =
-    let order = inputs_in c.args.order.now in
-    let k = c.loop-place.place in
-    let f = c.loop-place-test.false in
-    let e = length-map c.args.order.now (λ (r : Rank). r.input) in
-    record { place = tt; asked = asking-all g.Q.Ask.gives c.args.self.now c.loop-place.self c.args.q.now c.loop-place.q c.args.node k order (omega (arith, f, e)) c.loop-place.invariant.1 }
-
-pub nodes::Nodes::ask_in_turn-loop-place-init : goal.nodes::Nodes::ask_in_turn-loop-place-init
-nodes::Nodes::ask_in_turn-loop-place-init g t c =
-    (omega arith, asking-first g.Q.Ask.gives c.args.self.now c.args.q.now c.args.node c.requires.can_pull.fit)
+nodes::Nodes::ask_in_order-returns g t c = search (rules, length-map, asking-all)
 
 pub nodes::Nodes::ask_in_turn-pass_idle-place-requires : goal.nodes::Nodes::ask_in_turn-pass_idle-place-requires
-nodes::Nodes::ask_in_turn-pass_idle-place-requires g t c =
-    let k = c.loop-place.place in
-    let test = c.loop-place-test.true in
-    let rest = turn-can g.Q.Ask.gives c.args.self.now c.loop-place.self c.args.q.now c.loop-place.q c.args.node c.args.first c.args.count k (omega (arith, test)) c.requires.can_pull c.requires.within c.loop-place.invariant.1 in
-    let few = c.requires.few in
-    record { can_pull = rest.0; within = rest.1; few = omega (arith, test, few) }
+nodes::Nodes::ask_in_turn-pass_idle-place-requires g t c = search (rules, turn-can)
 
 pub nodes::Nodes::ask_in_turn-look-requires : goal.nodes::Nodes::ask_in_turn-look-requires
 nodes::Nodes::ask_in_turn-look-requires g t c =
@@ -197,16 +145,10 @@ nodes::Nodes::ask_in_turn-loop-place-preserved g t c =
     (most, turn-past g.Q.Ask.gives c.args.self.now c.loop-place.self c.pass_idle-place.new.self c.args.q.now c.loop-place.q c.args.node c.args.first c.args.count c.loop-place.place c.pass_idle-place.result most c.loop-place.invariant.1 c.pass_idle-place.ensures.asked)
 
 pub nodes::Nodes::ask_in_turn-returns : goal.nodes::Nodes::ask_in_turn-returns
-nodes::Nodes::ask_in_turn-returns g t c =
-    let order = range_with_len c.args.first c.args.count in
-    let k = c.loop-place.place in
-    let f = c.loop-place-test.false in
-    let e = length-range_with_len c.args.first c.args.count in
-    record { place = tt; asked = asking-all g.Q.Ask.gives c.args.self.now c.loop-place.self c.args.q.now c.loop-place.q c.args.node k order (omega (arith, f, e)) c.loop-place.invariant.1 }
+nodes::Nodes::ask_in_turn-returns g t c = search (rules, length-range_with_len, asking-all)
 
 pub nodes::Nodes::look-returns : goal.nodes::Nodes::look-returns
-nodes::Nodes::look-returns g t c =
-    asked-logged g.Q.Ask.gives c.args.self.now c.ask-got.new.self _ c.args.q.now c.ask-got.new.q c.args.node c.args.input c.ask-got.result _ c.requires.within c.ask-got.ensures.keeps c.ask-got.ensures.answers c.ask-got.ensures.asks refl c.record.ensures
+nodes::Nodes::look-returns g t c = search (rules, asked-logged)
 
 pub prio::pull_prio-ask_in_turn-requires : goal.prio::pull_prio-ask_in_turn-requires
 prio::pull_prio-ask_in_turn-requires g t c =
@@ -214,8 +156,7 @@ prio::pull_prio-ask_in_turn-requires g t c =
     let place = entry c.args.nodes.now.inputs.items c.args.node p c.requires.can_pull.there c.index.ensures in
     let count = c.len-inputs.ensures ∙ p.each.ok.0 in
     let may = prio-asks c.args.nodes.now c.args.node c.len-inputs.result p c.requires.can_pull place count in
-    let less = c.decreases in
-    λ κs le. (omega (arith, less), (search, (may.0, (may.1, may.2))))
+    λ κs le. (omega arith, (search, (may.0, (may.1, may.2))))
 
 pub prio::pull_prio-returns-in-Some : goal.prio::pull_prio-returns-in-Some
 prio::pull_prio-returns-in-Some g t c =
@@ -233,26 +174,11 @@ prio::pull_prio-returns-in-None g t c =
     prio-pulled g.Q.Ask.gives c.args.nodes.now c.ask_in_turn.new.self c.args.q.now c.ask_in_turn.new.q c.args.node c.len-inputs.result p None c.requires.can_pull c.requires.holds place count tt
     (subst (HasAskedAll g.Q.Ask.gives c.args.nodes.now c.ask_in_turn.new.self c.args.q.now c.ask_in_turn.new.q c.args.node (range_with_len 0 c.len-inputs.result)) c.in-None.is c.ask_in_turn.ensures.asked)
 
-pub drr::Deficits::look_by_asking-ask-got-requires : goal.drr::Deficits::look_by_asking-ask-got-requires
-drr::Deficits::look_by_asking-ask-got-requires g t c =
-    let less = c.decreases in
-    λ κs le. (omega (arith, less), (search, (c.requires.can_pull, c.requires.within)))
-
-pub drr::Deficits::look_by_asking-visit-requires : goal.drr::Deficits::look_by_asking-visit-requires
-drr::Deficits::look_by_asking-visit-requires g t c =
-    let there = edge-there c.args.nodes.now.inputs.items c.args.node c.args.self.now.cursor c.requires.within in
-    let room = c.requires.can_pull.room in
-    let at_most = c.ask-got.ensures.keeps.at_most in
-    record { room = omega (arith, there, room, at_most); held = λ fresh. absurd (true≢false fresh) }
-
 pub drr::Deficits::look_by_asking-returns : goal.drr::Deficits::look_by_asking-returns
-drr::Deficits::look_by_asking-returns g t c =
-    looks-at-asked g.Q.Ask.gives c.args.nodes.now c.ask-got.new.self c.visit.new.nodes c.args.q.now c.ask-got.new.q c.args.node c.args.self.now c.visit.new.self c.ask-got.result c.visit.result c.requires.within c.requires.none_held
-    c.ask-got.ensures.keeps c.ask-got.ensures.asks c.ask-got.ensures.answers c.visit.ensures.logs c.visit.ensures.settles
+drr::Deficits::look_by_asking-returns g t c = search (rules, looks-at-asked)
 
 pub drr::Deficits::turn-loop-looks-init : goal.drr::Deficits::turn-loop-looks-init
-drr::Deficits::turn-loop-looks-init g t c =
-    (making-first g.Q.Ask.gives c.args.nodes.now c.args.q.now c.args.node c.args.self.now c.requires.can_pull.fit, omega arith)
+drr::Deficits::turn-loop-looks-init g t c = search (rules, making-first)
 
 pub drr::Deficits::turn-look_at_head-requires-clause-can_pull : goal.drr::Deficits::turn-look_at_head-requires-clause-can_pull
 drr::Deficits::turn-look_at_head-requires-clause-can_pull g t c =
@@ -265,41 +191,24 @@ drr::Deficits::turn-look_at_head-requires-clause-within g t c =
     (making-can g.Q.Ask.gives c.args.nodes.now c.loop-looks.nodes c.args.q.now c.loop-looks.q c.args.node c.args.self.now c.loop-looks.self c.loop-looks.looks c.requires.can_pull c.requires.fits c.loop-looks.invariant.0 below).1
 
 pub drr::Deficits::turn-returns-then-look_at_head : goal.drr::Deficits::turn-returns-then-look_at_head
-drr::Deficits::turn-returns-then-look_at_head g t c =
-    let below : c.loop-looks.looks < length c.args.self.now.row.items = looks-below c.args.self.now c.loop-looks.looks c.len-inputs.result c.loop-looks-test.true c.len-inputs.ensures.value in
-    had-ended g.Q.Ask.gives c.args.nodes.now c.look_at_head.new.nodes c.args.q.now c.loop-looks.q c.args.node c.args.self.now c.look_at_head.new.self c.head-head.result c.requires.can_pull c.requires.fits
-    (making-passed g.Q.Ask.gives c.args.nodes.now c.loop-looks.nodes c.look_at_head.new.nodes c.args.q.now c.loop-looks.q c.loop-looks.q c.args.node c.args.self.now c.loop-looks.self c.look_at_head.new.self c.loop-looks.looks
-    c.head-head.result c.look_at_head.result c.loop-looks.invariant.0 below c.look_at_head.ensures c.if-look_at_head.true)
+drr::Deficits::turn-returns-then-look_at_head g t c = search (rules, looks-below, had-ended, making-passed)
 
 pub drr::Deficits::turn-loop-looks-preserved-in-Some : goal.drr::Deficits::turn-loop-looks-preserved-in-Some
-drr::Deficits::turn-loop-looks-preserved-in-Some g t c =
-    let below : c.loop-looks.looks < length c.args.self.now.row.items = looks-below c.args.self.now c.loop-looks.looks c.len-inputs.result c.loop-looks-test.true c.len-inputs.ensures.value in
-    let more = c.loop-looks-test.true in (
-      making-next g.Q.Ask.gives c.args.nodes.now c.loop-looks.nodes c.look_at_head.new.nodes c.args.q.now c.loop-looks.q c.loop-looks.q c.args.node c.args.self.now c.loop-looks.self c.look_at_head.new.self c.loop-looks.looks
-          c.head-head.result c.look_at_head.result c.loop-looks.invariant.0 below c.look_at_head.ensures c.if-look_at_head.false,
-      omega (arith, more),
-    )
+drr::Deficits::turn-loop-looks-preserved-in-Some g t c = search (rules, looks-below, making-next)
 
 pub drr::Deficits::turn-look_by_asking-got-requires : goal.drr::Deficits::turn-look_by_asking-got-requires
 drr::Deficits::turn-look_by_asking-got-requires g t c =
     let below : c.loop-looks.looks < length c.args.self.now.row.items = looks-below c.args.self.now c.loop-looks.looks c.len-inputs.result c.loop-looks-test.true c.len-inputs.ensures.value in
     let can = making-can g.Q.Ask.gives c.args.nodes.now c.loop-looks.nodes c.args.q.now c.loop-looks.q c.args.node c.args.self.now c.loop-looks.self c.loop-looks.looks c.requires.can_pull c.requires.fits c.loop-looks.invariant.0 below in
-    let same = ap length c.loop-looks.invariant.0.made.keeps.inputs in
-    let less = c.decreases in
-    λ κs le. (omega (arith, same, less), (search, (can.0, (can.1, subst (IsHead c.loop-looks.self) c.in-None.is c.head-head.ensures.held))))
+    λ κs le. (omega arith, (search, (can.0, (can.1, subst (IsHead c.loop-looks.self) c.in-None.is c.head-head.ensures.held))))
 
 pub drr::Deficits::turn-returns-then-passed : goal.drr::Deficits::turn-returns-then-passed
-drr::Deficits::turn-returns-then-passed g t c =
-    let below : c.loop-looks.looks < length c.args.self.now.row.items = looks-below c.args.self.now c.loop-looks.looks c.len-inputs.result c.loop-looks-test.true c.len-inputs.ensures.value in
-    had-ended g.Q.Ask.gives c.args.nodes.now c.look_by_asking-got.new.nodes c.args.q.now c.look_by_asking-got.new.q c.args.node c.args.self.now c.look_by_asking-got.new.self c.look_by_asking-got.result.0 c.requires.can_pull c.requires.fits
-    (making-passed g.Q.Ask.gives c.args.nodes.now c.loop-looks.nodes c.look_by_asking-got.new.nodes c.args.q.now c.loop-looks.q c.look_by_asking-got.new.q c.args.node c.args.self.now c.loop-looks.self c.look_by_asking-got.new.self
-    c.loop-looks.looks c.look_by_asking-got.result.0 c.look_by_asking-got.result.1 c.loop-looks.invariant.0 below c.look_by_asking-got.ensures c.if-passed.true)
+drr::Deficits::turn-returns-then-passed g t c = search (rules, looks-below, had-ended, making-passed)
 
 -- what the visits have come to once one that asked got nothing
 pub drr::Deficits::turn-pass_over_idle-looks-requires : goal.drr::Deficits::turn-pass_over_idle-looks-requires
 drr::Deficits::turn-pass_over_idle-looks-requires g t c =
     let below : c.loop-looks.looks < length c.args.self.now.row.items = looks-below c.args.self.now c.loop-looks.looks c.len-inputs.result c.loop-looks-test.true c.len-inputs.ensures.value in
-    let count = c.len-inputs.ensures.value in
     record {
       first = c.args.nodes.now;
       before = c.args.q.now;
@@ -309,74 +218,55 @@ drr::Deficits::turn-pass_over_idle-looks-requires g t c =
       fits = c.requires.fits;
       making = making-next g.Q.Ask.gives c.args.nodes.now c.loop-looks.nodes c.look_by_asking-got.new.nodes c.args.q.now c.loop-looks.q c.look_by_asking-got.new.q c.args.node c.args.self.now c.loop-looks.self c.look_by_asking-got.new.self
           c.loop-looks.looks c.look_by_asking-got.result.0 c.look_by_asking-got.result.1 c.loop-looks.invariant.0 below c.look_by_asking-got.ensures c.if-passed.false;
-      within = omega (arith, below, count);
+      within = omega (arith, below);
     }
 
 pub drr::Deficits::turn-loop-looks-preserved-then-inputs-looks-ge-MANY : goal.drr::Deficits::turn-loop-looks-preserved-then-inputs-looks-ge-MANY
 drr::Deficits::turn-loop-looks-preserved-then-inputs-looks-ge-MANY g t c =
     let below : c.loop-looks.looks < length c.args.self.now.row.items = looks-below c.args.self.now c.loop-looks.looks c.len-inputs.result c.loop-looks-test.true c.len-inputs.ensures.value in
-    let count = c.len-inputs.ensures.value in
     let few = c.pass_over_idle-looks.ensures.few in (
       c.pass_over_idle-looks.ensures.goes_on c.args.nodes.now c.args.q.now c.args.self.now (c.loop-looks.looks + 1)
           (making-next g.Q.Ask.gives c.args.nodes.now c.loop-looks.nodes c.look_by_asking-got.new.nodes c.args.q.now c.loop-looks.q c.look_by_asking-got.new.q c.args.node c.args.self.now c.loop-looks.self c.look_by_asking-got.new.self
           c.loop-looks.looks c.look_by_asking-got.result.0 c.look_by_asking-got.result.1 c.loop-looks.invariant.0 below c.look_by_asking-got.ensures c.if-passed.false)
-          (omega (arith, below, count, few)),
-      omega (arith, below, count, few),
+          (omega (arith, below, few)),
+      omega (arith, below, few),
     )
 
 pub drr::Deficits::turn-loop-looks-preserved : goal.drr::Deficits::turn-loop-looks-preserved
-drr::Deficits::turn-loop-looks-preserved g t c =
-    let below : c.loop-looks.looks < length c.args.self.now.row.items = looks-below c.args.self.now c.loop-looks.looks c.len-inputs.result c.loop-looks-test.true c.len-inputs.ensures.value in
-    let more = c.loop-looks-test.true in (
-      making-next g.Q.Ask.gives c.args.nodes.now c.loop-looks.nodes c.look_by_asking-got.new.nodes c.args.q.now c.loop-looks.q c.look_by_asking-got.new.q c.args.node c.args.self.now c.loop-looks.self c.look_by_asking-got.new.self
-          c.loop-looks.looks c.look_by_asking-got.result.0 c.look_by_asking-got.result.1 c.loop-looks.invariant.0 below c.look_by_asking-got.ensures c.if-passed.false,
-      omega (arith, more),
-    )
+drr::Deficits::turn-loop-looks-preserved g t c = search (rules, looks-below, making-next)
 
 pub drr::Deficits::turn-returns : goal.drr::Deficits::turn-returns
 drr::Deficits::turn-returns g t c =
     let a = c.args.nodes.now in
     let x = c.args.node in
     let d = c.args.self.now in
-    let count : c.len-inputs.result ≡ length d.row.items = c.len-inputs.ensures.value in
-    let all : c.loop-looks.looks ≡ length d.row.items = let f = c.loop-looks-test.false in let m = c.loop-looks.invariant.1 in omega (arith, count, f, m) in
+    let all : c.loop-looks.looks ≡ length d.row.items = let f = c.loop-looks-test.false in let m = c.loop-looks.invariant.1 in omega (arith, f, m) in
     had-ended g.Q.Ask.gives a c.loop-looks.nodes c.args.q.now c.loop-looks.q x d c.loop-looks.self None c.requires.can_pull c.requires.fits (making-all g.Q.Ask.gives a c.loop-looks.nodes c.args.q.now c.loop-looks.q x d c.loop-looks.self c.loop-looks.looks c.loop-looks.invariant.0 all)
 
 pub round_robin::Beginning::turn-ask_in_turn-requires : goal.round_robin::Beginning::turn-ask_in_turn-requires
 round_robin::Beginning::turn-ask_in_turn-requires g t c =
     let h = begins c.args.nodes.now c.args.node c.len-inputs.result c.args.self.now c.index.result.now c.requires.can_pull c.index.ensures c.len-inputs.ensures c.requires.fits in
     let may = may-first c.args.nodes.now c.args.node c.len-inputs.result c.args.self.now.input h c.requires.can_pull in
-    let less = c.decreases in
-    λ κs le. (omega (arith, less), (search, (may.0, (may.1, may.2))))
+    λ κs le. (omega arith, (search, (may.0, (may.1, may.2))))
 
 pub round_robin::Beginning::turn-overflow_add-self : goal.round_robin::Beginning::turn-overflow_add-self
-round_robin::Beginning::turn-overflow_add-self g t c =
-    let h = begins c.args.nodes.now c.args.node c.len-inputs.result c.args.self.now c.index.result.now c.requires.can_pull c.index.ensures c.len-inputs.ensures c.requires.fits in
-    let few = few-first c.args.nodes.now.inputs.items c.args.node c.len-inputs.result c.args.self.now.input c.in-Some.place c.in-Some.packet c.ask_in_turn.result h c.in-Some.is c.ask_in_turn.ensures.place in omega (arith, few)
+round_robin::Beginning::turn-overflow_add-self g t c = grind (arith, common_steps, elements, nat_tests, begins)
 
 pub round_robin::Beginning::turn-overflow_add-self-in-Some : goal.round_robin::Beginning::turn-overflow_add-self-in-Some
-round_robin::Beginning::turn-overflow_add-self-in-Some g t c =
-    let h = begins c.args.nodes.now c.args.node c.len-inputs.result c.args.self.now c.index.result.now c.requires.can_pull c.index.ensures c.len-inputs.ensures c.requires.fits in
-    let few = few-first c.args.nodes.now.inputs.items c.args.node c.len-inputs.result c.args.self.now.input c.in-Some.place c.in-Some.packet c.ask_in_turn.result h c.in-Some.is c.ask_in_turn.ensures.place in omega (arith, few)
+round_robin::Beginning::turn-overflow_add-self-in-Some g t c = grind (arith, common_steps, elements, nat_tests, begins)
 
 pub round_robin::Beginning::turn-returns-in-Some : goal.round_robin::Beginning::turn-returns-in-Some
-round_robin::Beginning::turn-returns-in-Some g t c =
-    let h = begins c.args.nodes.now c.args.node c.len-inputs.result c.args.self.now c.index.result.now c.requires.can_pull c.index.ensures c.len-inputs.ensures c.requires.fits in
-    had-first g.Q.Ask.gives c.args.nodes.now c.ask_in_turn.new.self c.args.q.now c.ask_in_turn.new.q c.args.node c.len-inputs.result c.args.self.now.input c.in-Some.place c.in-Some.packet c.ask_in_turn.result h c.requires.can_pull c.in-Some.is c.ask_in_turn.ensures.place c.ask_in_turn.ensures.asked
+round_robin::Beginning::turn-returns-in-Some g t c = search (rules, begins, had-first)
 
 pub round_robin::Beginning::turn-ask_in_turn-requires-2 : goal.round_robin::Beginning::turn-ask_in_turn-requires-2
 round_robin::Beginning::turn-ask_in_turn-requires-2 g t c =
     let h = begins c.args.nodes.now c.args.node c.len-inputs.result c.args.self.now c.index.result.now c.requires.can_pull c.index.ensures c.len-inputs.ensures c.requires.fits in
     let kept = c.ask_in_turn.ensures.asked.keeps in
     let may = may-second c.args.nodes.now c.ask_in_turn.new.self c.args.node c.len-inputs.result c.args.self.now.input h c.requires.can_pull kept in
-    let less = c.decreases in
-    let same = ap length kept.inputs in
-    λ κs le. (omega (arith, less, same), (search, (may.0, (may.1, may.2))))
+    λ κs le. (omega arith, (search, (may.0, (may.1, may.2))))
 
 pub round_robin::Beginning::turn-overflow_add-self-in-Some-ask_in_turn : goal.round_robin::Beginning::turn-overflow_add-self-in-Some-ask_in_turn
-round_robin::Beginning::turn-overflow_add-self-in-Some-ask_in_turn g t c =
-    let h = begins c.args.nodes.now c.args.node c.len-inputs.result c.args.self.now c.index.result.now c.requires.can_pull c.index.ensures c.len-inputs.ensures c.requires.fits in
-    let few = few-second c.args.nodes.now.inputs.items c.args.node c.len-inputs.result c.args.self.now.input c.in-Some-ask_in_turn.place c.in-Some-ask_in_turn.packet c.ask_in_turn-2.result h c.in-Some-ask_in_turn.is c.ask_in_turn-2.ensures.place in omega (arith, few)
+round_robin::Beginning::turn-overflow_add-self-in-Some-ask_in_turn g t c = grind (arith, common_steps, elements, nat_tests, begins)
 
 pub round_robin::Beginning::turn-returns-in-Some-ask_in_turn : goal.round_robin::Beginning::turn-returns-in-Some-ask_in_turn
 round_robin::Beginning::turn-returns-in-Some-ask_in_turn g t c =
@@ -394,32 +284,23 @@ pub stride::Passes::turn-ask_in_order-requires : goal.stride::Passes::turn-ask_i
 stride::Passes::turn-ask_in_order-requires g t c =
     let may = stride-may c.args.nodes.now c.args.node c.args.self.now c.row.result.now c.requires.can_pull c.requires.fits c.row.ensures in
     let order = stride-in_order c.args.nodes.now.inputs.items c.args.node c.args.self.now c.requires.can_pull.there c.requires.fits in
-    let less = c.decreases in
-    λ κs le. (omega (arith, less), (search, (may.0, (may.1, subst AreInOrder (sym c.row.ensures) order))))
+    λ κs le. (omega arith, (search, (may.0, (may.1, subst AreInOrder (sym c.row.ensures) order))))
 
-pub stride::Passes::turn-won-requires : goal.stride::Passes::turn-won-requires
-stride::Passes::turn-won-requires g t c =
-    record {
-      place = subst (λ row. c.in-Some.place < length row) c.row.ensures (subst (λ o. IfSome o (λ k. k.0 < length c.row.result.now)) c.in-Some.is c.ask_in_order.ensures.place);
-      order = stride-in_order c.args.nodes.now.inputs.items c.args.node c.args.self.now c.requires.can_pull.there c.requires.fits;
-    }
+pub stride::Passes::turn-won-requires-clause-order : goal.stride::Passes::turn-won-requires-clause-order
+stride::Passes::turn-won-requires-clause-order g t c = stride-in_order c.args.nodes.now.inputs.items c.args.node c.args.self.now c.requires.can_pull.there c.requires.fits
 
 pub stride::Passes::turn-returns-in-Some : goal.stride::Passes::turn-returns-in-Some
-stride::Passes::turn-returns-in-Some g t c =
-    had-won g.Q.Ask.gives c.args.nodes.now c.ask_in_order.new.self c.args.q.now c.ask_in_order.new.q c.args.node c.in-Some.place c.in-Some.packet c.args.self.now c.won.new.self c.row.result.now c.ask_in_order.result c.requires.can_pull c.requires.fits c.row.ensures
-    (c.in-Some.is ∙ ap₂ (λ n p. Some (n, p)) (sym c.in-Some.place-is) (sym c.in-Some.packet-is)) c.ask_in_order.ensures.place c.ask_in_order.ensures.asked c.won.ensures.holds
+stride::Passes::turn-returns-in-Some g t c = search (rules, had-won)
 
 pub stride::Passes::turn-returns-in-None : goal.stride::Passes::turn-returns-in-None
-stride::Passes::turn-returns-in-None g t c =
-    had-lost g.Q.Ask.gives c.args.nodes.now c.ask_in_order.new.self c.args.q.now c.ask_in_order.new.q c.args.node c.args.self.now c.row.result.now c.ask_in_order.result c.requires.can_pull c.requires.fits c.row.ensures c.in-None.is c.ask_in_order.ensures.asked
+stride::Passes::turn-returns-in-None g t c = search (rules, had-lost)
 
 pub round_robin::Beginning::pull-turn-got-requires : goal.round_robin::Beginning::pull-turn-got-requires
 round_robin::Beginning::pull-turn-got-requires g t c =
     let a = c.args.nodes.now in
     let can = can-turn a c.take.new.self c.args.node (RoundRobin c.in-RoundRobin.beginning) c.take.ensures.taken (c.take.ensures.state ∙ ap Some c.in-RoundRobin.is) c.requires.can_pull in
     let same = ap (λ (n : Nodes). length n.inputs.items) c.take.ensures.taken in
-    let less = c.decreases in
-    λ κs le. (omega (arith, less, same), (search, (can.0, can.1)))
+    λ κs le. (omega (arith, same), (search, (can.0, can.1)))
 
 pub round_robin::Beginning::pull-returns : goal.round_robin::Beginning::pull-returns
 round_robin::Beginning::pull-returns g t c =
@@ -431,8 +312,7 @@ drr::Deficits::pull-turn-got-requires g t c =
     let a = c.args.nodes.now in
     let can = can-turn a c.take.new.self c.args.node (Drr c.in-Drr.deficits) c.take.ensures.taken (c.take.ensures.state ∙ ap Some c.in-Drr.is) c.requires.can_pull in
     let same = ap (λ (n : Nodes). length n.inputs.items) c.take.ensures.taken in
-    let less = c.decreases in
-    λ κs le. (omega (arith, less, same), (search, (can.0, subst (λ (d : Deficits). IfSome (slice_get c.take.new.self.inputs.items c.args.node) (λ (p : Inputs). length d.row.items ≡ length p.each.items)) (sym c.deref_mut.ensures.value) can.1)))
+    λ κs le. (omega (arith, same), (search, (can.0, subst (λ (d : Deficits). IfSome (slice_get c.take.new.self.inputs.items c.args.node) (λ (p : Inputs). length d.row.items ≡ length p.each.items)) (sym c.deref_mut.ensures.value) can.1)))
 
 pub drr::Deficits::pull-put-requires : goal.drr::Deficits::pull-put-requires
 drr::Deficits::pull-put-requires g t c =
@@ -450,8 +330,7 @@ stride::Passes::pull-turn-got-requires g t c =
     let a = c.args.nodes.now in
     let can = can-turn a c.take.new.self c.args.node (Stride c.in-Stride.passes) c.take.ensures.taken (c.take.ensures.state ∙ ap Some c.in-Stride.is) c.requires.can_pull in
     let same = ap (λ (n : Nodes). length n.inputs.items) c.take.ensures.taken in
-    let less = c.decreases in
-    λ κs le. (omega (arith, less, same), (search, (can.0, subst (λ (s : Passes). FitsAt c.take.new.self.inputs.items c.args.node s) (sym c.deref_mut.ensures.value) can.1)))
+    λ κs le. (omega (arith, same), (search, (can.0, subst (λ (s : Passes). FitsAt c.take.new.self.inputs.items c.args.node s) (sym c.deref_mut.ensures.value) can.1)))
 
 pub stride::Passes::pull-put-requires : goal.stride::Passes::pull-put-requires
 stride::Passes::pull-put-requires g t c =
@@ -469,12 +348,7 @@ shaper::Bucket::pull-answer_up-requires-clause-room g t c =
     let room = goes-room c.args.nodes.now c.take_down-last.new.nodes c.args.node c.take_down-last.result.0 _ c.requires.can_pull c.take_down-last.ensures in omega (arith, room)
 
 pub shaper::Bucket::pull-returns-then-not-token : goal.shaper::Bucket::pull-returns-then-not-token
-shaper::Bucket::pull-returns-then-not-token g t c =
-    let a = c.args.nodes.now in
-    let b = c.take_down-last.new.nodes in
-    let last = c.take_down-last.result.0 in
-    whole-answered g.Q.Ask.gives a b c.answer_up.new.nodes c.args.q.now c.args.q.now c.args.node last None (goes-order a b c.args.node last _ c.take_down-last.ensures)
-    (below-refused g.Q.Ask.gives a b c.args.q.now c.args.node last _ c.take_down-last.ensures c.if-not-token.true) c.answer_up.ensures
+shaper::Bucket::pull-returns-then-not-token g t c = search (rules, whole-answered, goes-order, below-refused)
 
 pub shaper::Bucket::pull-ask-got-requires : goal.shaper::Bucket::pull-ask-got-requires
 shaper::Bucket::pull-ask-got-requires g t c =
@@ -482,10 +356,8 @@ shaper::Bucket::pull-ask-got-requires g t c =
     let b = c.take_down-last.new.nodes in
     let last = c.take_down-last.result.0 in
     let may = goes-may a b c.args.node last _ c.take_down-last.ensures in
-    let order = goes-order a b c.args.node last _ c.take_down-last.ensures in
     let same = ap (λ v. length v.items) (goes-inputs a b c.args.node last _ c.take_down-last.ensures) in
-    let less = c.decreases in
-    λ κs le. (omega (arith, order, less, same), (search, (may.0, may.1)))
+    λ κs le. (omega (arith, same), (search, (may.0, may.1)))
 
 pub shaper::Bucket::pull-answer_at-requires-clause-room : goal.shaper::Bucket::pull-answer_at-requires-clause-room
 shaper::Bucket::pull-answer_at-requires-clause-room g t c =
@@ -494,10 +366,7 @@ shaper::Bucket::pull-answer_at-requires-clause-room g t c =
     let last = c.take_down-last.result.0 in
     let room = goes-room a b c.args.node last _ c.requires.can_pull c.take_down-last.ensures in
     let edges = goes-edges a b c.args.node last _ c.take_down-last.ensures in
-    let some = edges.0 in
-    let most = edges.1 in
-    let kept = c.ask-got.ensures.keeps.at_most in
-    omega (arith, room, some, most, kept)
+    omega (arith, room)
 
 pub shaper::Bucket::pull-answer_up-requires-2-clause-room : goal.shaper::Bucket::pull-answer_up-requires-2-clause-room
 shaper::Bucket::pull-answer_up-requires-2-clause-room g t c =
@@ -506,11 +375,8 @@ shaper::Bucket::pull-answer_up-requires-2-clause-room g t c =
     let last = c.take_down-last.result.0 in
     let room = goes-room a b c.args.node last _ c.requires.can_pull c.take_down-last.ensures in
     let edges = goes-edges a b c.args.node last _ c.take_down-last.ensures in
-    let some = edges.0 in
-    let most = edges.1 in
-    let kept = c.ask-got.ensures.keeps.at_most in
     let more = (answers-keep c.ask-got.new.self c.answer_at.new.nodes last c.ask-got.result c.answer_at.ensures b.inputs.items c.ask-got.ensures.keeps.fit).1 in
-    omega (arith, room, some, most, kept, more)
+    omega (arith, room, more)
 
 pub shaper::Bucket::pull-returns : goal.shaper::Bucket::pull-returns
 shaper::Bucket::pull-returns g t c =

@@ -9,23 +9,6 @@ use Rattle.clk_sched.proofs.Sessions.SessionPull.{session-pulled, emitted-once, 
 use Rattle.clk_sched.proofs.Trees.QueuesAsked.{answers-tree}
 use Rattle.clk_sched.proofs.session.Session.pull.Goals as goal
 
-pub overflow_add-self : goal.overflow_add-self
-overflow_add-self g c =
-    let a = c.self.inside.nodes in
-    let fit = c.if-self-ge-END_OF_PULLS.false in
-    let same = c.pull_device-got.ensures.keeps.pull in
-    let counted = c.self.invariant.0.pull in
-    omega (arith, fit, same, counted)
-
-pub add-requires : goal.add-requires
-add-requires g c =
-    let a = c.self.inside.nodes in
-    let fit = c.if-self-ge-END_OF_PULLS.false in
-    let counted = c.self.invariant.0.pull in
-    let few = c.self.invariant.5 in
-    let same = c.reserve.ensures.count in
-    record { room = λ keeps. let room = c.in_ok-reserve.ensures.room keeps in omega (arith, room); few = omega (arith, fit, counted, few, same) }
-
 pub invariant_of-self-2 : goal.invariant_of-self-2
 invariant_of-self-2 g c =
     let a = c.self.inside.nodes in
@@ -38,26 +21,18 @@ invariant_of-self-2 g c =
     session-pulled tree a _ n c.args.moment _ got c.self.invariant.0
     (record { inputs = refl; states = refl; log = ap (λ l. l.items) ready; pull = refl; at_moment = c.max-self-inside.ensures }) c.pull_device-got.ensures.keeps c.pull_device-got.ensures.pulls
     in
-    let most = c.max-self-inside.ensures in
-    let kept = c.pull_device-got.ensures.keeps.moment in
-    let below = c.self.invariant.1 in
-    let asked = c.requires.moment in
     let more = emitted-once (progress tree a) (progress tree b) c.args.moment got gone.once in
     let added = ap length more ∙ length-append (emitted a.log.items) (cons_option got []) in
     let count = c.add.ensures.count in
-    let before = c.reserve.ensures.count in
-    let counted = c.self.invariant.4 in
-    let few = c.self.invariant.5 in
     let one = one-at-most got in
-    let same = c.pull_device-got.ensures.keeps.pull in
     let kind = c.pull_device-got.ensures.keeps.kind ∙ ap (λ l. l.kind) ready in (
       gone.still,
-      omega (arith, most, kept, below, asked),
+      omega arith,
       c.self.invariant.2,
       (λ keeps. let stays = sym c.add.ensures.keeps ∙ keeps in
           c.add.ensures.packets stays ∙ ap (λ l. l ++ cons_option got []) (c.reserve.ensures.packets ∙ c.self.invariant.3 (sym c.reserve.ensures.keeps ∙ stays)) ∙ sym more),
-      omega (arith, added, count, before, counted),
-      omega (arith, count, before, few, one, same),
+      omega (arith, added, count),
+      omega (arith, count, one),
       subst (λ k. drop k.start n.log.items ≡ latest_pull n.log.items) (sym kind) (is-latest (progress tree a) (progress tree b) c.args.moment got gone.once),
       (λ latest. let room = c.self.invariant.7 (sym (ap (λ k. k.latest) kind) ∙ latest) in let more = ap (λ k. k.room) kind in let edges = ap (λ t. edges_of t 0) c.pull_device-got.ensures.keeps.inputs in
           omega (arith, room, more, edges)),

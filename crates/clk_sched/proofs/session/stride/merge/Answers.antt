@@ -16,33 +16,24 @@ returns-then-is_up_to c =
     let row = c.loop-next.row in
     let next = c.loop-next.next in
     let some = c.requires.some in
-    let from = c.loop-next.auto.next in
-    let test = c.loop-next-test.true in
-    let same = c.loop-next.auto.row in
     let last = rank_at row (next - 1) in
-    let behind = from-place row next blank (rank_at row next) (omega (arith, test, same)) refl in
-    merging-end _ row next (next - 1) blank (omega (arith, some, from)) (omega (arith, test, same))
+    let behind = from-place row next blank (rank_at row next) (omega arith) refl in
+    merging-end _ row next (next - 1) blank (omega (arith, some)) (omega arith)
     (subst (λ (xs : List Rank). put_rank last xs ≡ last ∷ xs) (sym behind) (put-here last (rank_at row next) (drop (suc next) row) (sym c.is_up_to.ensures ∙ c.if-is_up_to.true))) c.loop-next.invariant
 
 pub loop-next-preserved : goal.loop-next-preserved
 loop-next-preserved c =
     let row = c.loop-next.row in
     let next = c.loop-next.next in
-    let test = c.loop-next-test.true in
-    let same = c.loop-next.auto.row in
     let after : next + 1 ≡ suc next = omega arith in
-    let here = from-place row next blank (rank_at row next) (omega (arith, test, same)) refl ∙ ap (λ n. rank_at row next ∷ drop n row) (sym after) in
-    merging-next _ row c.put_in_front.new.row next (next + 1) (rank_at row next) after (omega (arith, test, same)) here c.put_in_front.ensures c.loop-next.invariant
+    let here = from-place row next blank (rank_at row next) (omega arith) refl ∙ ap (λ n. rank_at row next ∷ drop n row) (sym after) in
+    merging-next _ row c.put_in_front.new.row next (next + 1) (rank_at row next) after (omega arith) here c.put_in_front.ensures c.loop-next.invariant
 
 pub returns : goal.returns
 returns c =
     let row = c.loop-next.row in
     let next = c.loop-next.next in
     let some = c.requires.some in
-    let from = c.loop-next.auto.next in
-    let end = c.loop-next.auto.next-end in
-    let test = c.loop-next-test.false in
-    let same = c.loop-next.auto.row in
     let last = rank_at row (next - 1) in
-    let none : drop next row ≡ [] = drop_of_length-le row (omega (arith, test, same)) in
-    merging-end _ row next (next - 1) blank (omega (arith, some, from)) (omega (arith, end, same)) (subst (λ (xs : List Rank). put_rank last xs ≡ last ∷ xs) (sym none) refl) c.loop-next.invariant
+    let none : drop next row ≡ [] = drop_of_length-le row (omega arith) in
+    merging-end _ row next (next - 1) blank (omega (arith, some)) (omega arith) (subst (λ (xs : List Rank). put_rank last xs ≡ last ∷ xs) (sym none) refl) c.loop-next.invariant

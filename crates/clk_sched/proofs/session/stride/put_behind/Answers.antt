@@ -17,21 +17,19 @@ loop-place-preserved c =
     let blank : Rank = record { pass = 0; input = 0 } in
     let k : ℕ = place - from in
     let within = so_far.within in
-    let below = c.loop-place-test.true in
-    let same_length = c.loop-place.auto.row in
     let all = length-drop (from + 1) row in
     let here : from + k ≡ place = omega (arith, within) in
     let after : from + k + 1 ≡ place + 1 = omega (arith, within) in
     let next : k + 1 ≡ place + 1 - from = omega (arith, within) in
-    let read = (λ j. get_or (so_far.moved j) (sym after j) blank) ∙ next-moved row from k blank (omega (arith, within, below, same_length)) in
+    let read = (λ j. get_or (so_far.moved j) (sym after j) blank) ∙ next-moved row from k blank (omega (arith, within)) in
     record {
-      within = (omega (arith, within), omega (arith, below, same_length));
+      within = (omega (arith, within), omega arith);
       moved =
-          (λ j. set (so_far.moved j) (sym here j) (read j)) ∙ paste_more row from (drop (from + 1) row) k blank (omega (arith, within)) (omega (arith, within, below, same_length, all))
+          (λ j. set (so_far.moved j) (sym here j) (read j)) ∙ paste_more row from (drop (from + 1) row) k blank (omega (arith, within)) (omega (arith, within, all))
           ∙ ap (paste row from (drop (from + 1) row)) next;
       before =
           subst (StandBefore c.args.rank (drop (from + 1) row)) next
-          (before-next c.args.rank (drop (from + 1) row) k blank _ (omega (arith, within, below, same_length, all)) read (sym c.is_up_to.ensures ∙ c.if-not-is_up_to.true) so_far.before);
+          (before-next c.args.rank (drop (from + 1) row) k blank _ (omega (arith, within, all)) read (sym c.is_up_to.ensures ∙ c.if-not-is_up_to.true) so_far.before);
     }
 
 pub returns : goal.returns
@@ -43,19 +41,16 @@ returns c =
     let blank : Rank = record { pass = 0; input = 0 } in
     let k : ℕ = place - from in
     let within = so_far.within in
-    let same_length = c.loop-place.auto.row in
     let all = length-drop (from + 1) row in
     let here : from + k ≡ place = omega (arith, within) in
     let after : from + k + 1 ≡ place + 1 = omega (arith, within) in
     let put : put_rank c.args.rank (drop (from + 1) row) ≡ take k (drop (from + 1) row) ++ c.args.rank ∷ drop k (drop (from + 1) row) =
     elim c.loop-place-test.branch [
       | then-loop-place-test+else-not-is_up_to w ↦
-          let below = w.loop-place-test.true in
-          before-found c.args.rank (drop (from + 1) row) k blank _ (omega (arith, within, below, same_length, all))
-          ((λ j. get_or (so_far.moved j) (sym after j) blank) ∙ next-moved row from k blank (omega (arith, within, below, same_length))) (sym w.is_up_to.ensures ∙ w.if-not-is_up_to.false) so_far.before
+          before-found c.args.rank (drop (from + 1) row) k blank _ (omega (arith, within, all))
+          ((λ j. get_or (so_far.moved j) (sym after j) blank) ∙ next-moved row from k blank (omega (arith, within))) (sym w.is_up_to.ensures ∙ w.if-not-is_up_to.false) so_far.before
       | else-loop-place-test w ↦
-          let end = w.loop-place-test.false in
-          before-all c.args.rank (drop (from + 1) row) k (omega (arith, within, end, same_length, all)) so_far.before
+          before-all c.args.rank (drop (from + 1) row) k (omega (arith, within, all)) so_far.before
     ]
     in
     (λ j. set (so_far.moved j) (sym here j) c.args.rank) ∙ put-moved c.args.rank row from k c.requires (omega (arith, within, all)) put

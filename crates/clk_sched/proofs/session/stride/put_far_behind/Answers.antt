@@ -7,8 +7,6 @@ pub loop-place-preserved : goal.loop-place-preserved
 loop-place-preserved c =
     let row = c.loop-place.row in
     let place = c.loop-place.place in
-    let below = c.loop-place-test.true in
-    let same = c.loop-place.auto.row in
     let eight : place + 8 + 1 - (place + 1) ≡ 8 = omega arith in
-    putting-next _ row c.copy_within.new.self place 7 (place + 8) c.args.rank (record { pass = 0; input = 0 }) (omega arith) (omega (arith, below, same)) (sym c.is_up_to.ensures ∙ c.if-not-is_up_to.true)
+    putting-next _ row c.copy_within.new.self place 7 (place + 8) c.args.rank (record { pass = 0; input = 0 }) (omega arith) (omega arith) (sym c.is_up_to.ensures ∙ c.if-not-is_up_to.true)
     (c.copy_within.ensures.after ∙ ap (paste row place (drop (place + 1) row)) eight) c.loop-place.invariant

@@ -1,4 +1,4 @@
-use Rattle.std.proofs.Common.{◌≡◌, ◌+◌, ◌++◌, ◌∙◌, ap, sym, suc, map, take, drop, set, get_or, arith}
+use Rattle.std.proofs.Common.{◌≡◌, ◌+◌, ◌++◌, ◌∙◌, ap, sym, suc, map, take, drop, set, get_or, arith, rules}
 use Rattle.clk_sched.specs.declared.session.stride.Rank.{Rank}
 use Rattle.clk_sched.specs.inside.Ranks.{less}
 use Rattle.clk_sched.proofs.Classes.RankLemmas.{less-none, changed-read, changed-more}
@@ -8,12 +8,7 @@ pub returns-then-least-eq0 : goal.returns-then-least-eq0
 returns-then-least-eq0 c = sym (ap (λ n. map (less n) c.args.ranks.now) c.if-least-eq0.true ∙ less-none c.args.ranks.now)
 
 pub overflow_sub-rank : goal.overflow_sub-rank
-overflow_sub-rank c =
-    let blank : Rank = record { pass = 0; input = 0 } in
-    let least = c.requires c.loop-rank.rank-index blank c.loop-rank-test.true in
-    let now = ap (λ (xs : _). (get_or xs c.loop-rank.rank-index blank).pass) c.loop-rank.invariant in
-    let old = ap (λ (r : Rank). r.pass) (changed-read (less c.args.least) c.loop-rank.rank-index c.args.ranks.now blank) in
-    omega (arith, least, now, old)
+overflow_sub-rank c = search (rules, changed-read)
 
 pub loop-rank-preserved : goal.loop-rank-preserved
 loop-rank-preserved c =

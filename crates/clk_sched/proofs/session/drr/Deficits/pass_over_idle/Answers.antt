@@ -1,14 +1,8 @@
 use Rattle.std.proofs.Common.{sym, subst}
 use Rattle.clk_sched.specs.declared.session.nodes.Nodes.{Nodes}
 use Rattle.clk_sched.specs.inside.Making.{GoesOnInVain}
-use Rattle.clk_sched.proofs.Turns.TurnDrr.{going-fits}
 use Rattle.clk_sched.proofs.Turns.PastIdle.{bound-past, past-room, past-all_at_once}
 use Rattle.clk_sched.proofs.session.drr.Deficits.pass_over_idle.Goals as goal
-
-pub idle_ahead-idle-requires : goal.idle_ahead-idle-requires
-idle_ahead-idle-requires g c =
-    let fits = going-fits g.Q.Ask.gives c.args.nodes.now c.args.q.now c.args.node c.args.self.now c.args.most c.requires in
-    record { there = fits.0; fits = fits.1 }
 
 pub record_idle-requires-clause-room : goal.record_idle-requires-clause-room
 record_idle-requires-clause-room g c =

@@ -1,14 +1,7 @@
-use Rattle.std.proofs.Common.{refl, sym, ap, ◌∙◌}
+use Rattle.std.proofs.Common.{refl, sym, ◌∙◌, rules}
 use Rattle.clk_sched.specs.inside.Holds.Served.{covers, settled}
 use Rattle.clk_sched.proofs.Classes.Deficits.{row-read, settled-within, deficits-cover, deficits-passed, deficits-moved-on}
 use Rattle.clk_sched.proofs.session.drr.Deficits.settle.Goals as goal
-
-pub settle-passed-requires : goal.settle-passed-requires
-settle-passed-requires c fresh =
-    let d = c.args.self.now in
-    let s = c.index-row-from.result in
-    let read = row-read d.row.items c.as_mut_slice-row.result.now d.cursor c.from.result s c.as_mut_slice-row.ensures.value c.from.ensures d.cursor_within c.index-row-from.is in
-    ap (λ t. t.head) (sym c.index-row-from.is) ∙ c.requires fresh s read
 
 pub returns-then-not-passed-clause-holds : goal.returns-then-not-passed-clause-holds
 returns-then-not-passed-clause-holds c quanta inputs before v holds at got passed =
@@ -31,15 +24,7 @@ returns-else-not-passed-clause-holds c quanta inputs before v holds at got passe
     deficits-passed quanta inputs before v d _ s holds read at (passed ∙ covered) (passed ∙ c.if-not-passed.false) refl written
 
 pub returns-then-not-passed-clause-covered : goal.returns-then-not-passed-clause-covered
-returns-then-not-passed-clause-covered c quanta inputs before holds =
-    let d = c.args.self.now in
-    let s = c.index-row-from.result in
-    let read = row-read d.row.items c.as_mut_slice-row.result.now d.cursor c.from.result s c.as_mut_slice-row.ensures.value c.from.ensures d.cursor_within c.index-row-from.is in
-    c.settle-passed.ensures.covers ∙ ap (λ t. covers t c.args.got) (sym c.index-row-from.is) ∙ deficits-cover quanta inputs before d s c.args.got holds read
+returns-then-not-passed-clause-covered c quanta inputs before holds = search (rules, row-read, deficits-cover)
 
 pub returns-else-not-passed-clause-covered : goal.returns-else-not-passed-clause-covered
-returns-else-not-passed-clause-covered c quanta inputs before holds =
-    let d = c.args.self.now in
-    let s = c.index-row-from.result in
-    let read = row-read d.row.items c.as_mut_slice-row.result.now d.cursor c.from.result s c.as_mut_slice-row.ensures.value c.from.ensures d.cursor_within c.index-row-from.is in
-    c.settle-passed.ensures.covers ∙ ap (λ t. covers t c.args.got) (sym c.index-row-from.is) ∙ deficits-cover quanta inputs before d s c.args.got holds read
+returns-else-not-passed-clause-covered c quanta inputs before holds = search (rules, row-read, deficits-cover)

@@ -7,12 +7,10 @@ use Rattle.clk_sched.proofs.session.nodes.Nodes.pass_idle.Goals as goal
 pub idle_from-idle-requires-clause-within : goal.idle_from-idle-requires-clause-within
 idle_from-idle-requires-clause-within g c = there-at c.args.self.now.inputs.items c.args.node c.args.first c.args.count c.requires.within
 
-pub record_idle-requires : goal.record_idle-requires
-record_idle-requires g c =
+pub record_idle-requires-clause-room : goal.record_idle-requires-clause-room
+record_idle-requires-clause-room g c =
     let room = idle-room c.args.self.now c.args.node c.args.first c.args.count c.requires.can_pull c.requires.within in
-    let few = c.requires.few in
-    let within = c.idle_from-idle.ensures.within in
-    record { room = omega (arith, room, within); few = omega (arith, few, within) }
+    omega (arith, room)
 
 pub returns-then-idle-gt0-clause-asked : goal.returns-then-idle-gt0-clause-asked
 returns-then-idle-gt0-clause-asked g c =

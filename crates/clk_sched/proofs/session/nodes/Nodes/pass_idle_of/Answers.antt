@@ -1,6 +1,6 @@
-use Rattle.std.proofs.Common.{ℕ, List, min, ◌≡◌, ◌≤◌, None, length, take, sym, subst, arith}
+use Rattle.std.proofs.Common.{ℕ, List, min, ◌≡◌, ◌≤◌, None, length, take, sym, subst, arith, rules}
 use Rattle.std.specs.List.{range_with_len}
-use Rattle.std.proofs.lemmas.List.{length-map, length-take-le}
+use Rattle.std.proofs.lemmas.List.{length-map}
 use Rattle.clk_sched.specs.declared.session.stride.Rank.{Rank}
 use Rattle.clk_sched.specs.inside.Ranks.{inputs_in}
 use Rattle.clk_sched.specs.inside.Turning.{HasAskedAll}
@@ -14,37 +14,16 @@ blank = record { pass = 0; input = 0 }
 
 -- how many ranks were looked at, and how many of these follow one another
 few-taken : (order : List Rank) (idle behind looked n : ℕ) {most : ℕ} → idle ≤ most → most ≡ min (length order) behind → looked ≡ idle → n ≤ length (take looked order) → (looked ≤ length order) × (n ≤ looked) × (n ≤ behind)
-few-taken order idle behind looked n l is same within =
-    let size = length-take-le looked order (omega (arith, l, is, same)) in (omega (arith, l, is, same), omega (arith, size, within), omega (arith, l, is, same, size, within))
+few-taken order idle behind looked n l is same within = search rules
 
 pub overflow_sub-left : goal.overflow_sub-left
-overflow_sub-left g c =
-    let a = c.args.self.now in
-    let some = c.if-order-from.false in
-    let many = c.from.ensures in
-    let place = entry a.inputs.items c.args.node c.index.result.now c.requires.can_pull.there c.index.ensures in
-    let below = first-below a.inputs.items c.args.node c.index.result.now c.args.order.now blank place (omega (arith, some, many)) c.requires.within in
-    let len = c.len.ensures in
-    let first = c.from-6.ensures in
-    omega (arith, below, len, first)
+overflow_sub-left g c = search (rules, entry, first-below)
 
 pub overflow_cast-min : goal.overflow_cast-min
-overflow_cast-min g c =
-    let a = c.args.self.now in
-    let place = entry a.inputs.items c.args.node c.index.result.now c.requires.can_pull.there c.index.ensures in
-    let few = (c.requires.can_pull.wired c.args.node c.index.result.now place).few in
-    let len = c.len.ensures in
-    let least = c.min.ensures in
-    omega (arith, few, len, least)
+overflow_cast-min g c = search (rules, entry)
 
 pub idle_from-idle-requires-clause-within : goal.idle_from-idle-requires-clause-within
-idle_from-idle-requires-clause-within g c i l =
-    let a = c.args.self.now in
-    let place = entry a.inputs.items c.args.node c.index.result.now c.requires.can_pull.there c.index.ensures in
-    let len = c.len.ensures in
-    let least = c.min.ensures in
-    let first = c.from-6.ensures in
-    input-there a.inputs.items c.args.node _ c.index.result.now place (omega (arith, l, len, least, first))
+idle_from-idle-requires-clause-within g c i l = search (rules, entry, input-there)
 
 pub following-count-requires : goal.following-count-requires
 following-count-requires g c = in_order-front _ c.args.order.now c.requires.order

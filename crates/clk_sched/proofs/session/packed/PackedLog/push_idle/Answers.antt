@@ -8,8 +8,7 @@ use Rattle.clk_sched.proofs.session.packed.PackedLog.push_idle.Goals as goal
 pub push-requires : goal.push-requires
 push-requires c =
     let room = c.loop-place.invariant.room c.args.idle.now.count c.requires.room in
-    let some = c.loop-place-test.true in
-    (let p = room.0 in omega (arith, p, some), let r = room.1 in omega (arith, r, some))
+    (let p = room.0 in omega (arith, p), let r = room.1 in omega (arith, r))
 
 pub loop-place-preserved : goal.loop-place-preserved
 loop-place-preserved c =

@@ -1,4 +1,4 @@
-use Rattle.std.proofs.Common.{◌+◌, ap, length, refl, subst, arith}
+use Rattle.std.proofs.Common.{◌+◌, ap, length, subst, arith, rules}
 use Rattle.clk_sched.specs.inside.Tokens.{GoesDown}
 use Rattle.clk_sched.proofs.Turns.ShaperRow.{down-first, down-can, down-next, goes-inputs, goes-may, goes-below}
 use Rattle.clk_sched.proofs.session.shaper.Bucket.take_down.Goals as goal
@@ -16,9 +16,7 @@ take_at-token-requires-in-loop-token-clause-there c =
     goes-below c.args.nodes.now c.loop-token.nodes c.args.node c.loop-token.last (c.loop-token.last + 1) _ c.loop-token.invariant (c.leads_on.ensures.stands c.if-leads_on.true)
 
 pub loop-token-preserved : goal.loop-token-preserved
-loop-token-preserved c =
-    down-next c.args.nodes.now c.loop-token.nodes c.take_at-token-in-loop-token.new.nodes c.args.node c.loop-token.last (c.loop-token.last + 1) _
-    (subst (GoesDown c.args.nodes.now c.loop-token.nodes c.args.node c.loop-token.last) c.loop-token-test.true c.loop-token.invariant) refl (c.leads_on.ensures.stands c.if-leads_on.true) c.take_at-token-in-loop-token.ensures
+loop-token-preserved c = search (rules, down-next)
 
 pub loop-token-smaller : goal.loop-token-smaller
 loop-token-smaller c =

@@ -1,5 +1,6 @@
-use Rattle.std.proofs.Common.{rules, ◌<◌, ◌≤◌, ◌+◌, ◌∙◌, List, length, take, drop, get_or, refl, sym, ap, subst}
-use Rattle.std.specs.List.{All, AllByRecursion}
+use Rattle.std.proofs.lemmas.Grind.{common_steps}
+use Rattle.std.proofs.Common.{rules, ◌<◌, ◌+◌, ◌∙◌, List, length, take, drop, get_or, refl, sym, ap, subst, arith}
+use Rattle.std.specs.List.{All}
 use Rattle.std.proofs.lemmas.List.Elements.{All-from_recursion, recursion_from_All}
 use Rattle.smallvec.proofs.SmallVecLemmas.{items-with_items}
 use Rattle.clk_sched.specs.declared.session.stride.Rank.{Rank}
@@ -15,10 +16,7 @@ abbrev blank : Rank
 blank = record { pass = 0; input = 0 }
 
 pub subtract-requires : goal.subtract-requires
-subtract-requires c =
-    let row = c.as_mut_slice-row.result.now in
-    let same = c.as_mut_slice-row.ensures.value in
-    none-lower row c.args.place blank (subst (λ (xs : List Rank). c.args.place < length xs) (sym same) c.requires.place) (subst AreInOrder (sym same) c.requires.order)
+subtract-requires c = search (rules, none-lower)
 
 pub place_visited-requires : goal.place_visited-requires
 place_visited-requires c =
@@ -31,15 +29,7 @@ place_visited-requires c =
     record { place = subst (λ (xs : List Rank). place < length xs) is all.within; fits = search rules; front = subst (λ (xs : List Rank). AreInOrder (take place xs)) is all.front; back = subst (λ (xs : List Rank). AreUpTo (drop (place + 1) xs)) is all.back }
 
 pub subtract_least-requires-clause-least : goal.subtract_least-requires-clause-least
-subtract_least-requires-clause-least c =
-    let row = c.as_mut_slice-row.result.now in
-    let same = c.as_mut_slice-row.ensures.value in
-    let place = c.args.place in
-    let pass = (rank_at row place).pass in
-    let stride = get_or c.deref.result.now c.from.result 0 in
-    let all = taken pass stride place row blank (subst (λ (xs : List Rank). place < length xs) (sym same) c.requires.place) refl (subst AreInOrder (sym same) c.requires.order) in
-    let is = c.place_visited.ensures ∙ ap (after_win 0 stride place) (taken-slice pass place row c.subtract.new.ranks c.subtract.ensures) in
-    All-from_recursion (λ (r : Rank). first_pass c.place_visited.new.row ≤ r.pass) c.place_visited.new.row (subst (λ (xs : List Rank). AllByRecursion (λ (r : Rank). first_pass xs ≤ r.pass) xs) (sym is) all.least)
+subtract_least-requires-clause-least c = grind (arith, common_steps, taken, taken-slice)
 
 pub invariant_of-self : goal.invariant_of-self
 invariant_of-self c =
@@ -69,15 +59,4 @@ invariant_of-self c =
     }
 
 pub returns-clause-holds : goal.returns-clause-holds
-returns-clause-holds c tickets turns t holds visits gives =
-    let row = c.args.self.now.row.items in
-    let now = c.as_mut_slice-row.result.now in
-    let same = c.as_mut_slice-row.ensures.value in
-    let place = c.args.place in
-    let all = taken (rank_at now place).pass (get_or c.deref.result.now c.from.result 0) place now blank (subst (λ (xs : List Rank). place < length xs) (sym same) c.requires.place) refl (subst AreInOrder (sym same) c.requires.order) in
-    let won = win-from row now c.args.self.now.strides.items c.deref.result.now place c.from.result blank _ same c.deref.ensures c.from.ensures refl in
-    let is =
-    items-with_items c.args.self.now.row c.subtract_least.new.row (search rules) ∙ c.subtract_least.ensures
-    ∙ ap from_least (c.place_visited.ensures ∙ ap (after_win 0 (get_or c.deref.result.now c.from.result 0) place) (taken-slice (rank_at now place).pass place now c.subtract.new.ranks c.subtract.ensures)) ∙ all.same ∙ ap from_least won
-    in
-    passes-won tickets turns t c.args.self.now _ place blank holds c.requires.place c.args.self.now.rising visits gives _ _ refl refl is refl
+returns-clause-holds c tickets turns t holds visits gives = grind (arith, common_steps, taken, win-from, items-with_items, taken-slice, passes-won)
