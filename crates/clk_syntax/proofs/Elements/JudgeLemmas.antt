@@ -1,7 +1,6 @@
 -- Arguments that fit their classes or not, declaration by declaration.
-use Rattle.std.proofs.Common.{◌≡◌, ℕ, ◌<◌, ◌==◌, ◌&&◌, ◌||◌, not, nat_le, Bool, true, false, List, [], ◌∷◌, ◌++◌, map, length, Option, Some, None, suc, refl, sym, ap, ap₂, ◌∙◌, append_assoc, length-append, arith}
-use Rattle.std.specs.Option.{option_or, option_map}
-use Rattle.std.specs.List.{list_any, cons_option}
+use Rattle.std.proofs.Common.{◌≡◌, ℕ, ◌<◌, ◌==◌, ◌&&◌, ◌||◌, not, nat_le, Bool, true, false, List, [], ◌∷◌, ◌++◌, map, length, Option, Some, None, refl, sym, ap, ◌∙◌, append_assoc, length-append, arith, rules}
+use Rattle.std.specs.List.{list_any}
 use Rattle.std.proofs.lemmas.Bool.Decides.{nat_tests}
 use Rattle.std.proofs.lemmas.List.{map-append, length-map}
 use Rattle.clk_syntax.specs.declared.naming.class.Class as declared
@@ -9,8 +8,8 @@ use Rattle.clk_syntax.specs.declared.naming.Judged.{Judged}
 use Rattle.clk_syntax.specs.declared.texts.token.Token.{Token}
 use Rattle.clk_syntax.specs.Classes.{Class, sender, class_named, class_view, role_of, is_class}
 use Rattle.clk_syntax.specs.Source.{Declared, Element, letters, element, elements}
-use Rattle.clk_syntax.specs.Declarations.{first_after, fails_at, class_if, class_of, is_sender, is_bad_after, bad_argument, class_in}
-use Rattle.clk_syntax.specs.Faults.{node, nodes_of}
+use Rattle.clk_syntax.specs.Declarations.{first_after, class_if, class_of, is_sender, is_bad_after, bad_argument, class_in}
+use Rattle.clk_syntax.specs.Faults.{nodes_of}
 use Rattle.clk_syntax.specs.inside.Numbers.{has_number}
 use Rattle.clk_syntax.specs.inside.Naming.{node_at, may_stand, bad_at, Judges}
 
@@ -24,14 +23,12 @@ among n earlier = list_any (λ e. is_sender n (class_of e)) earlier
 first-fails : (text : List ℕ) (k : Token) (arguments names : List Token) (earlier more : List Element) → 0 < length names → is_bad_after earlier (class_by text k arguments) ≡ true
     → first_after bad_at earlier (map (element text k arguments) names ++ more) ≡ Some k.place
 first-fails text k arguments [] earlier more some bad = absurd (omega arith)
-first-fails text k arguments (name ∷ names) earlier more some bad =
-    ap (λ b. option_or (fails_at b k.place) (first_after bad_at (element text k arguments name ∷ earlier) (map (element text k arguments) names ++ more))) bad
+first-fails text k arguments (name ∷ names) earlier more some bad = search rules
 
 -- the first of some names doesn't
 first-passes : (text : List ℕ) (k : Token) (arguments names : List Token) (name : Token) (earlier more : List Element) → is_bad_after earlier (class_by text k arguments) ≡ false
     → first_after bad_at earlier (map (element text k arguments) (name ∷ names) ++ more) ≡ first_after bad_at (element text k arguments name ∷ earlier) (map (element text k arguments) names ++ more)
-first-passes text k arguments names name earlier more good =
-    ap (λ b. option_or (fails_at b k.place) (first_after bad_at (element text k arguments name ∷ earlier) (map (element text k arguments) names ++ more))) good
+first-passes text k arguments names name earlier more good = search rules
 
 -- the names of a class are gone over, and all are well
 record Passed (text : List ℕ) (k : Token) (arguments names : List Token) (class : Class) (earlier more : List Element) : Type 0 where
@@ -59,8 +56,7 @@ same-number : (n : ℕ) → (n == n) ≡ true
 same-number n = grind (arith, nat_tests)
 
 not-true : (b : Bool) → not b ≡ true → b ≡ false
-not-true false e = refl
-not-true true e = absurd (cc)
+not-true b e = search rules
 
 sender-passed : (text : List ℕ) (k : Token) (arguments names : List Token) (n : ℕ) (earlier more : List Element) → class_by text k arguments ≡ Some (sender n) → 0 < length names
     → (nat_le (length names) 1 && not (among n earlier)) ≡ true → Passed text k arguments names (sender n) earlier more
@@ -71,52 +67,31 @@ sender-passed text k arguments (name ∷ []) n earlier more e some may =
       bad = first-passes text k arguments [] name earlier more (ap (is_bad_after earlier) e ∙ not-true (among n earlier) may);
       taken = λ m. ap (λ o. is_sender m o || among m earlier) e;
     }
-sender-passed text k arguments (name ∷ second ∷ names) n earlier more e some may = absurd (no (length names) (among n earlier) may)
-  where
-    no : (l : ℕ) (b : Bool) → (nat_le (suc (suc l)) 1 && not b) ≡ true → ⊥
-    no l b h =
-        let many : nat_le (suc (suc l)) 1 ≡ false = grind (arith, nat_tests) in
-        let f : false ≡ true = rw many at h in
-        cc
+sender-passed text k arguments (name ∷ second ∷ names) n earlier more e some may = search (rules, first-passes, not-true)
 
 passed : (text : List ℕ) (k : Token) (arguments names : List Token) (class : Class) (earlier more : List Element) → class_by text k arguments ≡ Some class → 0 < length names
     → may_stand (λ n. among n earlier) class (length names) ≡ true → Passed text k arguments names class earlier more
-passed text k arguments names (sender n) earlier more e some may = sender-passed text k arguments names n earlier more e some may
-passed text k arguments names class earlier more e some may = plain-passed text k arguments names _ earlier more e (record { good = λ b. refl; other = λ n. refl })
+passed text k arguments names class earlier more e some may = search (rules, sender-passed, plain-passed)
 
 -- a Sender of two names, or of a number that an earlier one has
 sender-fails : (text : List ℕ) (k : Token) (arguments names : List Token) (n : ℕ) (earlier more : List Element) → class_by text k arguments ≡ Some (sender n) → 0 < length names
     → (nat_le (length names) 1 && not (among n earlier)) ≡ false → first_after bad_at earlier (map (element text k arguments) names ++ more) ≡ Some k.place
 sender-fails text k arguments [] n earlier more e some may = absurd (omega arith)
-sender-fails text k arguments (name ∷ []) n earlier more e some may = first-fails text k arguments (name ∷ []) earlier more some (ap (is_bad_after earlier) e ∙ by_test (among n earlier) may)
-  where
-    by_test : (b : Bool) → not b ≡ false → b ≡ true
-    by_test true h = refl
-    by_test false h = absurd (cc)
-sender-fails text k arguments (name ∷ second ∷ names) n earlier more e some may = by_test (among n earlier) refl
-  where
-    by_test : (b : Bool) → among n earlier ≡ b → first_after bad_at earlier (map (element text k arguments) (name ∷ second ∷ names) ++ more) ≡ Some k.place
-    by_test true f = first-fails text k arguments (name ∷ second ∷ names) earlier more (omega arith) (ap (is_bad_after earlier) e ∙ f)
-    by_test false f =
-        first-passes text k arguments (second ∷ names) name earlier more (ap (is_bad_after earlier) e ∙ f)
-        ∙ first-fails text k arguments (second ∷ names) (element text k arguments name ∷ earlier) more (omega arith)
-        (ap (is_bad_after (element text k arguments name ∷ earlier)) e ∙ ap (λ o. is_sender n o || among n earlier) e ∙ ap (λ b. b || among n earlier) (same-number n))
+sender-fails text k arguments (name ∷ []) n earlier more e some may = search (rules, first-fails, first-passes, same-number)
+sender-fails text k arguments (name ∷ second ∷ names) n earlier more e some may = search (rules, first-fails, first-passes, same-number)
 
 fails : (text : List ℕ) (k : Token) (arguments names : List Token) (class : Class) (earlier more : List Element) → class_by text k arguments ≡ Some class → 0 < length names
     → may_stand (λ n. among n earlier) class (length names) ≡ false → first_after bad_at earlier (map (element text k arguments) names ++ more) ≡ Some k.place
-fails text k arguments names (sender n) earlier more e some may = sender-fails text k arguments names n earlier more e some may
-fails text k arguments names class earlier more e some may = absurd (cc)
+fails text k arguments names class earlier more e some may = search (rules, sender-fails)
 
 -- the nodes of names of a class
 nodes-of-names : (text : List ℕ) (k : Token) (arguments names : List Token) (class : Class) (more : List Element) → class_by text k arguments ≡ Some class
     → nodes_of (map (element text k arguments) names ++ more) ≡ map (node_at (role_of class)) names ++ nodes_of more
 nodes-of-names text k arguments [] class more e = refl
-nodes-of-names text k arguments (name ∷ names) class more e =
-    ap₂ (λ o ns. cons_option (option_map (node name.place) o) ns) e (nodes-of-names text k arguments names class more e)
+nodes-of-names text k arguments (name ∷ names) class more e = search (rules, (nodes-of-names text k arguments names class more e))
 
 may_stand-same : (f g : ℕ → Bool) (class : Class) (l : ℕ) → ((n : ℕ) → f n ≡ g n) → may_stand f class l ≡ may_stand g class l
-may_stand-same f g (sender n) l same = ap (λ b. nat_le l 1 && not b) (same n)
-may_stand-same f g class l same = refl
+may_stand-same f g class l same = search rules
 
 -- a declaration whose class isn't there, or doesn't take its arguments
 pub Judges-missing : (text : List ℕ) (all left : List Declared) (d : Declared) (judged : Judged) → class_in text d ≡ None → 0 < length d.names → Judges text all (d ∷ left) judged
@@ -156,5 +131,4 @@ Judges-more text all left d old new class e some may added classes nodes h =
     }
   where
     p : Passed text d.class d.arguments d.names (class_view class) h.earlier (elements text left)
-    p = passed text d.class d.arguments d.names (class_view class) h.earlier (elements text left) e some
-        (may_stand-same (λ n. among n h.earlier) (has_number old.senders) (class_view class) (length d.names) (λ n. sym (h.taken n)) ∙ may)
+    p = search (rules, append_assoc, map-append, nodes-of-names, length-append, length-map, passed, may_stand-same)

@@ -1,5 +1,7 @@
 -- Connections, one after another.
-use Rattle.std.proofs.Common.{◌≡◌, ℕ, ◌<◌, ◌||◌, not, if◌then◌else◌, Bool, true, false, List, [], ◌∷◌, ◌++◌, length, Option, Some, None, refl, sym, ap, ◌∙◌, append_assoc, append-nil, arith}
+use Rattle.std.proofs.lemmas.Bool.Decides.{nat_tests}
+use Rattle.std.proofs.lemmas.Grind.{common_steps}
+use Rattle.std.proofs.Common.{◌≡◌, ℕ, ◌<◌, ◌||◌, not, Bool, true, List, [], ◌∷◌, ◌++◌, length, Option, Some, None, refl, sym, ap, ◌∙◌, append_assoc, append-nil, arith, rules}
 use Rattle.std.specs.Option.{option_or, option_map}
 use Rattle.std.specs.List.{AllByRecursion}
 use Rattle.std.specs.Str.{bytes_eq}
@@ -30,21 +32,14 @@ pub Links-none : (all : List Element) (wires : List Wire) → Links all wires wi
 Links-none all wires = record { unknown = unknown-after all [] wires; links = refl; below = tt }
 
 all-more : (P : Link → Type 0) (xs : List Link) (x : Link) → AllByRecursion P xs → P x → AllByRecursion P (xs ++ x ∷ [])
-all-more P [] x all h = (h, tt)
-all-more P (y ∷ xs) x all h = (all.0, all-more P xs x all.1 h)
+all-more P xs x all h = grind (arith, common_steps, nat_tests)
 
 pub Links-more : (all : List Element) (wires left : List Wire) (links : List Link) (c : Wire) (link : Link) → unknown_ends all c ≡ None → link ≡ link_of all c → IsLinkBelow (length all) link
     → Links all wires (c ∷ left) links → Links all wires left (links ++ link ∷ [])
-Links-more all wires left links c link known e below h =
-    record {
-      unknown = h.unknown ∙ ap (λ o. option_or o (unknown_from all left)) known;
-      links = h.links ∙ ap (λ l. links ++ l ∷ links_of all left) (sym e) ∙ sym (append_assoc links (link ∷ []) (links_of all left));
-      below = all-more (IsLinkBelow (length all)) links link h.below below;
-    }
+Links-more all wires left links c link known e below h = search (rules, append_assoc, all-more)
 
 first-end : (fault : ℕ → Fault) (first later : Option ℕ) (found : Fault) → option_map fault first ≡ Some found → option_map fault (option_or first later) ≡ Some found
-first-end fault None later found e = absurd (cc)
-first-end fault (Some place) later found e = e
+first-end fault first later found e = search rules
 
 pub Links-stop : (fault : ℕ → Fault) (all : List Element) (wires left : List Wire) (links : List Link) (c : Wire) (found : Fault) → option_map fault (unknown_ends all c) ≡ Some found → Links all wires (c ∷ left) links
     → option_map fault (unknown_name all wires) ≡ Some found
@@ -59,24 +54,11 @@ place-below [] name there = absurd (cc)
 place-below (e ∷ more) name there = by_test (bytes_eq e.name.letters name) refl (λ h. place-below more name h) there
   where
     by_test : (b : Bool) → bytes_eq e.name.letters name ≡ b → (is_declared name more ≡ true → place_of more name < length more) → (b || is_declared name more) ≡ true → place_of (e ∷ more) name < length (e ∷ more)
-    by_test true eq later h = rw eq (omega arith)
-    by_test false eq later h = let below = later h in rw eq (omega arith)
+    by_test b eq later h = search rules
 
 pub found : (all : List Element) (name : List ℕ) (word_place place : ℕ) → place_if all name ≡ Some place
     → (fails_at (not (is_declared name all)) word_place ≡ None) × (place ≡ place_of all name) × (place < length all)
-found all name word_place place e = by_test (is_declared name all) refl e
-  where
-    by_test : (b : Bool) → is_declared name all ≡ b → (if b then Some (place_of all name) else None) ≡ Some place
-        → (fails_at (not (is_declared name all)) word_place ≡ None) × (place ≡ place_of all name) × (place < length all)
-    by_test true there h =
-        let same : place_of all name ≡ place = cc in
-        let below = place-below all name there in
-        (ap (λ b. fails_at (not b) word_place) there, sym same, omega arith)
-    by_test false there h = absurd (cc)
+found all name word_place place e = search (rules, place-below)
 
 pub missing : (all : List Element) (name : List ℕ) (word_place : ℕ) → place_if all name ≡ None → fails_at (not (is_declared name all)) word_place ≡ Some word_place
-missing all name word_place e = by_test (is_declared name all) refl e
-  where
-    by_test : (b : Bool) → is_declared name all ≡ b → (if b then Some (place_of all name) else None) ≡ None → fails_at (not (is_declared name all)) word_place ≡ Some word_place
-    by_test true there h = absurd (cc)
-    by_test false there h = ap (λ b. fails_at (not b) word_place) there
+missing all name word_place e = search rules

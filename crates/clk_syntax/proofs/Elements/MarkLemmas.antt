@@ -1,11 +1,10 @@
 -- Bits for numbers, with one more.
-use Rattle.std.proofs.Common.{◌≡◌, ◌≢◌, ℕ, ◌<◌, ◌*◌, ◌%◌, ◌^◌, ◌==◌, ◌&&◌, ◌||◌, ◌⊎◌, false, List, length, get_or, set, replicate, ◌≤◌, inl, inr, w64, refl, sym, ap, ◌∙◌, subst, arith, eq-eqb, ne_eqb}
+use Rattle.std.proofs.Common.{◌≡◌, ◌≢◌, ℕ, ◌<◌, ◌*◌, ◌%◌, ◌^◌, ◌==◌, ◌&&◌, ◌||◌, false, List, length, get_or, set, replicate, inl, inr, w64, refl, sym, subst, eq-eqb, ne_eqb, rules}
 use Rattle.std.specs.Int.RustNames.{bit_or}
 use Rattle.std.proofs.lemmas.List.{get_or-set_same, get_or-set_other, get_or-replicate, length-replicate}
 use Rattle.std.proofs.lemmas.Nat.Bits.{bit_at-zero, bit_at_set_same, bit_at_set_other}
 use Rattle.std.proofs.lemmas.Bool.{cases_eq, cases_lt}
 use Rattle.std.proofs.Math.ListN.{get_or-eq_default}
-use Rattle.std.specs.Int.{bit_at}
 use Rattle.clk_syntax.specs.inside.Numbers.{is_marked}
 
 abbrev with_bit : ℕ → ℕ → ℕ
@@ -39,10 +38,4 @@ module _ (marks : List ℕ) (place bit : ℕ) (within : place < length marks) (l
 
 -- no bit of zeros is set
 pub unmarked : (marks : List ℕ) (count i j : ℕ) → marks ≡ replicate count 0 → is_marked marks i j ≡ false
-unmarked marks count i j are =
-    let zero : get_or marks i 0 ≡ 0 = ap (λ (ms : List ℕ). get_or ms i 0) are ∙ by_end (cases_lt i count) in
-    ap (λ (n : ℕ). bit_at n j == 1) zero ∙ ap (λ (n : ℕ). n == 1) (bit_at-zero j)
-  where
-    by_end : (i < count) ⊎ (count ≤ i) → get_or {A = ℕ} (replicate count 0) i 0 ≡ 0
-    by_end (inl inside) = get_or-replicate count i 0 0 inside
-    by_end (inr past) = let len : length {A = ℕ} (replicate count 0) ≡ count = length-replicate count 0 in get_or-eq_default (replicate count 0) 0 (omega (arith, len))
+unmarked marks count i j are = search (rules, cases_lt, bit_at-zero, get_or-replicate, length-replicate, get_or-eq_default)

@@ -1,5 +1,5 @@
 -- Names in slots, with one more elsewhere, whose slot is another's.
-use Rattle.std.proofs.Common.{◌≡◌, ℕ, ◌<◌, ◌%◌, length, get_or, ap₂, Bool, true, false, cond, List, Option, Some, None, refl, sym, ap, ◌∙◌, arith}
+use Rattle.std.proofs.Common.{◌≡◌, ℕ, ◌<◌, ◌%◌, length, get_or, Bool, true, false, cond, List, Option, Some, None, refl, sym, ap, ◌∙◌, rules}
 use Rattle.std.specs.Map.{update}
 use Rattle.std.specs.Option.{option_or}
 use Rattle.std.specs.Str.{bytes_eq}
@@ -12,13 +12,12 @@ use denote.Ref.{Bor}
 -- what is read at the slot of a name
 pub slot-read : (slots : List (Option (Bor (List ℕ) × ℕ))) (name : List ℕ) (number count : ℕ) (there : Option (Bor (List ℕ) × ℕ)) → there ≡ get_or slots (number % count) there
     → number ≡ mixed name → count ≡ length slots → 0 < count → slot_at slots name ≡ there
-slot-read slots name number count there is e f some =
-    sym (ap₂ (λ n l. get_or slots (n % l) None) e f) ∙ sym (get_or_read_under slots (number % count) count there None is (mod_below number count some) f)
+slot-read slots name number count there is e f some = search (rules, get_or_read_under, mod_below)
 
 -- the slot of a name is taken by the name that is read there
 pub slot-taken : (slots : List (Option (Bor (List ℕ) × ℕ))) (name : List ℕ) (number count size : ℕ) (there : Option (Bor (List ℕ) × ℕ)) (known : Bor (List ℕ) × ℕ) → there ≡ get_or slots (number % count) there
     → number ≡ mixed name → count ≡ size → size ≡ length slots → 0 < length slots → there ≡ Some known → slot_at slots name ≡ Some known
-slot-taken slots name number count size there known is e f g some stands = slot-read slots name number count there is e (f ∙ g) (omega (arith, some, f, g)) ∙ stands
+slot-taken slots name number count size there known is e f g some stands = search (rules, slot-read)
 
 module _ (slots : List (Option (Bor (List ℕ) × ℕ))) (known : Bor (List ℕ) × ℕ) (name : List ℕ) (place : ℕ) (old new : List ℕ → Option ℕ) (taken : slot_at slots name ≡ Some known)
     (more : (other : List ℕ) → new other ≡ update bytes_eq old name (Some place) other) where

@@ -1,5 +1,5 @@
 -- The first class that isn't there, declaration by declaration.
-use Rattle.std.proofs.Common.{◌≡◌, ℕ, ◌<◌, true, false, List, [], ◌∷◌, ◌++◌, map, length, Option, Some, None, refl, ap, ◌∙◌, arith}
+use Rattle.std.proofs.Common.{◌≡◌, ℕ, ◌<◌, true, false, List, [], ◌∷◌, ◌++◌, map, length, Option, Some, None, refl, ap, arith, rules}
 use Rattle.std.specs.Option.{option_or}
 use Rattle.clk_syntax.specs.declared.texts.token.Token.{Token}
 use Rattle.clk_syntax.specs.Classes.{class_named}
@@ -22,8 +22,7 @@ unknown_class-in elements = unknown-after [] elements
 pub unknown-passed : (text : List ℕ) (class : Token) (arguments names : List Token) (more : List Element) → is_missing (class_named (letters text class)) ≡ false
     → unknown_in (map (element text class arguments) names ++ more) ≡ unknown_in more
 unknown-passed text class arguments [] more e = refl
-unknown-passed text class arguments (name ∷ names) more e =
-    ap (λ b. option_or (fails_at b class.place) (unknown_in (map (element text class arguments) names ++ more))) e ∙ unknown-passed text class arguments names more e
+unknown-passed text class arguments (name ∷ names) more e = search (rules, (unknown-passed text class arguments names more e))
 
 -- and of one that isn't
 pub unknown-found : (text : List ℕ) (class : Token) (arguments names : List Token) (more : List Element) → is_missing (class_named (letters text class)) ≡ true → 0 < length names

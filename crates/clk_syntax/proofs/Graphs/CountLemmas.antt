@@ -1,8 +1,8 @@
 -- The inputs of an element are all connected where as many connections lead to it as it has inputs, and none is connected twice.
-use Rattle.std.proofs.Common.{◌≡◌, ℕ, ◌≤◌, ◌<◌, ◌+◌, ◌==◌, ◌&&◌, ◌||◌, nat_lt, nat_le, max, zero, suc, Bool, true, false, not, if◌then◌else◌, List, [], ◌∷◌, inl, inr, Some, None, refl, sym, ap, ap₂, ◌∙◌, subst, arith, eq-eqb, ne_eqb, eqb-true, lt-ltb, le-ltb, ltb-true}
+use Rattle.std.proofs.Common.{◌≡◌, ℕ, ◌≤◌, ◌<◌, ◌+◌, ◌==◌, ◌&&◌, ◌||◌, nat_lt, nat_le, max, zero, suc, Bool, true, false, not, if◌then◌else◌, List, [], ◌∷◌, Some, None, refl, sym, ap, ◌∙◌, subst, arith, eq-eqb, eqb-true, lt-ltb, le-ltb, ltb-true, rules}
 use Rattle.std.specs.Option.{is_some}
 use Rattle.std.specs.List.{AllByRecursion}
-use Rattle.std.proofs.lemmas.Bool.{cases_eq, cases_order, and_parts, and_right, not-false, false≢true}
+use Rattle.std.proofs.lemmas.Bool.{cases_eq, and_parts, and_right, not-false, false≢true}
 use Rattle.clk_syntax.specs.declared.naming.class.Role.{Role}
 use Rattle.clk_syntax.specs.declared.naming.class.Role.TheVariants as role
 use Rattle.clk_syntax.specs.declared.node.Node.{Node}
@@ -19,18 +19,10 @@ use Rattle.clk_syntax.proofs.Callers.Checks.{neither, fails-not}
 -- the output of an element
 pub output-leads : (i : ℕ) (links : List Link) → is_some (target i links) ≡ uses_output i links
 output-leads i [] = refl
-output-leads i (c ∷ links) = by_test (c.from == i) (output-leads i links)
-  where
-    by_test : (b : Bool) → is_some (target i links) ≡ uses_output i links → is_some (if b then Some c.to else target i links) ≡ (b || uses_output i links)
-    by_test true e = refl
-    by_test false e = e
+output-leads i (c ∷ links) = search (rules, (output-leads i links))
 
 pub leads-on : (i : ℕ) (r : Role) (links : List Link) → leads_on r (target i links) ≡ output_connected i r links
-leads-on i role.Source links = output-leads i links
-leads-on i role.Queue links = output-leads i links
-leads-on i role.Scheduler links = output-leads i links
-leads-on i (role.SchedulerOf n) links = output-leads i links
-leads-on i role.Device links = refl
+leads-on i r links = search (rules, output-leads)
 
 -- how many connections lead to the inputs of an element below one
 abbrev count_below : ℕ → ℕ → List Link → ℕ
@@ -44,36 +36,20 @@ below-none : (i : ℕ) (links : List Link) → count_below i 0 links ≡ 0
 below-none i [] = refl
 below-none i (c ∷ links) = rw (and_right (c.to == i) (nat_lt c.input 0) (le-ltb c.input 0 (omega arith))) (below-none i links)
 
-step-tests : (x n p q r : ℕ) → p ≡ q + r → plus (nat_lt x (suc n)) p ≡ plus (nat_lt x n) q + plus (x == n) r
-step-tests x n p q r e = elim (cases_order x n) [
-  | inl same ↦ rw (lt-ltb x (suc n) (omega arith), le-ltb x n (omega arith), eq-eqb x n same) (omega arith)
-  | inr other ↦ elim other [
-    | inl below ↦ rw (lt-ltb x (suc n) (omega arith), lt-ltb x n below, ne_eqb x n (λ f. omega arith)) (omega arith)
-    | inr above ↦ rw (le-ltb x (suc n) (omega arith), le-ltb x n (omega arith), ne_eqb x n (λ f. omega arith)) (omega arith)
-  ]
-]
-
 below-more : (i n : ℕ) (links : List Link) → count_below i (suc n) links ≡ count_below i n links + count_at i n links
 below-more i n [] = refl
-below-more i n (c ∷ links) = by_test (c.to == i) (below-more i n links)
-  where
-    by_test : (b : Bool) → count_below i (suc n) links ≡ count_below i n links + count_at i n links
-        → plus (b && nat_lt c.input (suc n)) (count_below i (suc n) links) ≡ plus (b && nat_lt c.input n) (count_below i n links) + plus (b && (c.input == n)) (count_at i n links)
-    by_test true e = step-tests c.input n _ _ _ e
-    by_test false e = e
+below-more i n (c ∷ links) = search (rules, (below-more i n links))
 
 -- an input is used where a connection leads to it
 more-than_none : (b : Bool) (used : Bool) (n : ℕ) → used ≡ nat_lt 0 n → (b || used) ≡ nat_lt 0 (plus b n)
-more-than_none true used n e = sym (lt-ltb 0 (n + 1) (omega arith))
-more-than_none false used n e = e
+more-than_none b used n e = search (rules, lt-ltb)
 
 uses-count : (i j : ℕ) (links : List Link) → uses_input i j links ≡ nat_lt 0 (count_at i j links)
 uses-count i j [] = refl
 uses-count i j (c ∷ links) = more-than_none ((c.to == i) && (c.input == j)) (uses_input i j links) (count_at i j links) (uses-count i j links)
 
 none-counted : (n : ℕ) → nat_lt 0 n ≡ false → n ≡ 0
-none-counted zero e = refl
-none-counted (suc n) e = absurd (false≢true (sym e ∙ lt-ltb 0 (suc n) (omega arith)))
+none-counted n e = search (rules, false≢true, lt-ltb)
 
 -- a pull input that no connection uses again has one connection at most
 module _ (nodes : List Node) (i j : ℕ) (pull : is_queue (role_at nodes i) ≡ false) where
@@ -103,24 +79,15 @@ module _ (nodes : List Node) (i j : ℕ) (pull : is_queue (role_at nodes i) ≡ 
 
 -- all inputs below one are connected where as many connections lead to them
 both : (c b n : ℕ) → c ≤ n → b ≤ 1 → (nat_lt 0 b && (c == n)) ≡ (c + b == suc n)
-both c zero n few one = sym (ne_eqb (c + 0) (suc n) (λ e. omega arith))
-both c (suc b) n few one = elim (cases_eq c n) [
-  | inl e ↦ rw (lt-ltb 0 (suc b) (omega arith), eq-eqb c n e, eq-eqb (c + suc b) (suc n) (omega arith)) refl
-  | inr ne ↦ rw (lt-ltb 0 (suc b) (omega arith), ne_eqb c n ne, ne_eqb (c + suc b) (suc n) (λ e. ne (omega arith))) refl
-]
+both c b n few one = search (rules, cases_eq, lt-ltb, eq-eqb)
 
 below-few : (i n : ℕ) (links : List Link) → ((j : ℕ) → count_at i j links ≤ 1) → count_below i n links ≤ n
 below-few i zero links one = let none = below-none i links in omega arith
-below-few i (suc n) links one =
-    let more = below-more i n links in
-    let few = below-few i n links one in
-    let last = one n in
-    omega arith
+below-few i (suc n) links one = search (rules, below-none, below-more, (below-few i n links one))
 
 below-all : (i n : ℕ) (links : List Link) → ((j : ℕ) → count_at i j links ≤ 1) → all_connected i n links ≡ (count_below i n links == n)
 below-all i zero links one = sym (eq-eqb (count_below i 0 links) 0 (below-none i links))
-below-all i (suc n) links one =
-    ap₂ (λ a b. a && b) (uses-count i n links) (below-all i n links one) ∙ both (count_below i n links) (count_at i n links) n (below-few i n links one) (one n) ∙ ap (λ m. m == suc n) (sym (below-more i n links))
+below-all i (suc n) links one = search (rules, eq-eqb, below-none, uses-count, both, below-few, below-more, (below-all i n links one))
 
 -- where no connection leads to an input beyond, these are all
 abbrev Fits : ℕ → ℕ → Link → Type 0
@@ -128,11 +95,7 @@ Fits i n c = c.to ≡ i → c.input < n
 
 below-fits : (i n : ℕ) (links : List Link) → AllByRecursion (Fits i n) links → count_below i n links ≡ count_to i links
 below-fits i n [] fits = refl
-below-fits i n (c ∷ links) fits = by_test (c.to == i) refl (below-fits i n links fits.1)
-  where
-    by_test : (b : Bool) → (c.to == i) ≡ b → count_below i n links ≡ count_to i links → plus (b && nat_lt c.input n) (count_below i n links) ≡ plus b (count_to i links)
-    by_test true is e = rw (lt-ltb c.input n (fits.0 (eqb-true c.to i is))) (ap (λ m. m + 1) e)
-    by_test false is e = e
+below-fits i n (c ∷ links) fits = search (rules, lt-ltb, eqb-true, (below-fits i n links fits.1))
 
 pub all-counted : (i n : ℕ) (links : List Link) → ((j : ℕ) → count_at i j links ≤ 1) → AllByRecursion (Fits i n) links → (count_to i links == n) ≡ all_connected i n links
 all-counted i n links one fits = ap (λ m. m == n) (sym (below-fits i n links fits)) ∙ sym (below-all i n links one)
@@ -143,12 +106,10 @@ used-fits i n [] le = tt
 used-fits i n (c ∷ links) le = (λ same. here (c.to == i) (eq-eqb c.to i same) le, used-fits i n links (later (c.to == i) le))
   where
     here : (b : Bool) → b ≡ true → (if b then max (c.input + 1) (inputs_used i links) else inputs_used i links) ≤ n → c.input < n
-    here true is le = omega arith
-    here false is le = absurd (cc)
+    here b is le = search (rules, eq-eqb)
 
     later : (b : Bool) → (if b then max (c.input + 1) (inputs_used i links) else inputs_used i links) ≤ n → inputs_used i links ≤ n
-    later true le = omega arith
-    later false le = le
+    later b le = search (rules, eq-eqb)
 
 -- and of one that has so many
 pub input-there : (nodes : List Node) (c : Link) → bad_link nodes c ≡ None → has_input (role_at nodes c.to) c.input ≡ true

@@ -1,5 +1,7 @@
 -- The first failure of a list, one member after another.
-use Rattle.std.proofs.Common.{◌≡◌, ℕ, ◌<◌, zero, suc, List, [], ◌∷◌, length, get_or, Option, refl, sym, ap, arith}
+use Rattle.std.proofs.lemmas.Bool.Decides.{nat_tests}
+use Rattle.std.proofs.lemmas.Grind.{common_steps}
+use Rattle.std.proofs.Common.{◌≡◌, ℕ, ◌<◌, List, [], ◌∷◌, length, get_or, Option, refl, sym, ap, arith}
 use Rattle.std.specs.Option.{option_or}
 use Rattle.std.specs.List.{AllByRecursion}
 use Rattle.clk_syntax.specs.declared.node.Node.{Node}
@@ -21,6 +23,4 @@ wrong-kind-first nodes links = sym (first-of (mixed_link nodes) [] links)
 
 -- what holds of all holds of the one at a place
 pub all-at : {A : Type 0} (P : A → Type 0) (xs : List A) (i : ℕ) (d : A) → i < length xs → AllByRecursion P xs → P (get_or xs i d)
-all-at P [] i d within all = absurd (omega arith)
-all-at P (x ∷ xs) zero d within all = all.0
-all-at P (x ∷ xs) (suc i) d within all = all-at P xs i d (omega arith) all.1
+all-at P xs i d within all = grind (arith, common_steps, nat_tests)

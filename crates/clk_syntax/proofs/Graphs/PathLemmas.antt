@@ -1,5 +1,5 @@
 -- Many steps at once.
-use Rattle.std.proofs.Common.{◌≡◌, ℕ, ◌<◌, ◌+◌, ◌*◌, ◌/◌, ◌%◌, zero, suc, List, length, get_or, sym, ap, ◌∙◌, subst, arith, zero-add, suc-add}
+use Rattle.std.proofs.Common.{◌≡◌, ℕ, ◌<◌, ◌+◌, ◌*◌, ◌/◌, ◌%◌, zero, suc, List, length, get_or, ap, ◌∙◌, subst, arith, zero-add, suc-add, rules}
 use Rattle.std.specs.List.{AllByRecursion}
 use Rattle.clk_syntax.specs.declared.node.Node.{Node}
 use Rattle.clk_syntax.specs.declared.node.Link.{Link}
@@ -19,10 +19,7 @@ follow-add links (suc a) b i = ap (λ n. follow links n i) (suc-add a b) ∙ fol
 -- where a table leads is among the elements
 pub table-within : (nodes : List Node) (links : List Link) (steps : ℕ) (table : List ℕ) → AllByRecursion (IsLinkWithin nodes) links → IsFollowed (length nodes) links steps table
     → (i : ℕ) → i < length table → get_or table i 0 < length nodes
-table-within nodes links steps table within is i inside =
-    let len = is.len in
-    let here : i < length nodes = omega arith in
-    subst (λ p. p < length nodes) (sym (is.each i here)) (follow-within nodes links steps i within here)
+table-within nodes links steps table within is i inside = search (rules, follow-within)
 
 pub leads-on : (nodes : List Node) (links : List Link) (steps b : ℕ) (first second f s : List ℕ) → AllByRecursion (IsLinkWithin nodes) links → IsFollowed (length nodes) links steps first
     → IsFollowed (length nodes) links b second → f ≡ first → s ≡ second → (i : ℕ) → i < length f → get_or f i 0 < length s
@@ -39,13 +36,7 @@ composed-of first second f s table same also is = subst (λ (t : List ℕ). IsCo
 
 pub follow-composed : (nodes : List Node) (links : List Link) (a b : ℕ) (first second table : List ℕ) → AllByRecursion (IsLinkWithin nodes) links
     → IsFollowed (length nodes) links a first → IsFollowed (length nodes) links b second → IsComposed first second table → IsFollowed (length nodes) links (a + b) table
-follow-composed nodes links a b first second table within fa fb is = record {
-  len = is.len ∙ fa.len;
-  each = λ i inside.
-      let len = fa.len in
-      let here : i < length first = omega arith in
-      is.each i here ∙ ap (λ p. get_or second p 0) (fa.each i inside) ∙ fb.each (follow links a i) (follow-within nodes links a i within inside) ∙ sym (follow-add links a b i);
-}
+follow-composed nodes links a b first second table within fa fb is = search (rules, follow-within, follow-add)
 
 -- Tables on the way to as many steps as there are elements: of the steps that were made, and of a step so long that as many as are left
 -- make up the rest.
@@ -88,27 +79,10 @@ halfway-even nodes links left ends step twice within even double half =
 pub many-still : (nodes : List Node) (links : List Link) (long left i : ℕ) → AllByRecursion (IsLinkWithin nodes) links → ((k : ℕ) → k < length nodes → follow links long (follow links long k) ≡ follow links long k)
     → 0 < left → i < length nodes → follow links (left * long) i ≡ follow links long i
 many-still nodes links long zero i within still some inside = absurd (omega arith)
-many-still nodes links long (suc zero) i within still some inside =
-    let one : suc zero * long ≡ long = omega arith in
-    ap (λ n. follow links n i) one
-many-still nodes links long (suc (suc left)) i within still some inside =
-    let parts : suc (suc left) * long ≡ long + suc left * long = omega arith in
-    ap (λ n. follow links n i) parts ∙ follow-add links long (suc left * long) i
-    ∙ many-still nodes links long (suc left) (follow links long i) within still (omega arith) (follow-within nodes links long i within inside)
-    ∙ still i inside
+many-still nodes links long (suc zero) i within still some inside = search (rules, follow-add, follow-within)
+many-still nodes links long (suc (suc left)) i within still some inside = search (rules, follow-add, follow-within, (many-still nodes links long (suc left) (follow links long i) within still (omega arith) (follow-within nodes links long i within inside)))
 
 -- and then one more is all that are left
 pub halfway-still : (nodes : List Node) (links : List Link) (left : ℕ) (ends step twice table : List ℕ) → AllByRecursion (IsLinkWithin nodes) links → 0 < left
     → IsComposed step step twice → twice ≡ step → IsComposed ends step table → IsHalfway (length nodes) links left ends step → IsFollowed (length nodes) links (length nodes) table
-halfway-still nodes links left ends step twice table within some double same further half =
-    let two = follow-composed nodes links half.long half.long step step twice within half.ahead half.ahead double in
-    let more = follow-composed nodes links half.made half.long ends step table within half.behind half.ahead further in
-    let still : (k : ℕ) → k < length nodes → follow links half.long (follow links half.long k) ≡ follow links half.long k =
-    λ k inside. sym (follow-add links half.long half.long k) ∙ sym (two.each k inside) ∙ ap (λ (t : List ℕ). get_or t k 0) same ∙ half.ahead.each k inside in
-    record {
-      len = more.len;
-      each = λ i inside.
-          let here = follow-within nodes links half.made i within inside in
-          more.each i inside ∙ follow-add links half.made half.long i ∙ sym (many-still nodes links half.long left (follow links half.made i) within still some here)
-          ∙ sym (follow-add links half.made (left * half.long) i) ∙ ap (λ n. follow links n i) half.all;
-    }
+halfway-still nodes links left ends step twice table within some double same further half = search (rules, follow-composed, follow-add, follow-within, many-still)

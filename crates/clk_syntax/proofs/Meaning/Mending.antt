@@ -1,5 +1,5 @@
 -- The tokens before a wrong one begin some text, and with it none.
-use Rattle.std.proofs.Common.{◌≡◌, List, [], ◌∷◌, ◌++◌, Bool, true, false, Option, Some, None, refl, sym, ap, subst, ◌∙◌}
+use Rattle.std.proofs.Common.{◌≡◌, List, [], ◌∷◌, ◌++◌, false, Option, Some, None, refl, sym, ap, ◌∙◌, rules}
 use Rattle.std.proofs.lemmas.List.{append-nil}
 use Rattle.clk_syntax.specs.declared.texts.token.Symbol.TheVariants.{Name, Number, Declares, LeadsTo, ClosePort, CloseArguments}
 use Rattle.clk_syntax.specs.declared.texts.token.Token.{Token}
@@ -77,22 +77,11 @@ before-none : (p : Place) (wrong : List Token) → Fails p wrong → Before p wr
 before-none p wrong f = record { before = []; are = refl; place = p; leads = λ rest. refl; fails = f }
 
 split : (p : Place) (tokens wrong : List Token) → wrong_from p tokens ≡ Some wrong → Before p tokens wrong
-split p [] wrong e = by_test (may_end p) refl
-  where
-    by_test : (b : Bool) → may_end p ≡ b → Before p [] wrong
-    by_test true f = let k = rw f at e in absurd (cc)
-    by_test false f =
-        let k = rw f at e in
-        let same : [] ≡ wrong = cc in
-        subst (λ l. Before p [] l) same (before-none p [] f)
+split p [] wrong e = search (rules, before-none, before-more)
 split p (t ∷ ts) wrong e = by_place (after p t.symbol) refl (λ q k. split q ts wrong k)
   where
     by_place : (o : Option Place) → after p t.symbol ≡ o → ((q : Place) → wrong_from q ts ≡ Some wrong → Before q ts wrong) → Before p (t ∷ ts) wrong
-    by_place None f more =
-        let k = rw f at e in
-        let same : t ∷ ts ≡ wrong = cc in
-        subst (λ l. Before p (t ∷ ts) l) same (before-none p (t ∷ ts) f)
-    by_place (Some q) f more = let k = rw f at e in before-more p q t ts wrong f (more q k)
+    by_place o f more = search (rules, before-none, before-more)
 
 can-go-on : (tokens wrong : List Token) (h : Before start tokens wrong) → CanGoOn h.before
 can-go-on tokens wrong h =

@@ -1,5 +1,5 @@
 -- A text has one fault or none: its statements are the only ones, and what is wrong with them follows.
-use Rattle.std.proofs.Common.{◌≡◌, ◌⊎◌, ℕ, List, length, Bool, true, false, nat_lt, if◌then◌else◌, Option, Some, None, option_map, inl, inr, refl, sym, ap, ◌∙◌}
+use Rattle.std.proofs.Common.{◌≡◌, ◌⊎◌, ℕ, List, length, Bool, nat_lt, if◌then◌else◌, Option, Some, None, option_map, inl, inr, refl, ap, rules}
 use Rattle.clk_packet.specs.declared.fault.Fault.{Fault}
 use Rattle.clk_packet.specs.declared.fault.Fault.TheVariants.{BadText, TooLarge}
 use Rattle.clk_syntax.specs.declared.texts.token.Token.{Token}
@@ -20,15 +20,12 @@ same-told : (text : List ℕ) (statements others : List Statement) → IsText (t
 same-told text statements others is other = ap (told_by text) (one-reading (tokens_of text) statements others is other)
 
 pub one-fault : (text : List ℕ) (fault other : Fault) → HasFault text fault → HasFault text other → fault ≡ other
-one-fault text fault other (inl told) (inl also) = let e : Some fault ≡ Some other = sym told ∙ also in cc
-one-fault text fault other (inl told) (inr h) = let e = sym h.short_and_right ∙ told in absurd (cc)
-one-fault text fault other (inr h) (inl told) = let e = sym h.short_and_right ∙ told in absurd (cc)
-one-fault text fault other (inr h) (inr k) = let e : Some fault ≡ Some other = sym h.is ∙ same-told text h.statements k.statements h.is_text k.is_text ∙ k.is in cc
+one-fault text fault other (inl told) m = search (rules, same-told)
+one-fault text fault other (inr h) m = search (rules, same-told)
 
 -- a text with a fault isn't without one
 pub not-faultless : (text : List ℕ) (fault : Fault) → IsFaultless text → ¬ (HasFault text fault)
-not-faultless text fault f (inl told) = let e = sym f.short_and_right ∙ told in absurd (cc)
-not-faultless text fault f (inr h) = let e = sym f.sound ∙ same-told text f.statements h.statements f.is_text h.is_text ∙ h.is in absurd (cc)
+not-faultless text fault f k = search (rules, same-told)
 
 -- and the statements that are without one are the only ones
 pub same-statements : (text : List ℕ) (f g : IsFaultless text) → f.statements ≡ g.statements
@@ -36,9 +33,7 @@ same-statements text f g = one-reading (tokens_of text) f.statements g.statement
 
 -- a text that isn't too long and breaks no grammar has no wrong token
 none-wrong : (long : Bool) (end : ℕ) (wrong : Option (List Token)) → (if long then Some TooLarge else option_map BadText (option_map (offset_of end) wrong)) ≡ None → wrong ≡ None
-none-wrong true end wrong e = absurd (cc)
-none-wrong false end None e = refl
-none-wrong false end (Some tokens) e = absurd (cc)
+none-wrong long end wrong e = search rules
 
 -- a text says something
 abbrev Says : List ℕ → Type 0

@@ -1,14 +1,13 @@
 -- The statements that tokens are read as, from one place of the diagram to the next: a text is read as what it is made of.
-use Rattle.std.proofs.Common.{◌≡◌, List, [], ◌∷◌, ◌++◌, map, Bool, true, false, Option, Some, None, refl, sym, ap, ap₂, subst, ◌∙◌, append_assoc}
+use Rattle.std.proofs.Common.{◌≡◌, List, [], ◌∷◌, ◌++◌, map, true, Option, Some, None, refl, sym, ap, ap₂, ◌∙◌, append_assoc, rules}
 use Rattle.std.proofs.lemmas.List.{append-nil}
 use Rattle.std.specs.Bool.{if◌then◌else◌}
 use Rattle.std.specs.Option.{option_map}
 use Rattle.std.specs.List.{flat_map, AllByRecursion}
-use Rattle.clk_syntax.specs.declared.texts.token.Symbol.{Symbol}
 use Rattle.clk_syntax.specs.declared.texts.token.Symbol.TheVariants.{Name, Number, OtherWord, Declares, LeadsTo, OpenPort, ClosePort, OpenArguments, CloseArguments, Comma, Semicolon, Nothing}
 use Rattle.clk_syntax.specs.declared.texts.token.Token.{Token}
-use Rattle.clk_syntax.specs.Diagram.{Place, start, first_name, comma, further_name, declares, class, opened, argument, argument_comma, closed, output_opened, output_number, output_closed, leads_to, input_opened, input_number, input_closed, next_name, after, may_end, wrong_from}
-use Rattle.clk_syntax.specs.Grammar.{Hop, Statement, nothing, declaration, chain, mark, is_word, bare, after_comma, listed, written_arguments, written_port, written_hop, written, ended, IsName, IsWord, IsPort, IsHop, IsStatement, IsText}
+use Rattle.clk_syntax.specs.Diagram.{Place, start, first_name, comma, further_name, declares, class, opened, argument, closed, output_opened, output_number, output_closed, leads_to, input_number, next_name, after, may_end, wrong_from}
+use Rattle.clk_syntax.specs.Grammar.{Hop, Statement, nothing, declaration, chain, mark, bare, after_comma, listed, written_arguments, written_port, written_hop, written, ended, IsName, IsWord, IsPort, IsHop, IsStatement, IsText}
 use Rattle.clk_syntax.proofs.Parsing.WithinLemmas.{all-first, all-last}
 
 -- what was read of a statement
@@ -63,11 +62,7 @@ read p s (t ∷ ts) = read_or (after p t.symbol) t p s (λ q r. read q r ts)
 
 -- what is read is right
 read-clean : (p : Place) (s : SoFar) (ts : List Token) (ss : List Statement) → read p s ts ≡ Some ss → wrong_from p ts ≡ None
-read-clean p s [] ss e = by_test (may_end p) refl
-  where
-    by_test : (b : Bool) → may_end p ≡ b → wrong_from p [] ≡ None
-    by_test true f = rw f refl
-    by_test false f = let k = rw f at e in absurd (cc)
+read-clean p s [] ss e = search rules
 read-clean p s (t ∷ ts) ss e = by_place (after p t.symbol) refl (λ q l k. read-clean q (put q t s) ts l k)
   where
     inner : (q : Place) (statement : Statement) (more : Option (List Statement)) → emit q statement more ≡ Some ss → (l : List Statement) × (more ≡ Some l)
@@ -114,9 +109,7 @@ runs-number p q s t number e same = runs-one p q s t (ap (after p) number ∙ e)
 -- further names
 runs-names : (s : SoFar) (more : List Token) → AllByRecursion IsName more → Runs further_name s (flat_map after_comma more) further_name (record s { more = s.more ++ more })
 runs-names s [] names = runs-none (ap (λ (l : List Token). record s { more = l }) (sym (append-nil s.more)))
-runs-names s (n ∷ more) names =
-    let here = runs-then (runs-one further_name comma s (mark Comma) refl (λ x o. refl)) (runs-name comma further_name s n names.0 refl (λ x o. refl)) in
-    runs-to (ap (λ (l : List Token). record s { more = l }) (append_assoc s.more (n ∷ []) more)) (runs-then here (runs-names (record s { more = s.more ++ n ∷ [] }) more names.1))
+runs-names s (n ∷ more) names = search (rules, runs-none, append-nil, runs-then, runs-one, runs-name, runs-to, append_assoc, (runs-names (record s { more = s.more ++ n ∷ [] }) more names.1))
 
 -- all names of a declaration and the mark after them
 runs-declares : (s : SoFar) (more : List Token) → AllByRecursion IsName more → Runs first_name s (flat_map after_comma more ++ mark Declares ∷ []) declares (record s { more = s.more ++ more })
@@ -128,19 +121,11 @@ runs-declares s (n ∷ more) names =
 
 -- words
 after-word : (p : Place) (t : Token) → IsWord t → after p Name ≡ Some argument → after p Number ≡ Some argument → after p OtherWord ≡ Some argument → after p t.symbol ≡ Some argument
-after-word p t word a b c = by_symbol t.symbol word
-  where
-    by_symbol : (s : Symbol) → is_word s ≡ true → after p s ≡ Some argument
-    by_symbol Name w = a
-    by_symbol Number w = b
-    by_symbol OtherWord w = c
-    by_symbol s w = absurd (cc)
+after-word p t word a b c = search rules
 
 runs-words : (s : SoFar) (words : List Token) → AllByRecursion IsWord words → Runs argument s (flat_map after_comma words) argument (record s { words = s.words ++ words })
 runs-words s [] words = runs-none (ap (λ (l : List Token). record s { words = l }) (sym (append-nil s.words)))
-runs-words s (w ∷ ws) words =
-    let here = runs-then (runs-one argument argument_comma s (mark Comma) refl (λ x o. refl)) (runs-one argument_comma argument s w (after-word argument_comma w words.0 refl refl refl) (λ x o. refl)) in
-    runs-to (ap (λ (l : List Token). record s { words = l }) (append_assoc s.words (w ∷ []) ws)) (runs-then here (runs-words (record s { words = s.words ++ w ∷ [] }) ws words.1))
+runs-words s (w ∷ ws) words = search (rules, runs-none, append-nil, runs-then, runs-one, after-word, runs-to, append_assoc, (runs-words (record s { words = s.words ++ w ∷ [] }) ws words.1))
 
 runs-listed : (s : SoFar) (words : List Token) → AllByRecursion IsWord words → Runs opened s (listed words ++ mark CloseArguments ∷ []) closed (record s { words = s.words ++ words })
 runs-listed s [] words = runs-to (ap (λ (l : List Token). record s { words = l }) (sym (append-nil s.words))) (runs-one opened closed s (mark CloseArguments) refl (λ x o. refl))
@@ -159,29 +144,12 @@ module _ (p : Place) (opens : after p OpenPort ≡ Some output_opened) (leads : 
       (runs-then (runs-number output_opened output_number s n port refl (λ x o. refl)) (runs-one output_number output_closed (record s { output = Some n }) (mark ClosePort) refl (λ x o. refl))))
       (runs-one output_closed leads_to (record s { output = Some n }) (mark LeadsTo) refl (λ x o. refl))
 
-runs-input : (s : SoFar) (i : Option Token) (name : Token) → IsPort i → IsName name → s.input ≡ None
-    → Runs leads_to s (written_port i ++ name ∷ []) next_name (record s { hops = s.hops ++ record { output = s.output; input = i; name = name } ∷ []; output = None; input = None })
-runs-input s None name port is none = runs-to (ap (λ (x : Option Token). record s { hops = s.hops ++ record { output = s.output; input = x; name = name } ∷ []; output = None; input = None }) none) (runs-name leads_to next_name s name is refl (λ x o. refl))
-runs-input s (Some n) name port is none =
-    runs-then
-    (runs-then (runs-one leads_to input_opened s (mark OpenPort) refl (λ x o. refl))
-    (runs-then (runs-number input_opened input_number s n port refl (λ x o. refl)) (runs-one input_number input_closed (record s { input = Some n }) (mark ClosePort) refl (λ x o. refl))))
-    (runs-name input_closed next_name (record s { input = Some n }) name is refl (λ x o. refl))
-
 hop-written : (h : Hop) → (written_port h.output ++ mark LeadsTo ∷ []) ++ (written_port h.input ++ h.name ∷ []) ≡ written_hop h
-hop-written h = by_ports h.output h.input
-  where
-    by_ports : (o i : Option Token) → (written_port o ++ mark LeadsTo ∷ []) ++ (written_port i ++ h.name ∷ []) ≡ written_hop (record { output = o; input = i; name = h.name })
-    by_ports None None = refl
-    by_ports None (Some i) = refl
-    by_ports (Some o) None = refl
-    by_ports (Some o) (Some i) = refl
+hop-written h = search rules
 
 runs-hop : (p : Place) (s : SoFar) (h : Hop) → after p OpenPort ≡ Some output_opened → after p LeadsTo ≡ Some leads_to → IsHop h → s.output ≡ None → s.input ≡ None
     → Runs p s (written_hop h) next_name (record s { hops = s.hops ++ h ∷ []; output = None; input = None })
-runs-hop p s h opens leads hop o i =
-    let parts = runs-then (runs-output p opens leads s h.output hop.0 o) (runs-input (record s { output = h.output }) h.input h.name hop.1 hop.2 i) in
-    runs-as (hop-written h) parts
+runs-hop p s h opens leads hop o i = search (rules, runs-then, runs-as, hop-written)
 
 runs-hops : (s : SoFar) (hops : List Hop) → AllByRecursion IsHop hops → s.output ≡ None → s.input ≡ None → Runs next_name s (flat_map written_hop hops) next_name (record s { hops = s.hops ++ hops })
 runs-hops s [] all o i = runs-none (ap (λ (l : List Hop). record s { hops = l }) (sym (append-nil s.hops)))
@@ -254,33 +222,18 @@ read-text (s ∷ earlier) last sound is =
     ∙ ap (λ (t : Statement). Some (t ∷ (earlier ++ last ∷ []))) r.is
 
 pub reading : (tokens : List Token) (statements : List Statement) → IsText tokens statements → read start blank (map bare tokens) ≡ Some statements
-reading tokens statements text =
-    let sound = subst (AllByRecursion IsStatement) text.are text.sound in
-    ap (read start blank) text.written_so
-    ∙ read-text text.earlier text.last (all-first IsStatement text.earlier (text.last ∷ []) sound) (all-last IsStatement text.earlier (text.last ∷ []) sound).0
-    ∙ ap Some (sym text.are)
+reading tokens statements text = search (rules, read-text, all-first, all-last)
 
 -- a token is as right as the grammar sees it
 bare-symbol : (t : Token) → (bare t).symbol ≡ t.symbol
-bare-symbol t = by_test (is_word t.symbol) refl
-  where
-    by_test : (b : Bool) → is_word t.symbol ≡ b → (bare t).symbol ≡ t.symbol
-    by_test true e = ap (λ (u : Token). u.symbol) (by_word e)
-      where
-        by_word : is_word t.symbol ≡ true → bare t ≡ t
-        by_word e = rw e refl
-    by_test false e = ap (λ (u : Token). u.symbol) (by_mark e)
-      where
-        by_mark : is_word t.symbol ≡ false → bare t ≡ mark t.symbol
-        by_mark e = rw e refl
+bare-symbol t = search rules
 
 clean-bare : (p : Place) (ts : List Token) → wrong_from p (map bare ts) ≡ None → wrong_from p ts ≡ None
 clean-bare p [] e = e
 clean-bare p (t ∷ ts) e = by_place (after p t.symbol) refl (ap (after p) (bare-symbol t)) (λ q k. clean-bare q ts k)
   where
     by_place : (o : Option Place) → after p t.symbol ≡ o → after p (bare t).symbol ≡ after p t.symbol → ((q : Place) → wrong_from q (map bare ts) ≡ None → wrong_from q ts ≡ None) → wrong_from p (t ∷ ts) ≡ None
-    by_place None f same later = let k = rw (same ∙ f) at e in absurd (cc)
-    by_place (Some q) f same later = let k = rw (same ∙ f) at e in rw f (later q k)
+    by_place o f same later = search (rules, bare-symbol)
 
 pub can-be-read : (tokens : List Token) (statements : List Statement) → IsText tokens statements → wrong_from start tokens ≡ None
 can-be-read tokens statements text = clean-bare start tokens (read-clean start blank (map bare tokens) statements (reading tokens statements text))

@@ -1,5 +1,5 @@
 -- Tokens none of which is wrong are those of a text: what follows a place of the diagram is the rest of a statement.
-use Rattle.std.proofs.Common.{◌≡◌, ◌≢◌, ◌⊎◌, inl, inr, List, [], ◌∷◌, ◌++◌, map, Bool, true, false, Option, Some, None, IfSome, refl, sym, ap, ap₂, subst, ◌∙◌, append_assoc}
+use Rattle.std.proofs.Common.{◌≡◌, ◌≢◌, ◌⊎◌, inl, inr, List, [], ◌∷◌, ◌++◌, map, true, false, Option, Some, None, IfSome, refl, sym, ap, ap₂, subst, ◌∙◌, append_assoc, rules}
 use Rattle.std.proofs.lemmas.List.{append-nil}
 use Rattle.std.specs.List.{flat_map, AllByRecursion}
 use Rattle.clk_packet.proofs.Callers.Lists.{all-append}
@@ -140,10 +140,7 @@ names-text first l name h =
 
 -- a hop, by its parts
 hop-are : (o i : Option Token) (name : Token) (l : List Token) → written_port o ++ (mark LeadsTo ∷ (written_port i ++ (name ∷ l))) ≡ written_hop (record { output = o; input = i; name = name }) ++ l
-hop-are None None name l = refl
-hop-are None (Some i) name l = refl
-hop-are (Some o) None name l = refl
-hop-are (Some o) (Some i) name l = refl
+hop-are o i name l = search rules
 
 hops-of : (l : List Token) → HopRest l → (hop : Hop) × (hops : List Hop) × (end : List Token) × IsHop hop × AllByRecursion IsHop hops × After end × (l ≡ flat_map written_hop (hop ∷ hops) ++ end)
 hops-of l h =
@@ -251,24 +248,17 @@ hops-end {l} text = record { hops = []; end = mark Semicolon ∷ l; sound = tt; 
 
 -- a mark, and a word, before what follows them
 marked : (R : List Token → Type 0) (t : Token) (l : List Token) (s : Symbol) → t.symbol ≡ s → is_word s ≡ false → R (mark s ∷ l) → R (bare t ∷ l)
-marked R t l s e none h = subst (λ (u : Token). R (u ∷ l)) (sym is) h
-  where
-    is : bare t ≡ mark s
-    is = rw (ap is_word e ∙ none) (ap mark e)
+marked R t l s e none h = search rules
 
 worded : (R : List Token → Type 0) (t : Token) (l : List Token) → is_word t.symbol ≡ true → R (t ∷ l) → R (bare t ∷ l)
-worded R t l e h = subst (λ (u : Token). R (u ∷ l)) (sym is) h
-  where
-    is : bare t ≡ t
-    is = rw e refl
+worded R t l e h = search rules
 
 -- one token more, from each place on
 prepend : (p : Place) (s : Symbol) (t : Token) (l : List Token) → t.symbol ≡ s → after p s ≢ None → ((q : Place) → after p s ≡ Some q → Rest q l) → Rest p (bare t ∷ l)
 prepend start Name t l e ok rest = worded TextOf t l (ap is_word e) (by_kind (rest first_name refl))
   where
     by_kind : NamesRest l ⊎ HopRest l → TextOf (t ∷ l)
-    by_kind (inl h) = names-text t l e h
-    by_kind (inr h) = hop-text t l e h
+    by_kind k = search (rules, worded, names-text, hop-text, marked, text-of, names-more, names-end, hop-opened, hop-led, then-one, arguments-some, arguments-none, opened-word, opened-end, words-more, words-end, leads-opened, leads-name, hop-more, hops-end)
 prepend start Semicolon t l e ok rest = marked TextOf t l Semicolon e refl (text-of nothing tt (next (rest start refl)))
 prepend first_name Comma t l e ok rest = inl (marked NamesRest t l Comma e refl (names-more (rest comma refl)))
 prepend first_name Declares t l e ok rest = inl (marked NamesRest t l Declares e refl (names-end (rest declares refl)))
@@ -312,11 +302,7 @@ at-end next_name e = record { hops = []; end = []; sound = tt; later = over; are
 at-end p e = absurd (cc)
 
 rest-of : (p : Place) (ts : List Token) → wrong_from p ts ≡ None → Rest p (map bare ts)
-rest-of p [] e = by_test (may_end p) refl
-  where
-    by_test : (b : Bool) → may_end p ≡ b → Rest p []
-    by_test true f = at-end p f
-    by_test false f = let k = rw f at e in absurd (cc)
+rest-of p [] e = search (rules, at-end, prepend)
 rest-of p (t ∷ ts) e = prepend p t.symbol t (map bare ts) refl some (λ q f. later q f (λ k. rest-of q ts k))
   where
     some : after p t.symbol ≢ None

@@ -1,8 +1,8 @@
 -- What texts of one byte, over and over, say.
-use Rattle.std.proofs.Common.{◌≡◌, ◌≤◌, ◌<◌, ◌+◌, ℕ, zero, suc, [], ◌∷◌, length, replicate, map, true, nat_lt, if◌then◌else◌, Some, None, option_map, inr, refl, ap, ◌∙◌, arith}
+use Rattle.std.proofs.Common.{◌≡◌, ◌≤◌, ◌<◌, ◌+◌, ℕ, zero, suc, [], ◌∷◌, length, replicate, map, true, nat_lt, None, option_map, inr, refl, ap, ◌∙◌, arith, rules}
 use Rattle.std.proofs.lemmas.Bool.Decides.{nat_tests}
 use Rattle.std.proofs.lemmas.List.{length-replicate}
-use Rattle.clk_packet.specs.declared.fault.Fault.TheVariants.{BadText, TooLarge, NoDevice}
+use Rattle.clk_packet.specs.declared.fault.Fault.TheVariants.{BadText, NoDevice}
 use Rattle.clk_syntax.specs.Limits.{most_tree_bytes}
 use Rattle.clk_syntax.specs.Tokens.{tokens_from}
 use Rattle.clk_syntax.specs.Diagram.{start, wrong_from}
@@ -17,9 +17,7 @@ less m n l = grind (arith, nat_tests)
 
 -- of any other it is told where a token is wrong
 short : (byte n : ℕ) → n ≤ most_tree_bytes → text_fault (replicate n byte) ≡ option_map BadText (bad_text (replicate n byte))
-short byte n l =
-    ap (λ b. if b then Some TooLarge else option_map BadText (bad_text (replicate n byte)))
-    (ap (nat_lt most_tree_bytes) (length-replicate n byte) ∙ not-less most_tree_bytes n l)
+short byte n l = search (rules, length-replicate, not-less)
 
 -- spaces are no token
 none-shown : (n place : ℕ) → tokens_from place 0 (spaces n) ≡ []

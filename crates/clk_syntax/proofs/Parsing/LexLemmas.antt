@@ -1,18 +1,16 @@
 -- The tokens of a text, one piece after another.
-use Rattle.std.proofs.Common.{◌≡◌, ℕ, zero, suc, ◌+◌, ◌-◌, ◌≤◌, ◌==◌, ◌&&◌, Bool, true, false, List, [], ◌∷◌, ◌++◌, length, take, drop, get_or, Option, Some, None, refl, sym, ap, subst, ◌∙◌, append_assoc, arith}
+use Rattle.std.proofs.Common.{◌≡◌, ℕ, zero, suc, ◌+◌, ◌-◌, ◌≤◌, Bool, true, List, [], ◌∷◌, ◌++◌, length, take, drop, get_or, None, refl, sym, ap, subst, ◌∙◌, append_assoc, arith, rules}
 use Rattle.std.proofs.lemmas.List.{length-drop, drop-drop, take_all}
 use Rattle.clk_packet.proofs.Callers.Lists.{all-append}
 use Rattle.clk_syntax.specs.declared.texts.token.Token.{Token}
 use Rattle.clk_syntax.specs.declared.texts.lexer.Piece.{Piece}
-use Rattle.clk_syntax.specs.declared.texts.lexer.Piece.TheVariants as piece
-use Rattle.clk_syntax.specs.Tokens.{begins_with, comment_end, piece_at, piece_len, shown, tokens_from}
+use Rattle.clk_syntax.specs.Tokens.{comment_end, piece_at, piece_len, shown, tokens_from}
 use Rattle.clk_syntax.specs.Within.{IsWithin, AreWithin}
 use Rattle.clk_syntax.specs.inside.Lex.{LexedTo}
 
 -- the first byte of a text, and the rest
 pub first-rest : (l : List ℕ) (d : ℕ) → 1 ≤ length l → l ≡ get_or l 0 d ∷ take (length l - 1) (drop 1 l)
-first-rest [] d h = absurd (omega arith)
-first-rest (b ∷ l) d h = ap (λ r. b ∷ r) (sym (take_all (length (b ∷ l) - 1) l (omega arith)))
+first-rest l d h = search (rules, take_all)
 
 -- the tokens after the bytes of a piece
 pub tokens-after : (place n : ℕ) (l : List ℕ) → tokens_from place n l ≡ tokens_from (place + n) 0 (drop n l)
@@ -22,12 +20,7 @@ tokens-after place (suc n) (b ∷ l) = tokens-after (place + 1) n l ∙ ap (λ p
 
 -- where no comment ends, none ends later
 none-tail : (b : ℕ) (l : List ℕ) → comment_end (b ∷ l) ≡ None → comment_end l ≡ None
-none-tail b l h = by_test ((b == 42) && begins_with 47 l) (comment_end l) refl refl
-  where
-    by_test : (t : Bool) (o : Option ℕ) → ((b == 42) && begins_with 47 l) ≡ t → comment_end l ≡ o → comment_end l ≡ None
-    by_test t None e f = f
-    by_test true (Some n) e f = let k = rw e at h in absurd (cc)
-    by_test false (Some n) e f = let k = rw (e, f) at h in absurd (cc)
+none-tail b l h = search rules
 
 none-drop : (n : ℕ) (l : List ℕ) → comment_end l ≡ None → comment_end (drop n l) ≡ None
 none-drop zero l h = h
@@ -35,8 +28,7 @@ none-drop (suc n) [] h = refl
 none-drop (suc n) (b ∷ l) h = none-drop n l (none-tail b l h)
 
 shown-within : (end place : ℕ) (p : Piece) → place + piece_len p ≤ end → AreWithin end (shown place p)
-shown-within end place (piece.Gap n) h = tt
-shown-within end place (piece.Token s n) h = (h, tt)
+shown-within end place p h = search rules
 
 -- one piece more
 pub lexed-more : {text left rest after : List ℕ} {old new : List Token} {place byte n : ℕ} {p : Piece} {unclosed still : Bool} → LexedTo text old place left unclosed → left ≡ byte ∷ rest → p ≡ piece_at byte rest → 1 ≤ piece_len p

@@ -1,27 +1,21 @@
 -- What holds of each token of a text, and that those of symbol Number are numbers.
-use Rattle.std.proofs.Common.{◌≡◌, ℕ, ◌+◌, ◌-◌, ◌==◌, ◌&&◌, Bool, true, false, cond, if◌then◌else◌, List, [], ◌∷◌, take, drop, Option, Some, None, suc, zero, refl, sym, ap, ◌∙◌, add_comm, add-one}
+use Rattle.std.proofs.Common.{◌≡◌, ℕ, ◌+◌, ◌-◌, ◌==◌, ◌&&◌, Bool, true, false, cond, if◌then◌else◌, List, [], ◌∷◌, take, drop, Option, Some, None, suc, zero, refl, sym, ap, ◌∙◌, add_comm, add-one, rules}
 use Rattle.std.specs.List.{AllByRecursion, prefix_len, position_or_len}
-use Rattle.std.specs.Str.{all_ascii_digits}
-use Rattle.clk_packet.specs.Numbers.{has_bytes}
 use Rattle.clk_packet.proofs.Callers.Lists.{all-append}
 use Rattle.clk_syntax.specs.declared.texts.token.Symbol.{Symbol}
-use Rattle.clk_syntax.specs.declared.texts.token.Symbol.TheVariants.{Name, Number, OtherWord, Declares, LeadsTo, OpenPort, ClosePort, OpenArguments, CloseArguments, Comma, Semicolon, Nothing}
+use Rattle.clk_syntax.specs.declared.texts.token.Symbol.TheVariants.{Declares, LeadsTo, Nothing}
 use Rattle.clk_syntax.specs.declared.texts.token.Token.{Token}
 use Rattle.clk_syntax.specs.declared.texts.lexer.Piece.{Piece}
 use Rattle.clk_syntax.specs.declared.texts.lexer.Piece.TheVariants as piece
 use Rattle.clk_syntax.specs.Grammar.{is_word}
-use Rattle.clk_syntax.specs.Tokens.{is_blank, is_digit, is_word_byte, begins_with, comment, comment_end, word, word_symbol, mark_of, tokens_from, tokens_of, shown, piece_at, piece_len}
+use Rattle.clk_syntax.specs.Tokens.{is_blank, is_word_byte, begins_with, comment, comment_end, word, word_symbol, mark_of, tokens_from, tokens_of, shown, piece_at, piece_len}
 use Rattle.clk_syntax.proofs.Parsing.StatementLemmas.{HasDigits}
 
 other : (b : Bool) (s t : Symbol) → is_word s ≡ false → is_word t ≡ false → is_word (if b then s else t) ≡ false
-other true s t g h = g
-other false s t g h = h
+other b s t g h = search rules
 
 mark-other : (byte : ℕ) → is_word (mark_of byte) ≡ false
-mark-other byte =
-    other (byte == 91) OpenPort _ refl
-    (other (byte == 93) ClosePort _ refl
-    (other (byte == 40) OpenArguments _ refl (other (byte == 41) CloseArguments _ refl (other (byte == 44) Comma _ refl (other (byte == 59) Semicolon Nothing refl refl)))))
+mark-other byte = search (rules, other)
 
 drop-tail : (place : ℕ) (text : List ℕ) (byte : ℕ) (rest : List ℕ) → drop place text ≡ byte ∷ rest → drop (suc place) text ≡ rest
 drop-tail zero [] byte rest e = absurd (cc)
@@ -92,20 +86,8 @@ pub word-long : (byte : ℕ) (rest : List ℕ) → is_word_byte byte ≡ true �
 word-long byte rest e = ap (λ b. cond b (1 + prefix_len is_word_byte rest) 0) e ∙ add_comm 1 (prefix_len is_word_byte rest) ∙ add-one (prefix_len is_word_byte rest)
 
 -- each token of symbol Number is a number
-word-digits : (first : ℕ) (letters : List ℕ) → word_symbol first letters ≡ Number → all_ascii_digits letters ≡ true
-word-digits first letters e = by_test (is_digit first) (all_ascii_digits letters) e
-  where
-    by_test : (digit all : Bool) → (if digit then (if all then Number else OtherWord) else Name) ≡ Number → all ≡ true
-    by_test true true e = refl
-    by_test true false e = absurd (cc)
-    by_test false all e = absurd (cc)
-
 number-at : (text : List ℕ) (place byte : ℕ) (rest : List ℕ) → drop place text ≡ byte ∷ rest → is_word_byte byte ≡ true → HasDigits text (word_token place byte rest)
-number-at text place byte rest at e number =
-    let n = prefix_len is_word_byte (byte ∷ rest) in (
-      ap (λ l. all_ascii_digits (take n l)) at ∙ word-digits byte (take n (byte ∷ rest)) number,
-      ap (λ l. has_bytes (take n l)) at ∙ ap (λ k. has_bytes (take k (byte ∷ rest))) (word-long byte rest e),
-    )
+number-at text place byte rest at e number = search (rules, word-long)
 
 pub tokens-digits : (text : List ℕ) → AllByRecursion (HasDigits text) (tokens_of text)
 tokens-digits text =

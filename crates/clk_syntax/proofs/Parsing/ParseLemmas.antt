@@ -1,11 +1,11 @@
 -- How what the parser reads goes together.
-use Rattle.std.proofs.Common.{true, false, length, arith, ◌≡◌, List, [], ◌∷◌, ◌++◌, map, Option, Some, None, refl, sym, ap, ◌∙◌, append_assoc}
+use Rattle.std.proofs.Common.{true, false, length, arith, ◌≡◌, List, [], ◌∷◌, ◌++◌, map, Option, Some, refl, sym, ap, ◌∙◌, append_assoc, rules}
 use Rattle.std.proofs.lemmas.List.{append-nil, map-append}
 use Rattle.std.specs.List.{flat_map, AllByRecursion}
 use Rattle.std.proofs.lemmas.List.Concat.{flat_map-append}
 use Rattle.clk_packet.proofs.Callers.Lists.{all-append}
 use Rattle.clk_syntax.specs.declared.texts.token.Symbol.{Symbol}
-use Rattle.clk_syntax.specs.declared.texts.token.Symbol.TheVariants.{Name, LeadsTo, OpenPort, OpenArguments, CloseArguments, Semicolon}
+use Rattle.clk_syntax.specs.declared.texts.token.Symbol.TheVariants.{Name, LeadsTo, OpenArguments, CloseArguments, Semicolon}
 use Rattle.clk_syntax.specs.declared.texts.token.Token.{Token}
 use Rattle.clk_syntax.specs.declared.texts.statements.Connection.{Connection}
 use Rattle.clk_syntax.specs.declared.texts.statements.Declaration.{Declaration}
@@ -13,15 +13,11 @@ use Rattle.clk_syntax.specs.declared.texts.statements.Statements.{Statements}
 use Rattle.clk_syntax.specs.Diagram.{Place, start, first_name, further_name, opened, closed, next_name, after, wrong_from}
 use Rattle.clk_syntax.specs.Grammar.{Hop, nothing, declaration, chain, mark, is_word, bare, listed, written_port, written_hop, IsName, IsWord}
 use Rattle.clk_syntax.specs.Source.{Declared, kept, hops_from}
-use Rattle.clk_syntax.specs.inside.Parse.{begins_hop, goes_on, IsPast, Reads, ArgumentsRead, DeclarationRead, HopRead, HopsRead, StatementRead, EndRead, at_end, at_mark, EndedRead, last_name}
+use Rattle.clk_syntax.specs.inside.Parse.{goes_on, IsPast, Reads, ArgumentsRead, DeclarationRead, HopRead, HopsRead, StatementRead, EndRead, at_end, at_mark, EndedRead, last_name}
 
 -- one after another
 pub reads-then : {p q r : Place} {ts xs us ys vs : List Token} → Reads p ts xs q us → Reads q us ys r vs → Reads p ts (xs ++ ys) r vs
-reads-then {xs = xs} {ys = ys} {vs = vs} a b =
-    record {
-      written = a.written ∙ ap (λ l. xs ++ l) b.written ∙ sym (append_assoc xs ys (map bare vs));
-      stands = a.stands ∙ b.stands;
-    }
+reads-then {xs = xs} {ys = ys} {vs = vs} a b = search (rules, append_assoc)
 
 -- the same tokens, written in another way
 pub reads-as : {p q : Place} {ts xs ys us : List Token} → xs ≡ ys → Reads p ts xs q us → Reads p ts ys q us
@@ -29,10 +25,7 @@ reads-as {us = us} e a = record { written = a.written ∙ ap (λ l. l ++ map bar
 
 -- a hop, by its parts
 pub hop-written : (o i : Option Token) (name : Token) → (written_port o ++ mark LeadsTo ∷ []) ++ (written_port i ++ name ∷ []) ≡ written_hop (record { output = o; input = i; name = name })
-hop-written None None name = refl
-hop-written None (Some i) name = refl
-hop-written (Some o) None name = refl
-hop-written (Some o) (Some i) name = refl
+hop-written o i name = search rules
 
 hops-connect : (first : Token) (hops : List Hop) (h : Hop) → hops_from first (hops ++ h ∷ []) ≡ hops_from first hops ++ record { from = last_name first hops; output = h.output; input = h.input; to = h.name } ∷ []
 hops-connect first [] h = refl
@@ -65,27 +58,13 @@ hops-more {first} {from} {old = old} x e h = (
 pub bare-word : (t : Token) → is_word t.symbol ≡ true → bare t ≡ t
 bare-word t e = rw e refl
 
-bare-mark : (t : Token) (s : Symbol) → t.symbol ≡ s → is_word s ≡ false → bare t ≡ mark s
-bare-mark t s e none = rw (ap is_word e ∙ none) (ap mark e)
-
-stands-one : (p : Place) {q : Place} (t : Token) (rest : List Token) → after p t.symbol ≡ Some q → wrong_from p (t ∷ rest) ≡ wrong_from q rest
-stands-one p t rest e = rw e refl
-
 -- a mark
 pub reads-mark : {p q : Place} {ts rest : List Token} (t : Token) (s : Symbol) → ts ≡ t ∷ rest → t.symbol ≡ s → is_word s ≡ false → after p s ≡ Some q → Reads p ts (mark s ∷ []) q rest
-reads-mark {p} {rest = rest} t s are e none next =
-    record {
-      written = ap (map bare) are ∙ ap (λ b. b ∷ map bare rest) (bare-mark t s e none);
-      stands = ap (wrong_from p) are ∙ stands-one p t rest (ap (after p) e ∙ next);
-    }
+reads-mark {rest = rest} t s are e none next = search rules
 
 -- a name
 pub reads-name : {p q : Place} {ts rest : List Token} (t : Token) → ts ≡ t ∷ rest → IsName t → after p Name ≡ Some q → Reads p ts (t ∷ []) q rest
-reads-name {p} {rest = rest} t are e next =
-    record {
-      written = ap (map bare) are ∙ ap (λ b. b ∷ map bare rest) (bare-word t (ap is_word e));
-      stands = ap (wrong_from p) are ∙ stands-one p t rest (ap (after p) e ∙ next);
-    }
+reads-name {rest = rest} t are e next = search (rules, bare-word)
 
 pub arguments-read : {ts us vs ws : List Token} → IsPast OpenArguments ts us → AllByRecursion IsWord ws → Reads opened us (listed ws ++ mark CloseArguments ∷ []) closed vs → ArgumentsRead ts ws vs
 arguments-read {ws = ws} past words reads =
@@ -113,30 +92,14 @@ ended-none {ts} {us} {old} past =
     }
   where
     same : (t : Token) → ts ≡ t ∷ us → t.symbol ≡ Semicolon → wrong_from start ts ≡ wrong_from closed ts
-    same t are e =
-        ap (wrong_from start) are ∙ stands-one start t us (ap (after start) e) ∙ sym (stands-one closed t us (ap (after closed) e)) ∙ ap (wrong_from closed) (sym are)
+    same t are e = search (rules, append-nil, end-mark)
 
 -- what follows the first name of a chain, and of a declaration
 first-hop : (ts : List Token) → goes_on ts ≡ true → wrong_from first_name ts ≡ wrong_from next_name ts
-first-hop [] e = absurd (cc)
-first-hop (t ∷ ts) e = by_symbol t.symbol refl e
-  where
-    by_symbol : (s : Symbol) → t.symbol ≡ s → begins_hop s ≡ true → wrong_from first_name (t ∷ ts) ≡ wrong_from next_name (t ∷ ts)
-    by_symbol LeadsTo e h = stands-one first_name t ts (ap (after first_name) e) ∙ sym (stands-one next_name t ts (ap (after next_name) e))
-    by_symbol OpenPort e h = stands-one first_name t ts (ap (after first_name) e) ∙ sym (stands-one next_name t ts (ap (after next_name) e))
-    by_symbol s e h = absurd (cc)
+first-hop ts e = search rules
 
 first-other : (ts : List Token) → goes_on ts ≡ false → wrong_from first_name ts ≡ wrong_from further_name ts
-first-other [] e = refl
-first-other (t ∷ ts) e = rw same refl
-  where
-    by_symbol : (s : Symbol) → begins_hop s ≡ false → after first_name s ≡ after further_name s
-    by_symbol LeadsTo h = absurd (cc)
-    by_symbol OpenPort h = absurd (cc)
-    by_symbol s h = refl
-
-    same : after first_name t.symbol ≡ after further_name t.symbol
-    same = by_symbol t.symbol e
+first-other ts e = search rules
 
 -- a chain
 pub chain-read : {first to : Token} {ts us vs : List Token} {old new : Statements} (mid : List Connection) → IsName first → goes_on ts ≡ true → HopRead first ts old.connections.items mid to us

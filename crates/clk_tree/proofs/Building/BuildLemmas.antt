@@ -1,7 +1,8 @@
 -- Elements of a plan, one after another.
-use Rattle.std.proofs.Common.{◌≡◌, ◌≤◌, ◌<◌, ◌+◌, ℕ, suc, List, [], ◌∷◌, ◌++◌, length, map, drop, get_or, Some, None, option_map, ◌^◌, refl, sym, ap, ap₂, subst, ◌∙◌, append_assoc, length-append, add-one, drop-cons, arith}
+use Rattle.std.proofs.lemmas.Grind.{common_steps}
+use Rattle.std.proofs.Common.{◌≡◌, ◌≤◌, ◌<◌, ◌+◌, ℕ, suc, List, [], ◌∷◌, ◌++◌, length, map, drop, get_or, Some, None, ◌^◌, refl, sym, ap, ap₂, subst, ◌∙◌, append_assoc, length-append, add-one, drop-cons, arith, rules}
 use Rattle.std.proofs.lemmas.List.{map-append, length-map, length-drop}
-use Rattle.std.specs.List.{AllByRecursion, filter_map, cons_option}
+use Rattle.std.specs.List.{AllByRecursion, filter_map}
 use Rattle.clk_syntax.specs.declared.naming.class.Class as declared
 use Rattle.clk_syntax.specs.declared.texts.statements.Declaration.{Declaration}
 use Rattle.clk_syntax.specs.declared.checks.tables.Graph.{Graph}
@@ -23,8 +24,7 @@ planned_in graph place ks = planned_from (length graph.nodes.now) graph.links.no
 
 planned-append : (graph : Graph) (place : ℕ) (xs ys : List Known) → planned_in graph place (xs ++ ys) ≡ planned_in graph place xs ++ planned_in graph (place + length xs) ys
 planned-append graph place [] ys = ap (λ p. planned_in graph p ys) (omega arith)
-planned-append graph place (x ∷ xs) ys =
-    ap (λ ps. planned_at (length graph.nodes.now) graph.links.now place x ∷ ps) (planned-append graph (place + 1) xs ys ∙ ap (λ p. planned_in graph (place + 1) xs ++ planned_in graph p ys) (omega arith))
+planned-append graph place (x ∷ xs) ys = search (rules, (planned-append graph (place + 1) xs ys))
 
 -- What is known of the elements so far when these names of all are left.
 pub record AreAdded (graph : Graph) (text : List ℕ) (class : Class) (all rest : List Token) (before now : List plan.Element) : Type 0 where
@@ -34,21 +34,13 @@ pub record AreAdded (graph : Graph) (text : List ℕ) (class : Class) (all rest 
 
 added : (graph : Graph) (text : List ℕ) (class : Class) (all rest : List Token) (name : Token) (before now new : List plan.Element) (e : plan.Element) → AreAdded graph text class all (name ∷ rest) before now
     → new ≡ now ++ e ∷ [] → planned e ≡ planned_at (length graph.nodes.now) graph.links.now (length now) (known_as (letters text name) class) → AreAdded graph text class all rest before new
-added graph text class all rest name before now new e h is made = record {
-  is = ap (λ es. map planned es ++ planned_in graph (length es) (names_as text class rest)) is
-      ∙ ap₂ (λ ps n. ps ++ planned_in graph n (names_as text class rest)) (map-append planned now (e ∷ [])) (length-append now (e ∷ []))
-      ∙ append_assoc (map planned now) (planned e ∷ []) (planned_in graph (length now + 1) (names_as text class rest))
-      ∙ ap (λ p. map planned now ++ p ∷ planned_in graph (length now + 1) (names_as text class rest)) made ∙ h.is;
-  count = let n = ap length is ∙ length-append now (e ∷ []) in let m = h.count in omega (arith, n, m);
-  within = h.within.1;
-}
+added graph text class all rest name before now new e h is made = search (rules, map-append, length-append, append_assoc)
 
 -- one more name
 pub added-more : (graph : Graph) (text : List ℕ) (class : Class) (all : List Token) (k : ℕ) (d : Token) (before now new : List plan.Element) (e : plan.Element)
     → AreAdded graph text class all (drop k all) before now → k < length all → new ≡ now ++ e ∷ []
     → planned e ≡ planned_at (length graph.nodes.now) graph.links.now (length now) (known_as (letters text (get_or all k d)) class) → AreAdded graph text class all (drop (k + 1) all) before new
-added-more graph text class all k d before now new e h l is made =
-    rw (add-one k) (added graph text class all (drop (suc k) all) (get_or all k d) before now new e (rw (drop-cons all k d l) at h) is made)
+added-more graph text class all k d before now new e h l is made = search (rules, common_steps, add-one, added, drop-cons)
 
 -- all names are added
 pub record AreAll (graph : Graph) (text : List ℕ) (class : Class) (all : List Token) (before now : List plan.Element) : Type 0 where
@@ -59,9 +51,7 @@ pub record AreAll (graph : Graph) (text : List ℕ) (class : Class) (all : List 
 known-together : (text : List ℕ) (d : Declared) (class : Class) (names : List Token) (more : List Element) → class_in text d ≡ Some class
     → filter_map known (map (element text d.class d.arguments) names ++ more) ≡ names_as text class names ++ filter_map known more
 known-together text d class [] more is = refl
-known-together text d class (name ∷ names) more is =
-    ap (λ o. cons_option (option_map (λ c. record { name = letters text name; class = c }) o) (filter_map known (map (element text d.class d.arguments) names ++ more))) is
-    ∙ ap (λ ks. known_as (letters text name) class ∷ ks) (known-together text d class names more is)
+known-together text d class (name ∷ names) more is = search (rules, (known-together text d class names more is))
 
 -- What is known of the elements so far when these declarations of all are left, with their classes.
 pub record AreBuilt (graph : Graph) (text : List ℕ) (all rest : List Declared) (classes : List declared.Class) (now : List plan.Element) : Type 0 where

@@ -1,5 +1,5 @@
 -- The queue to which an element is connected, and the place of a sender by its number, step by step.
-use Rattle.std.proofs.Common.{◌≡◌, ℕ, ◌+◌, ◌<◌, ◌==◌, ◌||◌, Bool, true, false, if◌then◌else◌, List, [], ◌∷◌, length, map, get_or, drop, nat_lt, nat_le, refl, sym, ap, ◌∙◌, add-one, add-zero, add_comm, arith, cond}
+use Rattle.std.proofs.Common.{◌≡◌, ℕ, ◌+◌, ◌<◌, ◌==◌, Bool, true, false, if◌then◌else◌, List, [], ◌∷◌, length, map, get_or, drop, nat_lt, nat_le, refl, ap, add-one, add-zero, cond, rules}
 use Rattle.std.specs.List.{insert, prefix_len, list_any}
 use Rattle.std.proofs.lemmas.Bool.{leb-true, leb-false, le-ltb, lt-ltb}
 use Rattle.clk_packet.specs.Lists.{stands_in}
@@ -16,46 +16,28 @@ pub left-cons : (elements : List Element) (k : ℕ) (x : Element) → k < length
 left-cons elements k x within is = ap (map planned) (drop-item elements k x within is)
 
 pub any-stands : (place : ℕ) (ps : List ℕ) → list_any (λ p. p == place) ps ≡ stands_in place ps
-any-stands place [] = refl
-any-stands place (p ∷ ps) = ap (λ b. (p == place) || b) (any-stands place ps)
+any-stands place ps = search rules
 
 -- the queue to which an element is connected, where the queues begin with one that it is connected to or with another element
-pub fed-here : (e : Planned) (more : List Planned) (place : ℕ) → is_queue e.class ≡ true → stands_in place e.sources ≡ true → queue_fed (e ∷ more) place ≡ 0
-fed-here e more place queue stands =
-    ap (λ b. if b then (if stands_in place e.sources then 0 else queue_fed more place + 1) else queue_fed more place) queue ∙ ap (λ b. if b then 0 else queue_fed more place + 1) stands
-
 fed-later : (e : Planned) (more : List Planned) (place : ℕ) → is_queue e.class ≡ true → stands_in place e.sources ≡ false → queue_fed (e ∷ more) place ≡ queue_fed more place + 1
-fed-later e more place queue stands =
-    ap (λ b. if b then (if stands_in place e.sources then 0 else queue_fed more place + 1) else queue_fed more place) queue ∙ ap (λ b. if b then 0 else queue_fed more place + 1) stands
-
-fed-past : (e : Planned) (more : List Planned) (place : ℕ) → is_queue e.class ≡ false → queue_fed (e ∷ more) place ≡ queue_fed more place
-fed-past e more place other = ap (λ b. if b then (if stands_in place e.sources then 0 else queue_fed more place + 1) else queue_fed more place) other
+fed-later e more place queue stands = search rules
 
 -- The queues so far and those in what is left before the one that is fed: it is the first that is left, another is, or no queue.
 pub queue-found : (elements : List Element) (place k queue : ℕ) (x : Element) (sources : List ℕ) → k < length elements → x ≡ get_or elements k x → is_queue (planned x).class ≡ true
     → sources ≡ x.sources.items → list_any (λ p. p == place) sources ≡ true
     → queue + queue_fed (map planned (drop k elements)) place ≡ queue_fed (map planned elements) place → queue ≡ queue_fed (map planned elements) place
-queue-found elements place k queue x sources within is fed of stands all =
-    sym (add-zero queue)
-    ∙ ap (λ n. queue + n) (sym (ap (λ ps. queue_fed ps place) (left-cons elements k x within is)
-    ∙ fed-here (planned x) (map planned (drop (k + 1) elements)) place fed (sym (ap (stands_in place) of) ∙ sym (any-stands place sources) ∙ stands)))
-    ∙ all
+queue-found elements place k queue x sources within is fed of stands all = search (rules, add-zero, left-cons, any-stands)
 
 pub queue-passed : (elements : List Element) (place k queue : ℕ) (x : Element) (sources : List ℕ) → k < length elements → x ≡ get_or elements k x → is_queue (planned x).class ≡ true
     → sources ≡ x.sources.items → list_any (λ p. p == place) sources ≡ false
     → queue + queue_fed (map planned (drop k elements)) place ≡ queue_fed (map planned elements) place
     → queue + 1 + queue_fed (map planned (drop (k + 1) elements)) place ≡ queue_fed (map planned elements) place
-queue-passed elements place k queue x sources within is fed of stands all =
-    let one : queue_fed (map planned (drop k elements)) place ≡ queue_fed (map planned (drop (k + 1) elements)) place + 1 =
-    ap (λ ps. queue_fed ps place) (left-cons elements k x within is)
-    ∙ fed-later (planned x) (map planned (drop (k + 1) elements)) place fed (sym (ap (stands_in place) of) ∙ sym (any-stands place sources) ∙ stands) in
-    omega arith
+queue-passed elements place k queue x sources within is fed of stands all = search (rules, left-cons, fed-later, any-stands)
 
 pub other-passed : (elements : List Element) (place k queue : ℕ) (x : Element) → k < length elements → x ≡ get_or elements k x → is_queue (planned x).class ≡ false
     → queue + queue_fed (map planned (drop k elements)) place ≡ queue_fed (map planned elements) place
     → queue + queue_fed (map planned (drop (k + 1) elements)) place ≡ queue_fed (map planned elements) place
-other-passed elements place k queue x within is other all =
-    ap (λ n. queue + n) (sym (ap (λ ps. queue_fed ps place) (left-cons elements k x within is) ∙ fed-past (planned x) (map planned (drop (k + 1) elements)) place other)) ∙ all
+other-passed elements place k queue x within is other all = search (rules, left-cons)
 
 -- a sender goes after those of no greater number
 pub insert-placed : (s : SenderSpec) (senders : List SenderSpec) → insert senders (prefix_len (λ (t : SenderSpec). nat_le t.number s.number) senders) s ≡ placed s senders
@@ -64,7 +46,4 @@ insert-placed s (t ∷ more) = by_test (nat_le t.number s.number) refl (insert-p
   where
     by_test : (b : Bool) → nat_le t.number s.number ≡ b → insert more (prefix_len (λ (r : SenderSpec). nat_le r.number s.number) more) s ≡ placed s more
         → insert (t ∷ more) (cond b (1 + prefix_len (λ (r : SenderSpec). nat_le r.number s.number) more) 0) s ≡ (if nat_lt s.number t.number then s ∷ t ∷ more else t ∷ placed s more)
-    by_test true low later =
-        ap (λ n. insert (t ∷ more) n s) (add_comm 1 (prefix_len (λ (r : SenderSpec). nat_le r.number s.number) more) ∙ add-one (prefix_len (λ (r : SenderSpec). nat_le r.number s.number) more))
-        ∙ ap (λ ts. t ∷ ts) later ∙ sym (ap (λ b. if b then s ∷ t ∷ more else t ∷ placed s more) (le-ltb s.number t.number (leb-true t.number s.number low)))
-    by_test false high later = sym (ap (λ b. if b then s ∷ t ∷ more else t ∷ placed s more) (lt-ltb s.number t.number (leb-false t.number s.number high)))
+    by_test b low later = search (rules, add-one, le-ltb, leb-true, lt-ltb, leb-false)

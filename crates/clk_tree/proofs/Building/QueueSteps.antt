@@ -1,11 +1,11 @@
 -- The queues of a plan, element by element.
-use Rattle.std.proofs.Common.{◌≡◌, ℕ, ◌+◌, ◌<◌, ◌≤◌, zero, suc, Bool, true, false, if◌then◌else◌, List, [], ◌∷◌, ◌++◌, length, map, take, drop, get_or, Option, Some, None, refl, sym, ap, ap₂, ◌∙◌, append_assoc, add-one, arith}
+use Rattle.std.proofs.Common.{◌≡◌, ℕ, ◌+◌, ◌<◌, ◌≤◌, zero, suc, false, if◌then◌else◌, List, [], ◌∷◌, ◌++◌, length, map, take, drop, get_or, Option, Some, None, refl, sym, ap, ap₂, ◌∙◌, append_assoc, add-one, arith, rules}
 use Rattle.std.specs.List.{cons_option}
 use Rattle.std.proofs.lemmas.List.{drop_more, map-append}
 use Rattle.clk_packet.specs.declared.packet.Kind.{Kind}
 use Rattle.clk_syntax.specs.declared.naming.class.Class as declared
 use Rattle.clk_syntax.specs.declared.naming.class.Class.TheVariants as kept
-use Rattle.clk_syntax.specs.Classes.{Class, queue, class_view}
+use Rattle.clk_syntax.specs.Classes.{Class, class_view}
 use Rattle.clk_tree.specs.declared.plan.element.Element.{Element}
 use Rattle.clk_tree.specs.declared.plan.parts.QueueSpec.{QueueSpec}
 use Rattle.clk_tree.specs.declared.plan.parts.SenderSpec.{SenderSpec}
@@ -20,30 +20,18 @@ count-more : (elements : List Element) (k : ℕ) (d : Element) → k < length el
     ≡ (if is_queue (class_view (get_or elements k d).class) then queue_count (take k (map planned elements)) + 1 else queue_count (take k (map planned elements)))
 count-more [] k d within = absurd (omega arith)
 count-more (x ∷ elements) zero d within = refl
-count-more (x ∷ elements) (suc k) d within =
-    by_test (is_queue (class_view x.class)) (is_queue (class_view (get_or elements k d).class)) (queue_count (take (suc k) (map planned elements))) (queue_count (take k (map planned elements)))
-    (count-more elements k d (omega arith))
-  where
-    by_test : (a b : Bool) (m n : ℕ) → m ≡ (if b then n + 1 else n) → (if a then m + 1 else m) ≡ (if b then (if a then n + 1 else n) + 1 else (if a then n + 1 else n))
-    by_test true true m n e = ap (λ k. k + 1) e
-    by_test true false m n e = ap (λ k. k + 1) e
-    by_test false true m n e = e
-    by_test false false m n e = e
+count-more (x ∷ elements) (suc k) d within = search (rules, (count-more elements k d (omega arith)))
 
 no-queue : (class : declared.Class) → ((kind : Kind) (capacity : ℕ) → class ≡ kept.Queue kind capacity → ⊥) → is_queue (class_view class) ≡ false
-no-queue (kept.Queue kind capacity) other = absurd (other kind capacity refl)
-no-queue class other = refl
+no-queue class other = search rules
 
 no-spec : (plan : List Planned) (k : ℕ) (class : Class) → is_queue class ≡ false → queue_of plan k class ≡ None
-no-spec plan k (queue kind capacity) other = absurd (cc)
-no-spec plan k class other = refl
+no-spec plan k class other = search rules
 
 -- the queues in what is left begin with that of the next element
 next-queues : (elements : List Element) (k : ℕ) (d : Element) (o : Option Queued) → k < length elements → queue_of (map planned elements) k (class_view (get_or elements k d).class) ≡ o
     → queues_from (map planned elements) k (map planned (drop k elements)) ≡ cons_option o (queues_from (map planned elements) (k + 1) (map planned (drop (k + 1) elements)))
-next-queues elements k d o within is =
-    ap (λ xs. queues_from (map planned elements) k (map planned xs)) (drop_more elements k d within)
-    ∙ ap (λ p. cons_option p (queues_from (map planned elements) (k + 1) (map planned (drop (k + 1) elements)))) is
+next-queues elements k d o within is = search (rules, drop_more)
 
 -- The queues so far, with those in what is left, and how many there are: after a queue, and after another element.
 pub record AreQueues (elements : List Element) (k number : ℕ) (queues : List QueueSpec) : Type 0 where

@@ -1,5 +1,5 @@
 -- Ranges of places, as the connections of an element are gone over.
-use Rattle.std.proofs.Common.{◌≡◌, ◌<◌, ◌+◌, ◌-◌, ℕ, zero, suc, List, [], ◌∷◌, ◌++◌, map, Bool, true, false, if◌then◌else◌, filter, append_assoc, sym, ap, ◌∙◌, add-one, add-zero, zero-add, arith}
+use Rattle.std.proofs.Common.{◌≡◌, ◌<◌, ◌+◌, ◌-◌, ℕ, zero, suc, List, [], ◌∷◌, ◌++◌, map, Bool, true, false, if◌then◌else◌, filter, append_assoc, sym, ap, ◌∙◌, add-one, add-zero, zero-add, arith, rules}
 use Rattle.std.specs.List.{range_with_len}
 
 range-more : (f : ℕ → ℕ) (a n : ℕ) → map f (range_with_len a (suc n)) ≡ map f (range_with_len a n) ++ f (a + n) ∷ []
@@ -12,10 +12,7 @@ map-range-more f n = rw (add-one n) (range-more f 0 n ∙ ap (λ k. map f (range
 
 -- what is left of a range begins with the next number
 pub range-next : (a n : ℕ) → a < n → range_with_len a (n - a) ≡ a ∷ range_with_len (a + 1) (n - (a + 1))
-range-next a n l = ap (range_with_len a) (length-left a n l)
-  where
-    length-left : (a n : ℕ) → a < n → n - a ≡ suc (n - (a + 1))
-    length-left a n l = omega (arith, l)
+range-next a n l = search rules
 
 abbrev rest-of : (f : ℕ → Bool) (a n : ℕ) → List ℕ
 rest-of f a n = filter f (range_with_len (a + 1) (n - (a + 1)))

@@ -1,17 +1,15 @@
 -- The decimal digits of a number are read as that number, within a range.
-use Rattle.std.proofs.Common.{◌≡◌, ℕ, ◌<◌, ◌≤◌, ◌^◌, ◌&&◌, nat_le, true, if◌then◌else◌, List, [], ◌∷◌, length, Some, None, refl, ◌∙◌, arith}
+use Rattle.std.proofs.Common.{◌≡◌, ℕ, ◌<◌, ◌≤◌, ◌^◌, ◌&&◌, nat_le, true, if◌then◌else◌, List, length, Some, None, refl, rules}
 use Rattle.std.specs.Fmt.{decimal}
 use Rattle.std.specs.Str.{all_ascii_digits}
 use Rattle.std.specs.Str.Parse.{digits_value}
-use Rattle.std.proofs.lemmas.Bool.Decides.{nat_tests}
 use Rattle.std.proofs.lemmas.Fmt.{decimal_nonempty, decimal_is_IsNumeral, digits_decimal}
 use Rattle.std.proofs.lemmas.Str.Parse.{numerals_by_value, tells_all_ascii_digits}
 use Rattle.clk_packet.specs.Numbers.{has_bytes, number_in}
 use Rattle.clk_packet.proofs.Callers.Numbers.{AreDigits}
 
 some-bytes : (bytes : List ℕ) → 0 < length bytes → has_bytes bytes ≡ true
-some-bytes [] some = absurd (omega arith)
-some-bytes (byte ∷ bytes) some = refl
+some-bytes bytes some = search rules
 
 pub decimal-digits : (n : ℕ) → n < 2 ^ 64 → AreDigits (decimal n)
 decimal-digits n below = record {
@@ -27,7 +25,4 @@ number-read least most n below =
     rw (are.all, are.some, value) refl
 
 pub number-again : (least most n : ℕ) → most < 2 ^ 64 → least ≤ n → n ≤ most → number_in least most (decimal n) ≡ Some n
-number-again least most n small low high =
-    let above : nat_le least n ≡ true = grind (arith, nat_tests) in
-    let under : nat_le n most ≡ true = grind (arith, nat_tests) in
-    number-read least most n (omega arith) ∙ rw (above, under) refl
+number-again least most n small low high = search (rules, number-read)

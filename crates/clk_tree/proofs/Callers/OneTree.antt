@@ -1,28 +1,18 @@
 -- A plan has one tree for each device.
-use Rattle.std.proofs.Common.{◌≡◌, ℕ, List, [], ◌∷◌, length, suc, if◌then◌else◌, Option, Some, None, slice_get, refl, sym, ap, ap₂, ◌∙◌, arith}
+use Rattle.std.proofs.Common.{◌≡◌, ℕ, List, [], ◌∷◌, length, suc, Option, Some, slice_get, refl, sym, ap₂, ◌∙◌, arith, rules}
 use Rattle.clk_packet.specs.Scheduler.{Scheduler}
-use Rattle.clk_sched.specs.Tree as sched
 use Rattle.clk_sched.specs.Tree.{Row, end, leaf, node, Tree, root}
-use Rattle.clk_syntax.specs.Classes.{Class, sender, queue, scheduler, device}
 use Rattle.clk_tree.specs.Plan.{Planned}
-use Rattle.clk_tree.specs.PlanTree.{is_queue, number_if, scheduler_over, sources_at, sources_of_device, IsNode, IsRowOf, IsTreeOf}
+use Rattle.clk_tree.specs.PlanTree.{number_if, sources_at, sources_of_device, IsNode, IsRowOf, IsTreeOf}
 use Rattle.clk_tree.specs.Shares.{AreTreesOf}
 
 -- a queue is no scheduler
-no-scheduler : (n q inputs : ℕ) (over : Scheduler) (class : Class) → (if is_queue class then Some n else None) ≡ Some q → scheduler_over class inputs ≡ Some over → ⊥
-no-scheduler n q inputs over (sender m) is over_inputs = absurd (cc)
-no-scheduler n q inputs over (queue kind capacity) is over_inputs = absurd (cc)
-no-scheduler n q inputs over (scheduler s) is over_inputs = absurd (cc)
-no-scheduler n q inputs over (device word) is over_inputs = absurd (cc)
-
 not-both : (n q : ℕ) (over : Scheduler) (o : Option Planned) → number_if n o ≡ Some q → IsNode over o → ⊥
-not-both n q over None is over_inputs = over_inputs
-not-both n q over (Some e) is over_inputs = no-scheduler n q (length e.sources) over e.class is over_inputs
+not-both n q over o is over_inputs = search rules
 
 -- an element is a scheduler of one class
 one-class : (a b : Scheduler) (o : Option Planned) → IsNode a o → IsNode b o → a ≡ b
-one-class a b None x y = absurd x
-one-class a b (Some e) x y = let same : Some a ≡ Some b = sym x ∙ y in cc
+one-class a b o x y = search rules
 
 -- at the same inputs stands the same row
 one-row : (plan : List Planned) (sources : List ℕ) (a b : Row) → IsRowOf plan sources a → IsRowOf plan sources b → a ≡ b
@@ -33,10 +23,7 @@ one-row plan [] (leaf p a) b x y = absurd x
 one-row plan [] (node class inputs a) b x y = absurd x
 one-row plan (s ∷ more) end b x y = absurd x
 one-row plan (s ∷ more) (leaf p a) end x y = absurd y
-one-row plan (s ∷ more) (leaf p a) (leaf q b) x y =
-    let same : Some p ≡ Some q = sym x.0 ∙ y.0 in
-    let number : p ≡ q = cc in
-    ap₂ leaf number (one-row plan more a b x.1 y.1)
+one-row plan (s ∷ more) (leaf p a) (leaf q b) x y = search (rules, not-both, one-class, (one-row plan more a b x.1 y.1))
 one-row plan (s ∷ more) (leaf p a) (node class inputs b) x y = absurd (not-both _ p class (slice_get plan s) x.0 y.0)
 one-row plan (s ∷ more) (node class inputs a) end x y = absurd y
 one-row plan (s ∷ more) (node class inputs a) (leaf q b) x y = absurd (not-both _ q class (slice_get plan s) y.0 x.0)
@@ -47,13 +34,7 @@ one-row plan (s ∷ more) (node class inputs a) (node other lower b) x y =
     cc
 
 one-root : (t u : Tree) → root t ≡ root u → t ≡ u
-one-root (sched.queue p) (sched.queue q) e = let same : p ≡ q = cc in ap sched.queue same
-one-root (sched.queue p) (sched.scheduler class inputs) e = absurd (cc)
-one-root (sched.scheduler class inputs) (sched.queue q) e = absurd (cc)
-one-root (sched.scheduler class inputs) (sched.scheduler other lower) e =
-    let same : class ≡ other = cc in
-    let below : inputs ≡ lower = cc in
-    ap₂ sched.scheduler same below
+one-root t u e = search rules
 
 -- a device of a plan has one tree
 pub one-tree : (plan : List Planned) (d : ℕ) (t u : Tree) → IsTreeOf plan d t → IsTreeOf plan d u → t ≡ u

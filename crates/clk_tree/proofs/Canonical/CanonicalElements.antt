@@ -1,5 +1,5 @@
 -- The line of an element in a canonical text.
-use Rattle.std.proofs.Common.{◌≡◌, ℕ, ◌+◌, true, List, [], ◌∷◌, ◌++◌, map, length, codes, Option, Some, None, IfSome, refl, sym, ap, ap₂, subst, ◌∙◌, append_assoc, append-nil}
+use Rattle.std.proofs.Common.{◌≡◌, ℕ, ◌+◌, true, List, [], ◌∷◌, ◌++◌, map, length, codes, Option, Some, None, IfSome, refl, ap, ap₂, subst, append_assoc, append-nil, rules}
 use Rattle.std.specs.List.{flat_map, AllByRecursion}
 use Rattle.std.proofs.lemmas.List.Concat.{flat_map-append}
 use Rattle.clk_syntax.specs.declared.texts.token.Symbol.TheVariants.{Declares, OpenArguments, CloseArguments, Comma, Semicolon}
@@ -10,7 +10,7 @@ use Rattle.clk_syntax.specs.Reading.{elements_of}
 use Rattle.clk_tree.specs.Plan.{Planned}
 use Rattle.clk_tree.specs.Canonical.{class_text, arguments_of, arguments_text, element_text}
 use Rattle.clk_tree.proofs.Canonical.CanonicalSource.{BareElement, bare_element, element_line, IsWordText, IsNameText}
-use Rattle.clk_tree.proofs.Canonical.CanonicalParts.{Part, spelled, sign, space, line_end, part_text, parts_text, word_token, parts_tokens, ends_word, ArePartsSound, AreLettered, parts-lexed, parts-lettered}
+use Rattle.clk_tree.proofs.Canonical.CanonicalParts.{Part, spelled, sign, space, line_end, parts_text, word_token, parts_tokens, ends_word, ArePartsSound, AreLettered, parts-lexed, parts-lettered}
 use Rattle.clk_tree.proofs.Canonical.CanonicalWords.{symbol-word, token-bare, symbol-name, class-name}
 use Rattle.clk_tree.proofs.Canonical.CanonicalLines.{AreLines}
 
@@ -47,8 +47,7 @@ argument_tokens place (word ∷ more) = Some (word_token (place + 1) word ∷ co
 commas-written : (place : ℕ) (words : List (List ℕ)) (tail : List Part) (marks : List Token) → ((n : ℕ) → map bare (parts_tokens n tail) ≡ marks)
     → map bare (parts_tokens place (flat_map comma_parts words ++ tail)) ≡ flat_map after_comma (comma_tokens place words) ++ marks
 commas-written place [] tail marks last = last place
-commas-written place (word ∷ more) tail marks last =
-    ap₂ (λ (t : Token) l. mark Comma ∷ t ∷ l) (token-bare (place + 1 + 1) word) (commas-written (place + 1 + 1 + length word) more tail marks last)
+commas-written place (word ∷ more) tail marks last = search (rules, token-bare, (commas-written (place + 1 + 1 + length word) more tail marks last))
 
 commas-letters : (text : List ℕ) (place : ℕ) (words : List (List ℕ)) (tail : List Part) → AreLettered text place (flat_map comma_parts words ++ tail)
     → map (letters text) (comma_tokens place words) ≡ words
@@ -65,31 +64,19 @@ end_parts [] = element_end
 end_parts (word ∷ more) = sign OpenArguments ∷ spelled word ∷ (flat_map comma_parts more ++ sign CloseArguments ∷ element_end)
 
 end-text : (words : List (List ℕ)) → parts_text (end_parts words) ≡ arguments_text words ++ codes ";\n"
-end-text [] = refl
-end-text (word ∷ more) =
-    ap (λ l. 40 ∷ (word ++ l)) (flat_map-append part_text (flat_map comma_parts more) (sign CloseArguments ∷ element_end) ∙ ap (λ l. l ++ codes ");\n") (commas-text more)
-    ∙ sym (append_assoc (flat_map (λ w. codes ", " ++ w) more) (codes ")") (codes ";\n")))
-    ∙ ap (λ l. 40 ∷ l) (sym (append_assoc word (flat_map (λ w. codes ", " ++ w) more ++ codes ")") (codes ";\n")))
+end-text words = search (rules, flat_map-append, sign, commas-text, append_assoc)
 
 end-sound : (words : List (List ℕ)) → AllByRecursion IsWordText words → (ends_word (end_parts words) ≡ true) × ArePartsSound (end_parts words)
-end-sound [] all = (refl, (refl, tt))
-end-sound (word ∷ more) all =
-    (refl, (refl, (all.0, commas-end more (sign CloseArguments ∷ element_end) refl, commas-sound more (sign CloseArguments ∷ element_end) all.1 refl (refl, (refl, tt)))))
+end-sound words all = search (rules, commas-end, sign, commas-sound)
 
 end-written : (place : ℕ) (words : List (List ℕ)) → map bare (parts_tokens place (end_parts words)) ≡ written_arguments (argument_tokens place words) ++ mark Semicolon ∷ []
-end-written place [] = refl
-end-written place (word ∷ more) =
-    ap₂ (λ (t : Token) l. mark OpenArguments ∷ t ∷ l) (token-bare (place + 1) word)
-    (commas-written (place + 1 + length word) more (sign CloseArguments ∷ element_end) (mark CloseArguments ∷ mark Semicolon ∷ []) (λ n. refl)
-    ∙ sym (append_assoc (flat_map after_comma (comma_tokens (place + 1 + length word) more)) (mark CloseArguments ∷ []) (mark Semicolon ∷ [])))
+end-written place words = search (rules, token-bare, commas-written, sign, append_assoc)
 
 end-letters : (text : List ℕ) (place : ℕ) (words : List (List ℕ)) → AreLettered text place (end_parts words) → map (letters text) (given (argument_tokens place words)) ≡ words
-end-letters text place [] h = refl
-end-letters text place (word ∷ more) h = ap₂ (λ (w : List ℕ) ws. w ∷ ws) h.0 (commas-letters text (place + 1 + length word) more (sign CloseArguments ∷ element_end) h.1)
+end-letters text place words h = search (rules, commas-letters, sign)
 
 end-words : (place : ℕ) (words : List (List ℕ)) → IfSome (argument_tokens place words) (AllByRecursion IsWord)
-end-words place [] = tt
-end-words place (word ∷ more) = (symbol-word word, commas-words (place + 1 + length word) more)
+end-words place words = search (rules, symbol-word, commas-words)
 
 -- a whole line
 abbrev element_parts : List ℕ → List ℕ → List (List ℕ) → List Part
@@ -113,18 +100,11 @@ line_tokens name class rest = name ∷ mark Declares ∷ class ∷ rest
 
 element-written : (place : ℕ) (name class : List ℕ) (words : List (List ℕ))
     → map bare (parts_tokens place (element_parts name class words)) ≡ flat_map ended (element_statement place name class words ∷ [])
-element-written place name class words =
-    let at = class_place place name in
-    ap₂ (λ a b. line_tokens a b (map bare (parts_tokens (at + length class) (end_parts words)))) (token-bare place name) (token-bare at class)
-    ∙ ap (line_tokens (word_token place name) (word_token at class)) (end-written (at + length class) words)
-    ∙ sym (append-nil (ended (element_statement place name class words)))
+element-written place name class words = search (rules, token-bare, end-written, append-nil)
 
 element-declares : (text : List ℕ) (place : ℕ) (name class : List ℕ) (words : List (List ℕ)) → AreLettered text place (element_parts name class words)
     → map bare_element (elements_of text (element_statement place name class words ∷ [])) ≡ line_element name class words ∷ []
-element-declares text place name class words h =
-    let at = class_place place name in
-    let arguments = map (letters text) (given (argument_tokens (at + length class) words)) in
-    ap₂ (λ (a b : List ℕ). line_element a b arguments ∷ []) h.0 h.1.0 ∙ ap (λ ws. line_element name class ws ∷ []) (end-letters text (at + length class) words h.1.1)
+element-declares text place name class words h = search (rules, end-letters)
 
 parts-lines : (text name class : List ℕ) (words : List (List ℕ)) → IsNameText name → IsNameText class → AllByRecursion IsWordText words
     → AreLines text (parts_text (element_parts name class words)) (line_element name class words ∷ []) []

@@ -1,12 +1,11 @@
 -- Lines of a text that declare and connect, one after another.
-use Rattle.std.proofs.Common.{◌≡◌, ℕ, ◌+◌, List, [], ◌∷◌, ◌++◌, map, length, drop, refl, sym, ap, ap₂, subst, ◌∙◌, append_assoc, arith}
+use Rattle.std.proofs.Common.{◌≡◌, ℕ, ◌+◌, List, [], ◌∷◌, ◌++◌, map, length, drop, refl, sym, ap, ap₂, subst, ◌∙◌, append_assoc, arith, rules}
 use Rattle.std.proofs.lemmas.List.{length-append, map-append}
 use Rattle.std.specs.List.{flat_map, AllByRecursion}
 use Rattle.std.proofs.lemmas.List.Concat.{flat_map-append}
 use Rattle.clk_packet.proofs.Callers.Lists.{all-append}
 use Rattle.clk_syntax.specs.declared.texts.token.Token.{Token}
 use Rattle.clk_syntax.specs.Grammar.{Statement, bare, ended, IsStatement}
-use Rattle.clk_syntax.specs.Source.{declared_in, connected_in, elements_in, wire}
 use Rattle.clk_syntax.specs.Reading.{elements_of, wires_of}
 use Rattle.clk_syntax.specs.Tokens.{tokens_from}
 use Rattle.clk_tree.proofs.Canonical.CanonicalSource.{BareElement, BareWire, bare_element, bare_wire}
@@ -27,16 +26,10 @@ pub record AreLines (text lines : List ℕ) (elements : List BareElement) (wires
   pub read : (place : ℕ) (rest : List ℕ) → drop place text ≡ lines ++ rest → LinesRead text place lines rest elements wires
 
 pub elements-append : (text : List ℕ) (xs ys : List Statement) → map bare_element (elements_of text (xs ++ ys)) ≡ map bare_element (elements_of text xs) ++ map bare_element (elements_of text ys)
-elements-append text xs ys =
-    ap (λ ds. map bare_element (flat_map (elements_in text) ds)) (flat_map-append declared_in xs ys)
-    ∙ ap (map bare_element) (flat_map-append (elements_in text) (flat_map declared_in xs) (flat_map declared_in ys))
-    ∙ map-append bare_element (elements_of text xs) (elements_of text ys)
+elements-append text xs ys = search (rules, flat_map-append, map-append)
 
 pub wires-append : (text : List ℕ) (xs ys : List Statement) → map bare_wire (wires_of text (xs ++ ys)) ≡ map bare_wire (wires_of text xs) ++ map bare_wire (wires_of text ys)
-wires-append text xs ys =
-    ap (λ cs. map bare_wire (map (wire text) cs)) (flat_map-append connected_in xs ys)
-    ∙ ap (map bare_wire) (map-append (wire text) (flat_map connected_in xs) (flat_map connected_in ys))
-    ∙ map-append bare_wire (wires_of text xs) (wires_of text ys)
+wires-append text xs ys = search (rules, flat_map-append, map-append)
 
 pub lines-none : (text : List ℕ) → AreLines text [] [] []
 lines-none text = record {

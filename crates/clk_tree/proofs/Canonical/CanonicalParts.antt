@@ -1,8 +1,8 @@
 -- The tokens of a text that is made of words, marks and blanks.
-use Rattle.std.proofs.Common.{◌≡◌, ℕ, ◌+◌, ◌-◌, ◌==◌, Bool, true, false, cond, List, [], ◌∷◌, ◌++◌, length, take, drop, refl, sym, ap, ◌∙◌, append_assoc, arith}
+use Rattle.std.proofs.lemmas.Grind.{common_steps}
+use Rattle.std.proofs.Common.{◌≡◌, ℕ, ◌+◌, ◌-◌, Bool, true, false, cond, List, [], ◌∷◌, ◌++◌, length, drop, refl, sym, ap, ◌∙◌, append_assoc, arith, rules}
 use Rattle.std.proofs.Math.Seq.{take-append_seam, drop-append_seam}
 use Rattle.std.proofs.lemmas.Bool.{and_parts}
-use Rattle.std.proofs.lemmas.Bool.Decides.{nat_tests}
 use Rattle.std.proofs.lemmas.List.{drop-drop, length-append}
 use Rattle.std.specs.Prelude.{⊤}
 use Rattle.std.specs.List.{flat_map, list_all, prefix_len}
@@ -10,7 +10,7 @@ use Rattle.clk_syntax.specs.declared.texts.token.Symbol.{Symbol}
 use Rattle.clk_syntax.specs.declared.texts.token.Symbol.TheVariants.{Name, Number, OtherWord, Declares, LeadsTo, OpenPort, ClosePort, OpenArguments, CloseArguments, Comma, Semicolon, Nothing}
 use Rattle.clk_syntax.specs.declared.texts.token.Token.{Token}
 use Rattle.clk_syntax.specs.declared.texts.lexer.Piece.TheVariants as piece
-use Rattle.clk_syntax.specs.Tokens.{is_blank, is_word_byte, word_symbol, piece_at, piece_len, shown, tokens_from}
+use Rattle.clk_syntax.specs.Tokens.{is_word_byte, word_symbol, piece_at, piece_len, shown, tokens_from}
 use Rattle.clk_syntax.specs.Source.{letters}
 use Rattle.clk_syntax.proofs.Callers.Tokens.{tokens-after}
 use Rattle.clk_tree.proofs.Canonical.CanonicalSource.{IsWordText}
@@ -87,14 +87,6 @@ AreLettered text place [] = ⊤
 AreLettered text place (spelled word ∷ more) = (letters text (word_token place word) ≡ word) × AreLettered text (place + length word) more
 AreLettered text place (part ∷ more) = AreLettered text (place + length (part_text part)) more
 
--- a byte of a word begins one
-word-piece : (byte : ℕ) (rest : List ℕ) → is_word_byte byte ≡ true
-    → piece_at byte rest ≡ piece.Token (word_symbol byte (take (prefix_len is_word_byte (byte ∷ rest)) (byte ∷ rest))) (prefix_len is_word_byte (byte ∷ rest))
-word-piece byte rest e =
-    let plain : is_blank byte ≡ false = grind (arith, nat_tests) in
-    let no_slash : (byte == 47) ≡ false = grind (arith, nat_tests) in
-    rw (plain, no_slash, e) refl
-
 -- a word goes as far as its bytes
 word-length : (word rest : List ℕ) → list_all is_word_byte word ≡ true → prefix_len is_word_byte rest ≡ 0 → prefix_len is_word_byte (word ++ rest) ≡ length word
 word-length [] rest all stops = stops
@@ -117,9 +109,7 @@ word-lexed place (byte ∷ word) rest h stops =
     whole = word-length (byte ∷ word) rest h.letters stops
 
     first : piece_at byte (word ++ rest) ≡ piece.Token (symbol_of (byte ∷ word)) (length (byte ∷ word))
-    first = word-piece byte (word ++ rest) (and_parts (is_word_byte byte) (list_all is_word_byte word) h.letters).0
-        ∙ ap (λ n. piece.Token (word_symbol byte (take n (byte ∷ (word ++ rest)))) n) whole
-        ∙ ap (λ l. piece.Token (word_symbol byte l) (length (byte ∷ word))) (take-append_seam (byte ∷ word) rest)
+    first = search (rules, tokens-after, drop-append_seam, word-length, and_parts, take-append_seam, whole)
 
     one_less : length (byte ∷ word) - 1 ≡ length word
     one_less = omega arith
@@ -145,26 +135,8 @@ sign-lexed place CloseArguments rest h = refl
 sign-lexed place Comma rest h = refl
 sign-lexed place Semicolon rest h = refl
 
-sign-ends : (symbol : Symbol) (rest : List ℕ) → is_sign symbol ≡ true → prefix_len is_word_byte (sign_text symbol ++ rest) ≡ 0
-sign-ends Name rest h = absurd (cc)
-sign-ends Number rest h = absurd (cc)
-sign-ends OtherWord rest h = absurd (cc)
-sign-ends Nothing rest h = absurd (cc)
-sign-ends Declares rest h = refl
-sign-ends LeadsTo rest h = refl
-sign-ends OpenPort rest h = refl
-sign-ends ClosePort rest h = refl
-sign-ends OpenArguments rest h = refl
-sign-ends CloseArguments rest h = refl
-sign-ends Comma rest h = refl
-sign-ends Semicolon rest h = refl
-
 parts-end : (parts : List Part) (rest : List ℕ) → ArePartsSound parts → ends_word parts ≡ true → prefix_len is_word_byte (parts_text parts ++ rest) ≡ 0
-parts-end [] rest sound ends = absurd (cc)
-parts-end (spelled word ∷ more) rest sound ends = absurd (cc)
-parts-end (sign symbol ∷ more) rest sound ends = ap (prefix_len is_word_byte) (append_assoc (sign_text symbol) (parts_text more) rest) ∙ sign-ends symbol (parts_text more ++ rest) sound.0
-parts-end (space ∷ more) rest sound ends = refl
-parts-end (line_end ∷ more) rest sound ends = refl
+parts-end parts rest sound ends = search (rules, append_assoc)
 
 -- one part before others
 part-then : (place : ℕ) (part : Part) (more : List Part) (rest : List ℕ)
@@ -172,24 +144,14 @@ part-then : (place : ℕ) (part : Part) (more : List Part) (rest : List ℕ)
     → tokens_from (place + length (part_text part)) 0 (parts_text more ++ rest)
     ≡ parts_tokens (place + length (part_text part)) more ++ tokens_from (place + length (part_text part) + length (parts_text more)) 0 rest
     → tokens_from place 0 (parts_text (part ∷ more) ++ rest) ≡ parts_tokens place (part ∷ more) ++ tokens_from (place + length (parts_text (part ∷ more))) 0 rest
-part-then place part more rest one others =
-    ap (tokens_from place 0) (append_assoc (part_text part) (parts_text more) rest)
-    ∙ one
-    ∙ ap (λ l. part_tokens place part ++ l) others
-    ∙ ap (λ n. part_tokens place part ++ (parts_tokens (place + length (part_text part)) more ++ tokens_from n 0 rest)) there
-    ∙ sym (append_assoc (part_tokens place part) (parts_tokens (place + length (part_text part)) more) (tokens_from (place + length (parts_text (part ∷ more))) 0 rest))
-  where
-    there : place + length (part_text part) + length (parts_text more) ≡ place + length (parts_text (part ∷ more))
-    there = let all = length-append (part_text part) (parts_text more) in omega (arith, all)
+part-then place part more rest one others = search (rules, append_assoc, length-append)
 
 -- the tokens of parts, whatever follows
 pub parts-lexed : (place : ℕ) (parts : List Part) (rest : List ℕ) → ArePartsSound parts
     → tokens_from place 0 (parts_text parts ++ rest) ≡ parts_tokens place parts ++ tokens_from (place + length (parts_text parts)) 0 rest
 parts-lexed place [] rest sound = let e : place ≡ place + 0 = omega arith in ap (λ n. tokens_from n 0 rest) e
-parts-lexed place (spelled word ∷ more) rest sound =
-    part-then place (spelled word) more rest (word-lexed place word (parts_text more ++ rest) sound.0 (parts-end more rest sound.2 sound.1)) (parts-lexed (place + length word) more rest sound.2)
-parts-lexed place (sign symbol ∷ more) rest sound =
-    part-then place (sign symbol) more rest (sign-lexed place symbol (parts_text more ++ rest) sound.0) (parts-lexed (place + length (sign_text symbol)) more rest sound.1)
+parts-lexed place (spelled word ∷ more) rest sound = grind (arith, common_steps, part-then, word-lexed, parts-end, sign-lexed, (parts-lexed (place + length word) more rest sound.2))
+parts-lexed place (sign symbol ∷ more) rest sound = grind (arith, common_steps, part-then, word-lexed, parts-end, sign-lexed, (parts-lexed (place + length (sign_text symbol)) more rest sound.1))
 parts-lexed place (space ∷ more) rest sound = part-then place space more rest refl (parts-lexed (place + 1) more rest sound)
 parts-lexed place (line_end ∷ more) rest sound = part-then place line_end more rest refl (parts-lexed (place + 1) more rest sound)
 
@@ -203,10 +165,7 @@ after-part text place part more rest at = after-piece text place (part_text part
 
 pub parts-lettered : (text : List ℕ) (place : ℕ) (parts : List Part) (rest : List ℕ) → drop place text ≡ parts_text parts ++ rest → AreLettered text place parts
 parts-lettered text place [] rest at = tt
-parts-lettered text place (spelled word ∷ more) rest at = (
-  ap (take (length word)) (at ∙ append_assoc word (parts_text more) rest) ∙ take-append_seam word (parts_text more ++ rest),
-  parts-lettered text (place + length word) more rest (after-part text place (spelled word) more rest at),
-)
+parts-lettered text place (spelled word ∷ more) rest at = search (rules, append_assoc, take-append_seam, after-part, (parts-lettered text (place + length word) more rest (after-part text place (spelled word) more rest at)))
 parts-lettered text place (sign symbol ∷ more) rest at = parts-lettered text (place + length (sign_text symbol)) more rest (after-part text place (sign symbol) more rest at)
 parts-lettered text place (space ∷ more) rest at = parts-lettered text (place + 1) more rest (after-part text place space more rest at)
 parts-lettered text place (line_end ∷ more) rest at = parts-lettered text (place + 1) more rest (after-part text place line_end more rest at)

@@ -1,18 +1,16 @@
 -- The lines of connections in a canonical text.
-use Rattle.std.proofs.Common.{◌≡◌, ℕ, zero, suc, ◌+◌, ◌≤◌, ◌<◌, nat_le, true, List, [], ◌∷◌, map, length, decimal, Option, Some, slice_get, refl, ap, ◌∙◌, arith}
+use Rattle.std.proofs.lemmas.Grind.{common_steps, elements}
+use Rattle.std.proofs.Common.{◌≡◌, ℕ, ◌+◌, ◌≤◌, ◌<◌, List, [], ◌∷◌, map, length, decimal, Option, Some, slice_get, refl, arith, rules}
 use Rattle.std.proofs.lemmas.Bool.Decides.{nat_tests}
 use Rattle.std.specs.List.{flat_map, AllByRecursion}
-use Rattle.clk_packet.specs.Numbers.{number_in}
 use Rattle.clk_syntax.specs.declared.texts.token.Symbol.TheVariants.{LeadsTo, OpenPort, ClosePort, Semicolon}
 use Rattle.clk_syntax.specs.declared.texts.token.Token.{Token}
 use Rattle.clk_syntax.specs.Limits.{most_port}
 use Rattle.clk_syntax.specs.Grammar.{Statement, chain, mark, bare, ended}
-use Rattle.clk_syntax.specs.Source.{letters, port}
 use Rattle.clk_syntax.specs.Reading.{wires_of}
-use Rattle.clk_syntax.specs.Classes.{Class, queue}
 use Rattle.clk_tree.specs.Plan.{Planned}
-use Rattle.clk_tree.specs.Canonical.{name_of, connection_text, inputs_text, class_inputs_text, connections_text}
-use Rattle.clk_tree.proofs.Canonical.CanonicalSource.{BareWire, bare_wire, wire_line, input_lines, class_lines, wire_lines, IsWordText, IsNameText, CanBeWritten}
+use Rattle.clk_tree.specs.Canonical.{name_of, connection_text, inputs_text, connections_text}
+use Rattle.clk_tree.proofs.Canonical.CanonicalSource.{BareWire, bare_wire, wire_line, input_lines, wire_lines, IsWordText, IsNameText, CanBeWritten}
 use Rattle.clk_tree.proofs.Canonical.CanonicalParts.{Part, spelled, sign, space, line_end, parts_text, word_token, parts_tokens, ArePartsSound, AreLettered, parts-lexed, parts-lettered}
 use Rattle.clk_tree.proofs.Canonical.CanonicalWords.{token-bare, symbol-name, IsNumberText, decimal-number, zero-number}
 use Rattle.clk_tree.proofs.Canonical.CanonicalLines.{AreLines, lines-none, lines-then}
@@ -52,30 +50,11 @@ abbrev line_tokens : Token → Token → Token → Token → List Token
 line_tokens from output input to = from ∷ mark OpenPort ∷ output ∷ mark ClosePort ∷ mark LeadsTo ∷ mark OpenPort ∷ input ∷ mark ClosePort ∷ to ∷ mark Semicolon ∷ []
 
 wire-written : (place : ℕ) (from digits to : List ℕ) → map bare (parts_tokens place (wire_parts from digits to)) ≡ flat_map ended (wire_statement place from digits to ∷ [])
-wire-written place from digits to =
-    let output = word_token (output_place place from) zero_text in
-    let input = word_token (input_place place from) digits in
-    let name = word_token (to_place place from digits) to in
-    ap (λ t. line_tokens t output (bare input) (bare name)) (token-bare place from)
-    ∙ ap (λ t. line_tokens (word_token place from) output t (bare name)) (token-bare (input_place place from) digits)
-    ∙ ap (line_tokens (word_token place from) output input) (token-bare (to_place place from digits) to)
-
-port-read : (text : List ℕ) (token : Token) (n : ℕ) (digits : List ℕ) → letters text token ≡ digits → IsNumberText n digits → n ≤ most_port → port text (Some token) ≡ Some n
-port-read text token n digits at number small =
-    let low : nat_le 0 n ≡ true = grind (arith, nat_tests) in
-    let high : nat_le n most_port ≡ true = grind (arith, nat_tests) in
-    ap (number_in 0 most_port) at ∙ rw (number.all, number.word.some, number.value, low, high) refl
+wire-written place from digits to = search (rules, token-bare)
 
 wire-connects : (text : List ℕ) (place : ℕ) (from digits to : List ℕ) (input : ℕ) → IsNumberText input digits → input ≤ most_port → AreLettered text place (wire_parts from digits to)
     → map bare_wire (wires_of text (wire_statement place from digits to ∷ [])) ≡ line_wire from (Some 0) (Some input) to ∷ []
-wire-connects text place from digits to input number small h =
-    let output_token = word_token (output_place place from) zero_text in
-    let input_token = word_token (input_place place from) digits in
-    let name = letters text (word_token (to_place place from digits) to) in
-    ap (λ f. line_wire f (port text (Some output_token)) (port text (Some input_token)) name ∷ []) h.0
-    ∙ ap (λ n. line_wire from n (port text (Some input_token)) name ∷ []) (port-read text output_token 0 zero_text h.1.0 zero-number (omega arith))
-    ∙ ap (λ n. line_wire from (Some 0) n name ∷ []) (port-read text input_token input digits h.1.1.0 number small)
-    ∙ ap (λ t. line_wire from (Some 0) (Some input) t ∷ []) h.1.1.1.0
+wire-connects text place from digits to input number small h = search (rules, zero-number)
 
 parts-lines : (text from digits to : List ℕ) (input : ℕ) → IsNameText from → IsNumberText input digits → input ≤ most_port → IsNameText to
     → AreLines text (parts_text (wire_parts from digits to)) [] (line_wire from (Some 0) (Some input) to ∷ [])
@@ -100,9 +79,7 @@ abbrev pub HasNames : List Planned → Type 0
 HasNames plan = (s : ℕ) → s < length plan → IsNameText (name_of (slice_get plan s))
 
 pub has-names : (count : ℕ) (plan : List Planned) → AllByRecursion (CanBeWritten count) plan → HasNames plan
-has-names count [] all s within = absurd (omega arith)
-has-names count (e ∷ more) all zero within = all.0.name
-has-names count (e ∷ more) all (suc s) within = has-names count more all.1 s (omega arith)
+has-names count plan all s within = grind (arith, common_steps, elements, nat_tests)
 
 -- the connections to each input
 inputs-lines : (text : List ℕ) (plan : List Planned) (name : List ℕ) (input : ℕ) (sources : List ℕ) → HasNames plan → IsNameText name
@@ -121,11 +98,4 @@ queue-lines text plan name (s ∷ more) names n all =
     (connection-lines text plan s 0 name (names s all.0) (omega arith) n) (queue-lines text plan name more names n all.1)
 
 pub connections-lines : (text : List ℕ) (plan : List Planned) (e : Planned) → HasNames plan → CanBeWritten (length plan) e → AreLines text (connections_text plan e) [] (wire_lines plan e)
-connections-lines text plan e names h = by_class e.class
-  where
-    inputs : AreLines text (inputs_text plan e.name 0 e.sources) [] (input_lines plan e.name 0 e.sources)
-    inputs = inputs-lines text plan e.name 0 e.sources names h.name (omega (arith, h.inputs)) h.sources
-
-    by_class : (c : Class) → AreLines text (class_inputs_text plan e.name e.sources c) [] (class_lines plan e.name e.sources c)
-    by_class (queue kind capacity) = queue-lines text plan e.name e.sources names h.name h.sources
-    by_class class = inputs
+connections-lines text plan e names h = search (rules, inputs-lines, queue-lines)

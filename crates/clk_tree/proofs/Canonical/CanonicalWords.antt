@@ -1,5 +1,5 @@
 -- The words of a canonical text: their tokens, the names of classes, and numbers.
-use Rattle.std.proofs.Common.{◌≡◌, ℕ, ◌<◌, ◌^◌, ◌&&◌, Bool, true, false, cond, if◌then◌else◌, List, [], ◌∷◌, length, decimal, refl, ap, ◌∙◌, arith}
+use Rattle.std.proofs.Common.{◌≡◌, ℕ, ◌<◌, ◌^◌, ◌&&◌, true, List, [], ◌∷◌, length, decimal, refl, ap, ◌∙◌, arith, rules}
 use Rattle.std.specs.List.{list_all}
 use Rattle.std.specs.Char.{is_ascii_digit}
 use Rattle.std.specs.Str.{all_ascii_digits}
@@ -8,14 +8,10 @@ use Rattle.std.proofs.lemmas.Bool.{and_parts}
 use Rattle.std.proofs.lemmas.Bool.Decides.{nat_tests}
 use Rattle.std.proofs.lemmas.Fmt.{digits_decimal, digits_value-decimal, decimal_is_IsNumeral}
 use Rattle.std.proofs.lemmas.Str.Parse.{numerals_by_value, tells_all_ascii_digits}
-use Rattle.clk_packet.specs.declared.packet.Kind.TheVariants.{TailDrop, FrontDrop}
-use Rattle.clk_syntax.specs.declared.texts.token.Symbol.TheVariants.{Name, Number, OtherWord}
+use Rattle.clk_syntax.specs.declared.texts.token.Symbol.TheVariants.{Name, Number}
 use Rattle.clk_syntax.specs.Grammar.{is_word, bare}
-use Rattle.clk_syntax.specs.Tokens.{is_digit, is_word_byte}
-use Rattle.clk_packet.specs.declared.scheduler.SchedulerName.{SchedulerName}
-use Rattle.clk_packet.specs.declared.scheduler.SchedulerName.TheVariants as spelled
-use Rattle.clk_packet.specs.Scheduler.{name_of, name_text}
-use Rattle.clk_syntax.specs.Classes.{Class, queue, scheduler}
+use Rattle.clk_syntax.specs.Tokens.{is_word_byte}
+use Rattle.clk_syntax.specs.Classes.{Class}
 use Rattle.clk_syntax.proofs.Callers.Tokens.{bare-word}
 use Rattle.clk_tree.specs.Canonical.{class_text}
 use Rattle.clk_tree.proofs.Canonical.CanonicalSource.{IsWordText, IsNameText}
@@ -23,31 +19,17 @@ use Rattle.clk_tree.proofs.Canonical.CanonicalParts.{symbol_of, word_token}
 
 -- a word's token is a word, and a name's a name
 pub symbol-word : (word : List ℕ) → is_word (symbol_of word) ≡ true
-symbol-word [] = refl
-symbol-word (byte ∷ more) = by_test (is_digit byte) (all_ascii_digits (byte ∷ more))
-  where
-    by_test : (a b : Bool) → is_word (if a then (if b then Number else OtherWord) else Name) ≡ true
-    by_test true true = refl
-    by_test true false = refl
-    by_test false b = refl
+symbol-word word = search rules
 
 pub token-bare : (place : ℕ) (word : List ℕ) → bare (word_token place word) ≡ word_token place word
 token-bare place word = bare-word (word_token place word) (symbol-word word)
 
 pub symbol-name : (name : List ℕ) → IsNameText name → symbol_of name ≡ Name
-symbol-name [] h = refl
-symbol-name (byte ∷ more) h = ap (λ b. cond b (cond (all_ascii_digits (byte ∷ more)) Number OtherWord) Name) h.no_digit
+symbol-name name h = search rules
 
 -- classes have names
-scheduler-name : (name : SchedulerName) → IsNameText (name_text name)
-scheduler-name spelled.Prio = record { word = record { some = refl; letters = refl }; no_digit = refl }
-scheduler-name name = record { word = record { some = refl; letters = refl }; no_digit = refl }
-
 pub class-name : (class : Class) → IsNameText (class_text class)
-class-name (queue TailDrop capacity) = record { word = record { some = refl; letters = refl }; no_digit = refl }
-class-name (queue FrontDrop capacity) = record { word = record { some = refl; letters = refl }; no_digit = refl }
-class-name (scheduler s) = scheduler-name (name_of s)
-class-name class = record { word = record { some = refl; letters = refl }; no_digit = refl }
+class-name class = search rules
 
 -- a number of digits: its word, its symbol and its value
 digit-letter : (byte : ℕ) → is_ascii_digit byte ≡ true → is_word_byte byte ≡ true
@@ -60,15 +42,10 @@ digits-letters (byte ∷ more) all =
     ap (λ b. b && list_all is_word_byte more) (digit-letter byte parts.0) ∙ digits-letters more parts.1
 
 digits-symbol : (digits : List ℕ) → 0 < length digits → all_ascii_digits digits ≡ true → symbol_of digits ≡ Number
-digits-symbol [] some all = absurd (omega arith)
-digits-symbol (byte ∷ more) some all =
-    let parts = and_parts (is_ascii_digit byte) (all_ascii_digits more) all in
-    let digit : is_digit byte ≡ true = grind (arith, nat_tests) in
-    ap (λ b. cond b (cond (all_ascii_digits (byte ∷ more)) Number OtherWord) Name) digit ∙ ap (λ b. cond b Number OtherWord) all
+digits-symbol digits some all = search (rules, and_parts)
 
 digits-word : (digits : List ℕ) → 0 < length digits → all_ascii_digits digits ≡ true → IsWordText digits
-digits-word [] some all = absurd (omega arith)
-digits-word (byte ∷ more) some all = record { some = refl; letters = digits-letters (byte ∷ more) all }
+digits-word digits some all = search (rules, digits-letters)
 
 -- a word of digits that has this value
 pub record IsNumberText (n : ℕ) (digits : List ℕ) : Type 0 where

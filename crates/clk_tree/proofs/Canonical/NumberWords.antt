@@ -1,13 +1,12 @@
 -- The decimal digits of numbers are words, which are read as these numbers.
-use Rattle.std.proofs.Common.{◌≡◌, ℕ, ◌<◌, ◌≤◌, ◌^◌, ◌||◌, Bool, true, false, List, [], ◌∷◌, map, Some, refl, ap, ◌∙◌, arith}
+use Rattle.std.proofs.Common.{◌≡◌, ℕ, ◌<◌, ◌≤◌, ◌^◌, ◌||◌, Bool, true, List, [], ◌∷◌, map, Some, refl, arith, rules}
 use Rattle.std.specs.Fmt.{decimal}
 use Rattle.std.specs.Char.{is_ascii_digit}
 use Rattle.std.specs.List.{AllByRecursion, list_all}
-use Rattle.std.specs.Option.{option_map}
 use Rattle.std.specs.Str.{all_ascii_digits}
 use Rattle.std.proofs.lemmas.Bool.{and_parts}
 use Rattle.clk_packet.proofs.Callers.Numbers.{AreDigits}
-use Rattle.clk_syntax.specs.Classes.{and_then, numbers_to}
+use Rattle.clk_syntax.specs.Classes.{numbers_to}
 use Rattle.clk_syntax.specs.Tokens.{is_word_byte}
 use Rattle.clk_tree.proofs.Callers.Numbers.{decimal-digits, number-again}
 use Rattle.clk_tree.proofs.Canonical.CanonicalSource.{IsWordText}
@@ -18,16 +17,11 @@ below-all most n small high = omega arith
 
 pub numbers-again : (most : ℕ) (numbers : List ℕ) → most < 2 ^ 64 → AreTo most numbers → numbers_to most (map decimal numbers) ≡ Some numbers
 numbers-again most [] small are = refl
-numbers-again most (n ∷ numbers) small are =
-    ap (λ first. and_then first (numbers_to most (map decimal numbers))) (number-again 1 most n small are.0.0 are.0.1)
-    ∙ ap (option_map (λ ns. n ∷ ns)) (numbers-again most numbers small are.1)
+numbers-again most (n ∷ numbers) small are = search (rules, number-again, (numbers-again most numbers small are.1))
 
 -- digits are bytes of words
 third : (a b c d : Bool) → c ≡ true → (a || b || c || d) ≡ true
-third true b c d e = refl
-third false true c d e = refl
-third false false true d e = refl
-third false false false d e = absurd (cc)
+third a b c d e = search rules
 
 digits-letters : (word : List ℕ) → all_ascii_digits word ≡ true → list_all is_word_byte word ≡ true
 digits-letters [] are = refl

@@ -1,29 +1,22 @@
 -- The elements of the plan of a text can be written as lines.
-use Rattle.std.proofs.Common.{◌≡◌, ℕ, ◌+◌, ◌<◌, ◌≤◌, zero, suc, inl, inr, Bool, true, false, if◌then◌else◌, List, [], ◌∷◌, length, map, filter, Option, Some, None, option_map, option_and_then, slice_get, refl, sym, ap, subst, ◌∙◌, arith}
+use Rattle.std.proofs.Common.{◌≡◌, ℕ, ◌+◌, ◌<◌, ◌≤◌, zero, suc, inl, inr, Bool, false, List, [], ◌∷◌, length, map, filter, Option, Some, None, slice_get, refl, sym, ap, subst, ◌∙◌, arith, rules}
 use Rattle.std.specs.List.{AllByRecursion, range_with_len}
-use Rattle.std.specs.Option.{option_map}
 use Rattle.std.proofs.lemmas.Bool.{cases_Bool}
 use Rattle.std.proofs.lemmas.List.FromFn.{length-range_with_len, length-map-range_with_len}
 use Rattle.std.proofs.lemmas.Option.{slice_get_within, same_Some}
-use Rattle.clk_packet.specs.Limits.{most_sender, most_capacity, most_elements}
-use Rattle.clk_packet.specs.Numbers.{number_in}
-use Rattle.clk_packet.specs.declared.packet.Kind.TheVariants.{TailDrop, FrontDrop}
+use Rattle.clk_packet.specs.Limits.{most_elements}
 use Rattle.clk_syntax.specs.declared.naming.class.ClassName.{ClassName}
-use Rattle.clk_syntax.specs.declared.naming.class.ClassName.TheVariants as named
 use Rattle.clk_syntax.specs.declared.naming.class.Role.{Role}
 use Rattle.clk_syntax.specs.declared.naming.class.Role.TheVariants as role
 use Rattle.clk_syntax.specs.declared.node.Node.{Node}
 use Rattle.clk_syntax.specs.declared.node.Link.{Link}
 use Rattle.clk_syntax.specs.Limits.{most_port}
-use Rattle.clk_packet.specs.Scheduler as sched
-use Rattle.clk_packet.specs.Scheduler.{name_of, most_argument, scheduler_with}
 use Rattle.clk_packet.proofs.Callers.Schedulers.{most-small}
-use Rattle.clk_syntax.specs.Classes.{Class, sender, queue, scheduler, device, class_named, class_with, numbers_to, role_of}
+use Rattle.clk_syntax.specs.Classes.{Class, device, class_with, role_of}
 use Rattle.clk_syntax.specs.Source.{Element, Wire}
 use Rattle.clk_syntax.specs.Declarations.{class_if, class_of}
 use Rattle.clk_syntax.specs.Ports.{role_at, is_queue, inputs_of}
 use Rattle.clk_syntax.specs.Faults.{nodes_of, links_of, fault_of}
-use Rattle.clk_syntax.specs.Reading.{elements_of, wires_of}
 use Rattle.clk_tree.specs.Plan.{Planned, is_connected, source_at, sources_of, all_known, plan_of, Denotes}
 use Rattle.clk_tree.specs.Canonical.{arguments_of}
 use Rattle.clk_tree.proofs.Canonical.CanonicalSource.{IsWordText, IsNameText, CanBeWritten}
@@ -39,24 +32,8 @@ use Rattle.clk_tree.proofs.Sound.SoundQueues.{length-planned, queue-role}
 use Rattle.clk_tree.proofs.Canonical.WordTokens.{IsSpelled, elements-spelled}
 
 -- the word of a device is its argument
-counted-other : {A : Type 0} (f : A → Class) (o : Option A) (word : List ℕ) → ((x : A) → ¬ (f x ≡ device word)) → ¬ (option_map f o ≡ Some (device word))
-counted-other f None word other e = cc
-counted-other f (Some x) word other e = other x (same_Some (f x) (device word) e)
-
 device-argument : (name : ClassName) (arguments : List (List ℕ)) (word : List ℕ) → class_with name arguments ≡ Some (device word) → arguments ≡ word ∷ []
-device-argument named.Sender [] word e = absurd (cc)
-device-argument named.Sender (n ∷ []) word e = absurd (counted-other sender (number_in 0 most_sender n) word (λ m same. cc) e)
-device-argument named.Sender (n ∷ m ∷ more) word e = absurd (cc)
-device-argument named.Queue [] word e = absurd (cc)
-device-argument named.Queue (n ∷ []) word e = absurd (counted-other (queue TailDrop) (number_in 1 most_capacity n) word (λ m same. cc) e)
-device-argument named.Queue (n ∷ m ∷ more) word e = absurd (cc)
-device-argument named.FrontDropQueue [] word e = absurd (cc)
-device-argument named.FrontDropQueue (n ∷ []) word e = absurd (counted-other (queue FrontDrop) (number_in 1 most_capacity n) word (λ m same. cc) e)
-device-argument named.FrontDropQueue (n ∷ m ∷ more) word e = absurd (cc)
-device-argument (named.Scheduler name) words word e = absurd (counted-other scheduler (option_and_then (scheduler_with name) (numbers_to (most_argument name) words)) word (λ s same. cc) e)
-device-argument named.ToDevice [] word e = absurd (cc)
-device-argument named.ToDevice (first ∷ []) word e = let same : first ≡ word = cc in ap (λ w. w ∷ []) same
-device-argument named.ToDevice (first ∷ n ∷ more) word e = absurd (cc)
+device-argument name arguments word e = search rules
 
 device-word : (arguments : List (List ℕ)) (name : Option ClassName) (word : List ℕ) → AllByRecursion IsWordText arguments → class_if arguments name ≡ Some (device word) → IsWordText word
 device-word arguments None word all e = absurd (cc)
@@ -64,10 +41,7 @@ device-word arguments (Some name) word all e = let only = subst (AllByRecursion 
 
 -- the arguments of a class are words
 argument-words : (class : Class) → HasLimits class → ((word : List ℕ) → class ≡ device word → IsWordText word) → AllByRecursion IsWordText (arguments_of class)
-argument-words (sender n) has from = (decimal-word n (below-all most_sender n (omega arith) has), tt)
-argument-words (queue kind capacity) has from = (decimal-word capacity (below-all most_capacity capacity (omega arith) has.1), tt)
-argument-words (scheduler s) has from = decimal-words (most_argument (name_of s)) (sched.arguments_of s) (most-small (name_of s)) has.arguments
-argument-words (device word) has from = (from word refl, tt)
+argument-words class has from = search (rules, decimal-word, below-all, decimal-words, most-small)
 
 -- the words of an element of a plan
 pub record HasWords (e : Planned) : Type 0 where
@@ -75,10 +49,7 @@ pub record HasWords (e : Planned) : Type 0 where
   pub arguments : AllByRecursion IsWordText (arguments_of e.class)
 
 element-words : (e : Element) (class : Class) (sources : List ℕ) → IsSpelled e → class_of e ≡ Some class → HasWords (record { name = e.name.letters; class = class; sources = sources })
-element-words e class sources spelled is = record {
-  name = spelled.name;
-  arguments = argument-words class (class-limits e class is) (λ word same. device-word e.arguments (class_named e.class.letters) word spelled.arguments (is ∙ ap Some same));
-}
+element-words e class sources spelled is = search (rules, argument-words, class-limits, device-word)
 
 plan-words : (elements : List Element) (wires : List Wire) → AllByRecursion IsSpelled elements → AllByRecursion HasWords (plan_of elements wires)
 plan-words elements wires spelled = all-planned IsSpelled HasWords (length (all_known elements)) (links_of elements wires) 0 elements spelled element-words
@@ -90,29 +61,16 @@ pub record HasSources (count : ℕ) (e : Planned) : Type 0 where
 
 length-filter-le : (p : ℕ → Bool) (xs : List ℕ) → length (filter p xs) ≤ length xs
 length-filter-le p [] = omega arith
-length-filter-le p (x ∷ xs) = by_test (p x) (length-filter-le p xs)
-  where
-    by_test : (b : Bool) → length (filter p xs) ≤ length xs → length (if b then x ∷ filter p xs else filter p xs) ≤ length (x ∷ xs)
-    by_test true fewer = omega arith
-    by_test false fewer = omega arith
+length-filter-le p (x ∷ xs) = search (rules, (length-filter-le p xs))
 
 below-filter : (p : ℕ → Bool) (a n end : ℕ) → a + n ≤ end → AllByRecursion (λ s. s < end) (filter p (range_with_len a n))
 below-filter p a zero end within = tt
-below-filter p a (suc n) end within = by_test (p a) (below-filter p (a + 1) n end (omega arith))
-  where
-    by_test : (b : Bool) → AllByRecursion (λ s. s < end) (filter p (range_with_len (a + 1) n))
-        → AllByRecursion (λ s. s < end) (if b then a ∷ filter p (range_with_len (a + 1) n) else filter p (range_with_len (a + 1) n))
-    by_test true later = (omega arith, later)
-    by_test false later = later
+below-filter p a (suc n) end within = search (rules, (below-filter p (a + 1) n end (omega arith)))
 
 -- what is connected to a queue
 queue-sources : (plan : List Planned) (links : List Link) (i : ℕ) → length plan ≤ most_elements
     → (e : Planned) → e.sources ≡ filter (is_connected links i) (range_with_len 0 (length plan)) → HasSources (length plan) e
-queue-sources plan links i few e is = record {
-  inputs = let fewer = length-filter-le (is_connected links i) (range_with_len 0 (length plan)) in let all = length-range_with_len 0 (length plan) in
-      subst (λ l. length l ≤ most_port) (sym is) (omega arith);
-  sources = subst (AllByRecursion (λ s. s < length plan)) (sym is) (below-filter (is_connected links i) 0 (length plan) (length plan) (omega arith));
-}
+queue-sources plan links i few e is = search (rules, length-filter-le, length-range_with_len, below-filter)
 
 -- what is connected to any other element
 input-sources : (plan : List Planned) (count : ℕ) (nodes : List Node) (links : List Link) (i : ℕ) (r : Role) → IsPlanOf plan count nodes links → AreSound nodes links → role_at nodes i ≡ Some r
@@ -162,7 +120,4 @@ elements-written elements wires none spelled =
     (plan-words elements wires spelled) (all-at (HasSources (length plan)) plan (element-sources elements wires none))
 
 pub plan-written : (text : List ℕ) (plan : List Planned) → Denotes text plan → AllByRecursion (CanBeWritten (length plan)) plan
-plan-written text plan denotes =
-    let statements = denotes.faultless.statements in
-    subst (λ p. AllByRecursion (CanBeWritten (length p)) p) (sym denotes.is)
-    (elements-written (elements_of text statements) (wires_of text statements) denotes.faultless.sound (elements-spelled text statements denotes.faultless.is_text))
+plan-written text plan denotes = search (rules, elements-written, elements-spelled)

@@ -1,10 +1,12 @@
 -- Paths of a plan: from an element by outputs to a device. A path has fewer steps than there are elements, since none stands on it twice.
-use Rattle.std.proofs.Common.{◌≡◌, ℕ, ◌+◌, ◌≤◌, ◌<◌, zero, suc, Bool, true, false, not, if◌then◌else◌, List, [], ◌∷◌, length, take, Option, Some, None, slice_get, inl, inr, refl, sym, ap, subst, ◌∙◌, add-one, arith}
+use Rattle.std.proofs.lemmas.Bool.Decides.{nat_tests}
+use Rattle.std.proofs.lemmas.Grind.{common_steps, elements}
+use Rattle.std.proofs.Common.{◌≡◌, ℕ, ◌+◌, ◌≤◌, ◌<◌, zero, suc, Bool, true, false, if◌then◌else◌, List, [], ◌∷◌, length, take, Option, Some, None, slice_get, inl, inr, refl, sym, ap, subst, ◌∙◌, add-one, arith, rules}
 use Rattle.std.proofs.lemmas.Bool.{false≢true, cases_order}
 use Rattle.std.proofs.lemmas.Option.{slice_get_within, same_Some}
 use Rattle.clk_packet.specs.Lists.{stands_in, In}
 use Rattle.clk_tree.specs.Plan.{Planned}
-use Rattle.clk_tree.specs.PlanTree.{is_device, device_sources, device_count}
+use Rattle.clk_tree.specs.PlanTree.{is_device, device_count}
 use Rattle.clk_tree.specs.PlanPaths.{has_output, place_fed, place_after, device_of}
 use Rattle.clk_tree.proofs.Distinct.DistinctNumbers.{Distinct, distinct-below}
 use Rattle.clk_tree.proofs.Building.PathSteps.{path-stays}
@@ -27,8 +29,7 @@ is_device_at None = false
 is_device_at (Some e) = is_device e.class
 
 device-output : (o : Option Planned) → is_device_at o ≡ true → has_output o ≡ false
-device-output None is = absurd (false≢true is)
-device-output (Some e) is = ap not is
+device-output o is = search (rules, false≢true)
 
 -- A path of so many steps leads from an element to a device.
 abbrev pub Leads : List Planned → ℕ → ℕ → ℕ → Type 0
@@ -77,16 +78,13 @@ trail-distinct plan (suc n) i z h = (
 )
 
 there : (plan : List Planned) (x : ℕ) (o : Option Planned) → slice_get plan x ≡ o → has_output o ≡ true → x < length plan
-there plan x None at has = absurd (false≢true has)
-there plan x (Some e) at has = slice_get_within plan x e at
+there plan x o at has = search (rules, false≢true, slice_get_within)
 
 device-there : (plan : List Planned) (x : ℕ) (o : Option Planned) → slice_get plan x ≡ o → is_device_at o ≡ true → x < length plan
-device-there plan x None at is = absurd (false≢true is)
-device-there plan x (Some e) at is = slice_get_within plan x e at
+device-there plan x o at is = search (rules, false≢true, slice_get_within)
 
 leads-there : (plan : List Planned) (n x z : ℕ) → Leads plan n x z → x < length plan
-leads-there plan zero x z h = device-there plan x (slice_get plan x) refl h.1
-leads-there plan (suc n) x z h = there plan x (slice_get plan x) refl h.0
+leads-there plan n x z h = search (rules, device-there, there)
 
 path-short : (plan : List Planned) (n i z : ℕ) → Leads plan n i z → n < length plan
 path-short plan n i z h =
@@ -101,9 +99,7 @@ path-end plan (suc n) (suc m) i z h few = ap (λ b. if b then place_after plan m
 
 -- the device at the end of a path is that of its elements
 pub leads-to-device : (plan : List Planned) (n i z : ℕ) → Leads plan n i z → device_of plan i ≡ device_count (take z plan)
-leads-to-device plan n i z h =
-    let short = path-short plan n i z h in
-    ap (λ k. device_count (take k plan)) (path-end plan n (length plan) i z h (omega arith))
+leads-to-device plan n i z h = search (rules, path-short, path-end)
 
 -- an element from which a device is reached has a path to it
 pub record HasPath (plan : List Planned) (i : ℕ) : Type 0 where
@@ -127,36 +123,14 @@ with_one b sources more = if b then sources ∷ more else more
 devices-before : (plan : List Planned) (i j : ℕ) → i < j → is_device_at (slice_get plan i) ≡ true → device_count (take i plan) < device_count (take j plan)
 devices-before [] i j l is = absurd (false≢true is)
 devices-before (e ∷ more) zero zero l is = absurd (omega arith)
-devices-before (e ∷ more) zero (suc j) l is = by_test (is_device e.class) is (device_sources (take j more))
-  where
-    by_test : (b : Bool) → b ≡ true → (xs : List (List ℕ)) → 0 < length (with_one b e.sources xs)
-    by_test true is xs = omega arith
-    by_test false is xs = absurd (false≢true is)
+devices-before (e ∷ more) zero (suc j) l is = search (rules, false≢true)
 devices-before (e ∷ more) (suc i) zero l is = absurd (omega arith)
-devices-before (e ∷ more) (suc i) (suc j) l is = by_test (is_device e.class) (device_sources (take i more)) (device_sources (take j more)) (devices-before more i j (omega arith) is)
-  where
-    by_test : (b : Bool) (xs ys : List (List ℕ)) → length xs < length ys → length (with_one b e.sources xs) < length (with_one b e.sources ys)
-    by_test true xs ys l = omega arith
-    by_test false xs ys l = l
+devices-before (e ∷ more) (suc i) (suc j) l is = search (rules, false≢true, (devices-before more i j (omega arith) is))
 
 pub one-device : (plan : List Planned) (i j : ℕ) → is_device_at (slice_get plan i) ≡ true → is_device_at (slice_get plan j) ≡ true → device_count (take i plan) ≡ device_count (take j plan) → i ≡ j
-one-device plan i j a b same = elim (cases_order i j) [
-  | inl e ↦ e
-  | inr other ↦ elim other [
-    | inl l ↦ absurd (let more = devices-before plan i j l a in omega arith)
-    | inr l ↦ absurd (let more = devices-before plan j i l b in omega arith)
-  ]
-]
+one-device plan i j a b same = grind (arith, common_steps, elements, nat_tests, cases_order, devices-before)
 
 pub device-below : (plan : List Planned) (i : ℕ) → is_device_at (slice_get plan i) ≡ true → device_count (take i plan) < device_count plan
 device-below [] i is = absurd (false≢true is)
-device-below (e ∷ more) zero is = by_test (is_device e.class) is
-  where
-    by_test : (b : Bool) → b ≡ true → 0 < length (with_one b e.sources (device_sources more))
-    by_test true is = omega arith
-    by_test false is = absurd (false≢true is)
-device-below (e ∷ more) (suc i) is = by_test (is_device e.class) (device-below more i is)
-  where
-    by_test : (b : Bool) → device_count (take i more) < device_count more → length (with_one b e.sources (device_sources (take i more))) < length (with_one b e.sources (device_sources more))
-    by_test true l = omega arith
-    by_test false l = l
+device-below (e ∷ more) zero is = search (rules, false≢true)
+device-below (e ∷ more) (suc i) is = search (rules, false≢true, (device-below more i is))

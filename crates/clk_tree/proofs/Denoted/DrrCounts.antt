@@ -1,5 +1,5 @@
 -- DRRScheds above the queues of a plan, as they are counted device by device.
-use Rattle.std.proofs.Common.{◌≡◌, ℕ, suc, ◌+◌, ◌<◌, ◌≤◌, ◌==◌, Bool, true, false, List, [], ◌∷◌, length, get_or, Option, Some, None, slice_get, refl, sym, ap, subst, ◌∙◌, eq-eqb, eqb-true, arith}
+use Rattle.std.proofs.Common.{◌≡◌, ℕ, suc, ◌+◌, ◌<◌, ◌≤◌, ◌==◌, Bool, true, false, List, [], ◌∷◌, length, get_or, Some, slice_get, refl, ap, ◌∙◌, eq-eqb, eqb-true, arith, rules}
 use Rattle.std.specs.List.{AllByRecursion}
 use Rattle.std.proofs.lemmas.Bool.{false≢true}
 use Rattle.std.proofs.lemmas.Option.{slice_get_within, slice_get-get_or}
@@ -31,11 +31,6 @@ pub record IsWritten (tree : Tree) (old new : List ℕ) : Type 0 where
   pub others : (q : ℕ) → stands_in q (leaves (root tree)) ≡ false → get_or new q 0 ≡ get_or old q 0
   pub limit : (q : ℕ) → drrs_above q (root tree) ≤ most_levels
 
--- a queue leads to one device
-leads-once : (d e : ℕ) (o : Option Queued) → (d == e) ≡ false → leads_to d o ≡ true → leads_to e o ≡ false
-leads-once d e None apart is = refl
-leads-once d e (Some queue) apart is = ap (λ n. n == e) (eqb-true queue.device d is) ∙ apart
-
 -- one tree more
 pub counted-more : (plan : List Planned) (n : ℕ) (tree : Tree) (old new : List ℕ) → AreCounted plan n old → IsTreeOf plan n tree → IsOver (queues_of plan) n tree → IsWritten tree old new → AreCounted plan (n + 1) new
 counted-more plan n tree old new counted is over written = record {
@@ -45,17 +40,10 @@ counted-more plan n tree old new counted is over written = record {
 }
   where
     by_leaf : (q : ℕ) (b : Bool) → stands_in q (leaves (root tree)) ≡ b → get_or new q 0 ≤ most_levels
-    by_leaf q true e = omega (arith, written.counts q e, written.limit q)
-    by_leaf q false e = omega (arith, written.others q e, counted.low q)
+    by_leaf q b e = search (rules, eqb-true, one-tree, false≢true, eq-eqb)
 
     by_device : (d q : ℕ) (t : Tree) → d < n + 1 → IsTreeOf plan d t → leads_to d (slice_get (queues_of plan) q) ≡ true → (b : Bool) → (d == n) ≡ b → get_or new q 0 ≡ drrs_above q (root t)
-    by_device d q t below its leads true e =
-        let here : d ≡ n = eqb-true d n e in
-        let among : stands_in q (leaves (root tree)) ≡ true = over.leads q ∙ subst (λ k. leads_to k (slice_get (queues_of plan) q) ≡ true) here leads in
-        written.counts q among ∙ ap (λ (x : Tree). drrs_above q (root x)) (one-tree plan n tree t is (subst (λ k. IsTreeOf plan k t) here its))
-    by_device d q t below its leads false e =
-        let before : d < n = omega (arith, below, λ (same : d ≡ n). false≢true (sym e ∙ eq-eqb d n same)) in
-        written.others q (over.leads q ∙ leads-once d n (slice_get (queues_of plan) q) e leads) ∙ counted.each d q t before its leads
+    by_device d q t below its leads b e = search (rules, eqb-true, one-tree, false≢true, eq-eqb)
 
 -- all trees are counted
 pub counted-all : (plan : List Planned) (n : ℕ) (counts : List ℕ) → n ≡ device_count plan → AreCounted plan n counts → (trees : List Tree) → AreTreesOf plan trees → AreDrrsAbove (queues_of plan) trees counts

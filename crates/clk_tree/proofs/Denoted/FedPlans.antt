@@ -1,6 +1,6 @@
 -- In the plan of a text without faults each source of a scheduler or a device is connected to it alone, each queue and each scheduler is
 -- connected to a scheduler or a device, and the path from a queue ends at a device.
-use Rattle.std.proofs.Common.{◌≡◌, ℕ, ◌+◌, ◌<◌, ◌≤◌, ◌==◌, ◌&&◌, ◌||◌, nat_lt, nat_le, zero, suc, Bool, true, false, not, if◌then◌else◌, max, List, [], ◌∷◌, length, map, Option, Some, None, slice_get, inl, inr, refl, sym, ap, subst, ◌∙◌, arith, eq-eqb, eqb-true}
+use Rattle.std.proofs.Common.{◌≡◌, ℕ, ◌+◌, ◌<◌, ◌≤◌, ◌==◌, ◌&&◌, ◌||◌, zero, suc, true, false, not, if◌then◌else◌, List, [], ◌∷◌, length, map, Option, Some, None, slice_get, inl, inr, refl, sym, ap, subst, ◌∙◌, arith, eq-eqb, eqb-true, rules}
 use Rattle.std.specs.List.{AllByRecursion, range_with_len}
 use Rattle.std.proofs.lemmas.Bool.{and_from, and_parts, or_parts, or_right, ltb-true, cases_eq, cases_Bool, false≢true}
 use Rattle.std.proofs.lemmas.Option.{same_Some}
@@ -9,7 +9,6 @@ use Rattle.clk_syntax.specs.declared.naming.class.Role.{Role}
 use Rattle.clk_syntax.specs.declared.naming.class.Role.TheVariants as role
 use Rattle.clk_syntax.specs.declared.node.Node.{Node}
 use Rattle.clk_syntax.specs.declared.node.Link.{Link}
-use Rattle.clk_syntax.specs.Limits.{most_port}
 use Rattle.clk_syntax.specs.Classes.{role_of}
 use Rattle.clk_syntax.specs.Source.{Element, Wire}
 use Rattle.clk_syntax.specs.Declarations.{first_after, fails_at}
@@ -88,20 +87,7 @@ all-enter nodes earlier (c ∷ links) e =
 
 all-used : (links : List Link) → AllByRecursion (λ (c : Link). c.input < inputs_used c.to links) links
 all-used [] = tt
-all-used (c ∷ links) =
-    let later = all-used links in (
-      here (c.to == c.to) (eq-eqb c.to c.to refl),
-      all-both (λ (d : Link). d.input < inputs_used d.to links) (λ (d : Link). d.input < inputs_used d.to links) (λ (d : Link). d.input < inputs_used d.to (c ∷ links)) links
-          (λ d below also. more (c.to == d.to) d.input (inputs_used d.to links) below) later later,
-    )
-  where
-    here : (b : Bool) → b ≡ true → c.input < (if b then max (c.input + 1) (inputs_used c.to links) else inputs_used c.to links)
-    here true is = omega arith
-    here false is = absurd (false≢true is)
-
-    more : (b : Bool) (i n : ℕ) → i < n → i < (if b then max (c.input + 1) n else n)
-    more true i n below = omega arith
-    more false i n below = below
+all-used (c ∷ links) = search (rules, eq-eqb, all-both, false≢true, (all-used links))
 
 -- What is known of a connection.
 record IsEntry (nodes : List Node) (links : List Link) (c : Link) : Type 0 where
@@ -127,24 +113,7 @@ record IsPulling (o : Option Role) (i input : ℕ) (links : List Link) : Type 0 
   within : input < inputs_of i role links
 
 pulling : (o : Option Role) (i input : ℕ) (links : List Link) → has_input o input ≡ true → ports.is_queue o ≡ false → input < inputs_used i links → IsPulling o i input links
-pulling None i input links has pull used = absurd (false≢true has)
-pulling (Some role.Source) i input links has pull used = absurd (false≢true has)
-pulling (Some role.Queue) i input links has pull used = absurd (false≢true (sym pull))
-pulling (Some role.Scheduler) i input links has pull used = record { role = role.Scheduler; at = refl; pull = refl; source = refl; within = omega arith }
-pulling (Some (role.SchedulerOf n)) i input links has pull used = record {
-  role = role.SchedulerOf n;
-  at = refl;
-  pull = refl;
-  source = refl;
-  within = ltb-true input n (and_parts (nat_lt input n) (nat_le input most_port) has).0;
-}
-pulling (Some role.Device) i input links has pull used = record {
-  role = role.Device;
-  at = refl;
-  pull = refl;
-  source = refl;
-  within = let zeroth : input ≡ 0 = eqb-true input 0 has in omega arith;
-}
+pulling o i input links has pull used = search (rules, false≢true, ltb-true, and_parts, eqb-true)
 
 stands-map : (f : ℕ → ℕ) (s a n k : ℕ) → a ≤ k → k < a + n → f k ≡ s → stands_in s (map f (range_with_len a n)) ≡ true
 stands-map f s a zero k low high is = absurd (omega arith)
@@ -154,11 +123,7 @@ stands-map f s a (suc n) k low high is = elim (cases_eq a k) [
 ]
 
 output-used : (i : ℕ) (r : Role) (links : List Link) → ports.is_device (Some r) ≡ false → output_connected i r links ≡ true → uses_output i links ≡ true
-output-used i role.Source links other e = e
-output-used i role.Queue links other e = e
-output-used i role.Scheduler links other e = e
-output-used i (role.SchedulerOf n) links other e = e
-output-used i role.Device links other e = absurd (false≢true (sym other))
+output-used i r links other e = search (rules, false≢true)
 
 -- An element is connected to a scheduler or a device, which has it among its sources.
 pub record IsPulled (plan : List Planned) (x : ℕ) : Type 0 where
@@ -175,11 +140,7 @@ record IsPulledOn (plan : List Planned) (nodes : List Node) (links : List Link) 
   onward : next links x ≡ place_fed plan x
 
 only-scheduler : (r : Role) → is_source (Some r) ≡ false → ports.is_queue (Some r) ≡ false → ports.is_device (Some r) ≡ false → is_scheduler (Some r) ≡ true
-only-scheduler role.Source source queue device = absurd (false≢true (sym source))
-only-scheduler role.Queue source queue device = absurd (false≢true (sym queue))
-only-scheduler role.Scheduler source queue device = refl
-only-scheduler (role.SchedulerOf n) source queue device = refl
-only-scheduler role.Device source queue device = absurd (false≢true (sym device))
+only-scheduler r source queue device = search (rules, false≢true)
 
 module _ (plan : List Planned) (count : ℕ) (nodes : List Node) (links : List Link) (sound : AreSound nodes links) (is : IsPlanOf plan count nodes links) (wired : IsWired plan (next links)) where
   pulled-by : (x : ℕ) (h : IsLinkFrom (IsEntry nodes links) links x) → IsPulling (role_at nodes h.link.to) h.link.to h.link.input links → IsPulledOn plan nodes links x

@@ -1,5 +1,5 @@
 -- The leaves of the tree of a device are the queues whose paths end there.
-use Rattle.std.proofs.Common.{◌≡◌, ℕ, ◌<◌, zero, suc, true, false, List, [], ◌∷◌, length, take, Option, Some, None, slice_get, inl, inr, refl, sym, ap, subst, ◌∙◌, eq-eqb, ne_eqb}
+use Rattle.std.proofs.Common.{◌≡◌, ℕ, ◌<◌, zero, suc, true, false, List, [], ◌∷◌, length, take, Option, Some, None, slice_get, inl, inr, refl, sym, ap, subst, ◌∙◌, eq-eqb, ne_eqb, rules}
 use Rattle.std.specs.List.{AllByRecursion}
 use Rattle.std.proofs.lemmas.Bool.{cases_eq, false≢true, false_from_ne_true, not_from_false, not-true}
 use Rattle.std.proofs.lemmas.Option.{same_Some}
@@ -24,8 +24,7 @@ use Rattle.clk_tree.proofs.Sound.SoundQueues.{queue-role}
 use Rattle.clk_tree.proofs.Denoted.QueueLemmas.{number-queue, queue-number}
 
 stands-output : (o : Option Planned) → Stands o → has_output o ≡ true
-stands-output None h = absurd h
-stands-output (Some e) h = not_from_false (is_device e.class) h
+stands-output o h = search (rules, not_from_false)
 
 -- each element to which a row is connected stands in it
 heads : (plan : List Planned) (sources : List ℕ) (row : Row) (x : ℕ) → IsRowOf plan sources row → In x sources → In x (places plan sources row)
@@ -108,14 +107,13 @@ module _ (plan : List Planned) (fed : AreFed plan) (top : ℕ) (device : Planned
 
 -- the element at which a queue of some number stands
 queue-element : (plan : List Planned) (x : ℕ) (o : Option Planned) → slice_get plan x ≡ o → is_queue_at o ≡ true → (e : Planned) × (slice_get plan x ≡ Some e) × (is_queue e.class ≡ true)
-queue-element plan x None at is = absurd (false≢true is)
-queue-element plan x (Some e) at is = (e, at, is)
+queue-element plan x o at is = search (rules, false≢true)
 
 queue-at : (plan : List Planned) (x q : ℕ) → queue_number plan x ≡ Some q → (e : Planned) × (slice_get plan x ≡ Some e) × (is_queue e.class ≡ true)
 queue-at plan x q is = queue-element plan x (slice_get plan x) refl (number-of (queue_count (take x plan)) q (slice_get plan x) is).0
 
 queue-source : (class : Class) → is_queue class ≡ true → is_source (Some (role_of class)) ≡ false
-queue-source class is = ap is_source (queue-role (Some (role_of class)) (sym (queue-class class) ∙ is))
+queue-source class is = search (rules, queue-role, queue-class)
 
 module _ (plan : List Planned) (fed : AreFed plan) (d : ℕ) (below : d < device_count plan) (t : Tree) (its : IsTreeOf plan d t) where
   here : IsDeviceAt plan d

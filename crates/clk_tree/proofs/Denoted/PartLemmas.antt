@@ -1,25 +1,23 @@
 -- The queues of a plan are within their limits, and its senders have rising numbers and send to its queues.
-use Rattle.std.proofs.Common.{◌≡◌, ℕ, ◌+◌, ◌<◌, ◌≤◌, ◌==◌, zero, suc, Bool, true, false, if◌then◌else◌, List, [], ◌∷◌, length, map, Option, Some, None, option_map, slice_get, nat_lt, refl, sym, ap, subst, ◌∙◌, add-one, add-zero, arith, eq-eqb}
+use Rattle.std.proofs.Common.{◌≡◌, ℕ, ◌+◌, ◌<◌, ◌==◌, zero, suc, Bool, true, false, if◌then◌else◌, List, [], ◌∷◌, length, map, Option, Some, option_map, slice_get, nat_lt, refl, sym, subst, ◌∙◌, add-one, add-zero, arith, eq-eqb, rules}
 use Rattle.std.specs.List.{AllByRecursion, cons_option}
 use Rattle.std.proofs.lemmas.Bool.{ltb-true, ltb-false, or_parts, false≢true}
 use Rattle.std.proofs.lemmas.Option.{same_Some}
 use Rattle.clk_packet.specs.Lists.{stands_in, are_distinct, AreRising}
 use Rattle.clk_packet.proofs.Callers.Lists.{distinct-parts}
 use Rattle.clk_syntax.specs.declared.node.Link.{Link}
-use Rattle.clk_syntax.specs.Classes.{Class, sender, queue}
+use Rattle.clk_syntax.specs.Classes.{Class, sender}
 use Rattle.clk_syntax.specs.Source.{Element}
 use Rattle.clk_syntax.specs.Declarations.{class_of}
-use Rattle.clk_syntax.specs.Faults.{links_of}
 use Rattle.clk_syntax.specs.Reading.{elements_of, wires_of}
 use Rattle.clk_tree.specs.declared.plan.parts.SenderSpec.{SenderSpec}
 use Rattle.clk_tree.specs.Plan.{Planned, all_known, planned_from, plan_of, Denotes}
 use Rattle.clk_tree.specs.PlanTree.{is_queue, queue_count}
-use Rattle.clk_tree.specs.PlanParts.{queue_fed, sender_of, senders_from, placed, by_number, senders_of, number_of, queue_of, queues_from, queues_of, HasCapacity, HasNumber, SendsWithin}
-use Rattle.clk_tree.proofs.Building.PartSteps.{fed-here}
+use Rattle.clk_tree.specs.PlanParts.{queue_fed, sender_of, senders_from, placed, by_number, senders_of, number_of, queues_from, queues_of, HasCapacity, HasNumber, SendsWithin}
 use Rattle.clk_tree.proofs.Sound.SoundClasses.{HasLimits, class-limits}
 use Rattle.clk_tree.proofs.Sound.SoundNodes.{known_as}
 use Rattle.clk_tree.proofs.Sound.SoundQueues.{IsSenderAt, sender-sent}
-use Rattle.clk_tree.proofs.Sound.SoundSenders.{with_number, sender_numbers, senders-distinct}
+use Rattle.clk_tree.proofs.Sound.SoundSenders.{sender_numbers, senders-distinct}
 
 -- each element of a plan is within the limits of its class
 plan-limits : (count : ℕ) (links : List Link) (i : ℕ) (elements : List Element) → AllByRecursion (λ (e : Planned). HasLimits e.class) (planned_from count links i (all_known elements))
@@ -29,23 +27,14 @@ plan-limits count links i (x ∷ elements) = by_case (class_of x) (class-limits 
     by_case : (o : Option Class) → ((class : Class) → o ≡ Some class → HasLimits class) → AllByRecursion (λ (e : Planned). HasLimits e.class) (planned_from count links i (all_known elements))
         → AllByRecursion (λ (e : Planned). HasLimits e.class) (planned_from count links (i + 1) (all_known elements))
         → AllByRecursion (λ (e : Planned). HasLimits e.class) (planned_from count links i (cons_option (option_map (known_as x) o) (all_known elements)))
-    by_case None limits here later = here
-    by_case (Some class) limits here later = (limits class refl, later)
+    by_case o limits here later = search (rules, class-limits)
 
 plan-within : (text : List ℕ) (plan : List Planned) → Denotes text plan → AllByRecursion (λ (e : Planned). HasLimits e.class) plan
-plan-within text plan d =
-    let elements = elements_of text d.faultless.statements in
-    let links = links_of elements (wires_of text d.faultless.statements) in
-    subst (AllByRecursion (λ (e : Planned). HasLimits e.class)) (sym d.is) (plan-limits (length (all_known elements)) links 0 elements)
+plan-within text plan d = search (rules, plan-limits)
 
 queues-within : (plan : List Planned) (i : ℕ) (rest : List Planned) → AllByRecursion (λ (e : Planned). HasLimits e.class) rest → AllByRecursion HasCapacity (queues_from plan i rest)
 queues-within plan i [] limits = tt
-queues-within plan i (e ∷ more) limits = by_class e.class limits.0 (queues-within plan (i + 1) more limits.1)
-  where
-    by_class : (class : Class) → HasLimits class → AllByRecursion HasCapacity (queues_from plan (i + 1) more)
-        → AllByRecursion HasCapacity (cons_option (queue_of plan i class) (queues_from plan (i + 1) more))
-    by_class (queue kind capacity) has later = (has, later)
-    by_class class has later = later
+queues-within plan i (e ∷ more) limits = search (rules, (queues-within plan (i + 1) more limits.1))
 
 pub queues-capacities : (text : List ℕ) (plan : List Planned) → Denotes text plan → AllByRecursion HasCapacity (queues_of plan)
 queues-capacities text plan d = queues-within plan 0 plan (plan-within text plan d)
@@ -53,11 +42,7 @@ queues-capacities text plan d = queues-within plan 0 plan (plan-within text plan
 -- what is so of senders is so of them in order of their numbers
 all-placed : (P : SenderSpec → Type 0) (s : SenderSpec) (senders : List SenderSpec) → P s → AllByRecursion P senders → AllByRecursion P (placed s senders)
 all-placed P s [] one all = (one, tt)
-all-placed P s (t ∷ more) one all = by_test (nat_lt s.number t.number) (all-placed P s more one all.1)
-  where
-    by_test : (b : Bool) → AllByRecursion P (placed s more) → AllByRecursion P (if b then s ∷ t ∷ more else t ∷ placed s more)
-    by_test true later = (one, all)
-    by_test false later = (all.0, later)
+all-placed P s (t ∷ more) one all = search (rules, (all-placed P s more one all.1))
 
 all-by_number : (P : SenderSpec → Type 0) (senders : List SenderSpec) → AllByRecursion P senders → AllByRecursion P (by_number senders)
 all-by_number P [] all = tt
@@ -91,14 +76,7 @@ rising-placed s [] rising apart = (tt, tt)
 rising-placed s (t ∷ more) rising apart = by_test (nat_lt s.number t.number) refl (rising-placed s more rising.1 apart.1)
   where
     by_test : (b : Bool) → nat_lt s.number t.number ≡ b → AreRising (map number_of (placed s more)) → AreRising (map number_of (if b then s ∷ t ∷ more else t ∷ placed s more))
-    by_test true is later =
-        let less : s.number < t.number = ltb-true s.number t.number is in
-        ((less, all-above s.number t.number (map number_of more) less rising.0), rising)
-    by_test false is later =
-        let most : t.number ≤ s.number = ltb-false s.number t.number is in
-        let other : t.number ≡ s.number → ⊥ = apart.0 in
-        let less : t.number < s.number = omega arith in
-        (all-numbers (λ m. t.number < m) (placed s more) (all-placed (λ (r : SenderSpec). t.number < r.number) s more less (numbers-all (λ m. t.number < m) more rising.0)), later)
+    by_test b is later = search (rules, ltb-true, all-above, ltb-false, all-numbers, all-placed, numbers-all)
 
 rising-by_number : (senders : List SenderSpec) → are_distinct (map number_of senders) ≡ true → AreRising (map number_of (by_number senders))
 rising-by_number [] distinct = tt
@@ -109,42 +87,22 @@ rising-by_number (s ∷ more) distinct =
 
 numbers-from : (plan : List Planned) (i : ℕ) (rest : List Planned) → map number_of (senders_from plan i rest) ≡ sender_numbers rest
 numbers-from plan i [] = refl
-numbers-from plan i (e ∷ rest) = by_class e.class (numbers-from plan (i + 1) rest)
-  where
-    by_class : (class : Class) → map number_of (senders_from plan (i + 1) rest) ≡ sender_numbers rest
-        → map number_of (cons_option (sender_of plan i class) (senders_from plan (i + 1) rest)) ≡ with_number class (sender_numbers rest)
-    by_class (sender n) later = ap (λ ns. n ∷ ns) later
-    by_class class later = later
+numbers-from plan i (e ∷ rest) = search (rules, (numbers-from plan (i + 1) rest))
 
 pub senders-rising : (text : List ℕ) (plan : List Planned) → Denotes text plan → AreRising (map number_of (senders_of plan))
-senders-rising text plan d =
-    rising-by_number (senders_from plan 0 plan)
-    (ap are_distinct (numbers-from plan 0 plan) ∙ ap (λ p. are_distinct (sender_numbers p)) d.is
-    ∙ senders-distinct (elements_of text d.faultless.statements) (wires_of text d.faultless.statements) d.faultless.sound)
+senders-rising text plan d = search (rules, rising-by_number, numbers-from, senders-distinct)
 
 queues-count : (plan : List Planned) (i : ℕ) (rest : List Planned) → length (queues_from plan i rest) ≡ queue_count rest
 queues-count plan i [] = refl
-queues-count plan i (e ∷ more) = by_class e.class (queues-count plan (i + 1) more)
-  where
-    by_class : (class : Class) → length (queues_from plan (i + 1) more) ≡ queue_count more
-        → length (cons_option (queue_of plan i class) (queues_from plan (i + 1) more)) ≡ (if is_queue class then queue_count more + 1 else queue_count more)
-    by_class (queue kind capacity) later = ap suc later ∙ sym (add-one (queue_count more))
-    by_class class later = later
+queues-count plan i (e ∷ more) = search (rules, add-one, (queues-count plan (i + 1) more))
 
 -- an element that is connected to a queue of a plan is connected to one of so many
 fed-more : (is feeds : Bool) (fed count : ℕ) → fed < count → (if is then (if feeds then 0 else fed + 1) else fed) < (if is then count + 1 else count)
-fed-more true true fed count below = omega arith
-fed-more true false fed count below = omega arith
-fed-more false feeds fed count below = below
+fed-more is feeds fed count below = search rules
 
 fed-within : (plan : List Planned) (i s : ℕ) (e : Planned) → slice_get plan i ≡ Some e → is_queue e.class ≡ true → stands_in s e.sources ≡ true → queue_fed plan s < queue_count plan
 fed-within [] i s e at is feeds = absurd (cc)
-fed-within (x ∷ plan) zero s e at is feeds =
-    let same = same_Some x e at in
-    let queue-is : is_queue x.class ≡ true = ap (λ (p : Planned). is_queue p.class) same ∙ is in
-    let first : queue_fed (x ∷ plan) s ≡ 0 = fed-here x plan s queue-is (ap (λ (p : Planned). stands_in s p.sources) same ∙ feeds) in
-    let count : queue_count (x ∷ plan) ≡ queue_count plan + 1 = ap (λ b. if b then queue_count plan + 1 else queue_count plan) queue-is in
-    omega (arith, first, count)
+fed-within (x ∷ plan) zero s e at is feeds = search (rules, same_Some, fed-more)
 fed-within (x ∷ plan) (suc i) s e at is feeds = fed-more (is_queue x.class) (stands_in s x.sources) (queue_fed plan s) (queue_count plan) (fed-within plan i s e at is feeds)
 
 -- the senders among the elements from a place on
@@ -163,11 +121,8 @@ from-wired plan i (e ∷ rest) each at =
 pub senders-wired : (text : List ℕ) (plan : List Planned) → Denotes text plan → AllByRecursion (SendsWithin (length (queues_of plan))) (senders_of plan)
 senders-wired text plan d =
     subst (λ count. AllByRecursion (SendsWithin count) (senders_of plan)) (sym (queues-count plan 0 plan))
-    (all-by_number (SendsWithin (queue_count plan)) (senders_from plan 0 plan) (from-wired plan 0 plan sent (λ j e at. subst (λ k. slice_get plan k ≡ Some e) (zero-more j) at)))
+    (all-by_number (SendsWithin (queue_count plan)) (senders_from plan 0 plan) (from-wired plan 0 plan sent (λ j e at. subst (λ k. slice_get plan k ≡ Some e) (search rules) at)))
   where
-    zero-more : (j : ℕ) → j ≡ 0 + j
-    zero-more j = omega arith
-
     sent : (s : ℕ) → IsSenderAt plan s → queue_fed plan s < queue_count plan
     sent = subst (λ p. (s : ℕ) → IsSenderAt p s → queue_fed p s < queue_count p) (sym d.is) (λ s at.
         let to = sender-sent (elements_of text d.faultless.statements) (wires_of text d.faultless.statements) d.faultless.sound s at in
@@ -176,12 +131,7 @@ senders-wired text plan d =
 -- the number of each sender is within the limits
 senders-within : (plan : List Planned) (i : ℕ) (rest : List Planned) → AllByRecursion (λ (e : Planned). HasLimits e.class) rest → AllByRecursion HasNumber (senders_from plan i rest)
 senders-within plan i [] limits = tt
-senders-within plan i (e ∷ more) limits = by_class e.class limits.0 (senders-within plan (i + 1) more limits.1)
-  where
-    by_class : (class : Class) → HasLimits class → AllByRecursion HasNumber (senders_from plan (i + 1) more)
-        → AllByRecursion HasNumber (cons_option (sender_of plan i class) (senders_from plan (i + 1) more))
-    by_class (sender n) has later = (has, later)
-    by_class class has later = later
+senders-within plan i (e ∷ more) limits = search (rules, (senders-within plan (i + 1) more limits.1))
 
 pub senders-numbers : (text : List ℕ) (plan : List Planned) → Denotes text plan → AllByRecursion HasNumber (senders_of plan)
 senders-numbers text plan d = all-by_number HasNumber (senders_from plan 0 plan) (senders-within plan 0 plan (plan-within text plan d))

@@ -1,5 +1,6 @@
 -- What is known of a plan that some text denotes.
-use Rattle.std.proofs.Common.{◌≡◌, ℕ, ◌+◌, ◌≤◌, ◌<◌, zero, suc, List, [], ◌∷◌, length, map, get_or, slice_get, Some, None, true, Result, Ok, Err, IfOk, sym, ap, ap₂, subst, ◌∙◌, arith}
+use Rattle.std.proofs.lemmas.Grind.{common_steps}
+use Rattle.std.proofs.Common.{◌≡◌, ℕ, ◌+◌, ◌≤◌, ◌<◌, List, [], ◌∷◌, length, map, get_or, slice_get, Some, None, true, Result, Ok, Err, IfOk, sym, ap, ap₂, subst, ◌∙◌, arith, rules}
 use Rattle.std.specs.List.{AllByRecursion}
 use Rattle.std.proofs.lemmas.List.{length-map, get_or-map}
 use Rattle.std.proofs.lemmas.Option.{slice_get_within}
@@ -33,8 +34,7 @@ use Rattle.clk_tree.proofs.Denoted.DenotesLemmas.{denotes-by}
 
 -- one element is connected to each device, a scheduler or a queue
 denoted-scheduled : (text : List ℕ) (plan : List Planned) → Denotes text plan → AllByRecursion (IsRoot plan) (device_sources plan)
-denoted-scheduled text plan d =
-    subst (λ p. AllByRecursion (IsRoot p) (device_sources p)) (sym d.is) (plan-scheduled (elements_of text d.faultless.statements) (wires_of text d.faultless.statements) d.faultless.sound)
+denoted-scheduled text plan d = search (rules, plan-scheduled)
 
 pub denoted-one : (text : List ℕ) (plan : List Planned) → Denotes text plan → AllByRecursion (λ sources. length sources ≡ 1) (device_sources plan)
 denoted-one text plan d = each (device_sources plan) (denoted-scheduled text plan d)
@@ -61,13 +61,10 @@ kept-devices plan tops queues senders h =
 
 pub kept-below : (plan value : List Planned) (tops : List ℕ) (queues : List Queued) (senders : List SenderSpec) (d : ℕ) → IsKept plan tops queues senders → plan ≡ value → d < device_count value
     → d < length tops
-kept-below plan value tops queues senders d h same below =
-    subst (λ n. d < n) (sym (kept-devices plan tops queues senders h).count) (subst (λ p. d < device_count p) (sym same) below)
+kept-below plan value tops queues senders d h same below = search (rules, kept-devices)
 
 all-at : (P : ℕ → Type 0) (xs : List ℕ) (i x : ℕ) → AllByRecursion P xs → i < length xs → x ≡ get_or xs i x → P x
-all-at P [] i x all below is = absurd (omega arith)
-all-at P (y ∷ xs) zero x all below is = subst P (sym is) all.0
-all-at P (y ∷ xs) (suc i) x all below is = all-at P xs i x all.1 (omega arith) is
+all-at P xs i x all below is = search (rules, common_steps)
 
 pub kept-scheduled : (plan : List Planned) (tops : List ℕ) (queues : List Queued) (senders : List SenderSpec) (d top : ℕ) → IsKept plan tops queues senders → d < length tops
     → top ≡ get_or tops d top → IsScheduled plan most_levels top
@@ -81,8 +78,7 @@ kept-scheduled plan tops queues senders d top h below is =
 -- what is connected to a device
 kept-sources : (plan : List Planned) (tops : List ℕ) (queues : List Queued) (senders : List SenderSpec) (d top : ℕ) → IsKept plan tops queues senders → d < length tops
     → top ≡ get_or tops d top → sources_of_device plan d ≡ top ∷ []
-kept-sources plan tops queues senders d top h below is =
-    ap (λ xs. get_or xs d []) h.sources ∙ get_or-map (λ (t : ℕ). t ∷ []) tops d top [] below ∙ ap (λ t. t ∷ []) (sym is)
+kept-sources plan tops queues senders d top h below is = search (rules, get_or-map)
 
 -- What is made at that element is the tree of the device: no queue stands twice in it, and a session takes it.
 pub record IsMadeTree (plan : List Planned) (d : ℕ) (made : Result Tree Fault) : Type 0 where
@@ -128,11 +124,8 @@ read-denotes text declared given connections nodes checked links joined plan nam
 pub read-all : (text : List ℕ) (declared given : List Declaration) (connections : List Connection) (nodes checked : List Node) (links : List Link)
     → IsNamedText text (tokens_of text) (map kept declared) connections nodes links → checked ≡ nodes → given ≡ declared
     → length checked ≡ length (all_known (elements text (map kept given)))
-read-all text declared given connections nodes checked links named same_nodes same =
-    ap length (same_nodes ∙ named.nodes_are) ∙ nodes-known (elements text (map kept declared)) ∙ ap (λ ds. length (all_known (elements text (map kept ds)))) (sym same)
+read-all text declared given connections nodes checked links named same_nodes same = search (rules, nodes-known)
 
 -- A plan has as many elements as a session may have at most.
 pub denoted-few : (text : List ℕ) (es : List plan.Element) → Denotes text (map planned es) → length es ≤ most_elements
-denoted-few text es d =
-    subst (λ n. n ≤ most_elements) (length-map es planned)
-    (subst (λ p. length p ≤ most_elements) (sym d.is) (plan-few (elements_of text d.faultless.statements) (wires_of text d.faultless.statements) d.faultless.sound))
+denoted-few text es d = search (rules, length-map, plan-few)

@@ -1,5 +1,5 @@
 -- The queue of a number, and the place at which it stands.
-use Rattle.std.proofs.Common.{◌≡◌, ℕ, ◌+◌, zero, suc, Bool, true, false, if◌then◌else◌, List, [], ◌∷◌, take, Option, Some, None, slice_get, refl, sym, ap, ◌∙◌, add-one, add-zero, zero-add}
+use Rattle.std.proofs.Common.{◌≡◌, ℕ, ◌+◌, zero, suc, Bool, true, false, if◌then◌else◌, List, [], ◌∷◌, take, Option, Some, slice_get, refl, sym, ap, ◌∙◌, add-one, add-zero, zero-add, rules}
 use Rattle.std.specs.List.{cons_option}
 use Rattle.std.proofs.lemmas.Bool.{false≢true}
 use Rattle.std.proofs.lemmas.Option.{same_Some}
@@ -13,18 +13,10 @@ use Rattle.clk_tree.proofs.Sound.SoundChecks.{at-more}
 use Rattle.clk_tree.proofs.Distinct.DistinctQueues.{number-of}
 
 numbered : (n q : ℕ) (o : Option Planned) → is_queue_at o ≡ true → n ≡ q → number_if n o ≡ Some q
-numbered n q None is e = absurd (false≢true is)
-numbered n q (Some p) is e = ap (λ b. if b then Some n else None) is ∙ ap Some e
+numbered n q o is e = search (rules, false≢true)
 
 number-more : (e : Planned) (more : List Planned) (j q : ℕ) (b : Bool) → is_queue e.class ≡ b → queue_number more j ≡ Some q → queue_number (e ∷ more) (suc j) ≡ Some (if b then suc q else q)
-number-more e more j q b is h =
-    let k = number-of (queue_count (take j more)) q (slice_get more j) h in
-    numbered (queue_count (take (suc j) (e ∷ more))) (if b then suc q else q) (slice_get more j) k.0
-    (ap (λ c. if c then queue_count (take j more) + 1 else queue_count (take j more)) is ∙ counted b (queue_count (take j more)) q k.1)
-  where
-    counted : (b : Bool) (n q : ℕ) → n ≡ q → (if b then n + 1 else n) ≡ (if b then suc q else q)
-    counted true n q e = add-one n ∙ ap suc e
-    counted false n q e = e
+number-more e more j q b is h = search (rules, number-of, numbered, add-one)
 
 -- the place of a queue among the elements from a place on
 record IsAmong (plan : List Planned) (i : ℕ) (rest : List Planned) (q : ℕ) (r : Queued) : Type 0 where
@@ -79,8 +71,7 @@ number-among plan i (e ∷ more) (suc j) q h =
   where
     by_class : (r : Queued) (n : ℕ) → slice_get (queues_from plan (i + 1) more) n ≡ Some r → (class : Class) → (if is_queue class then n + 1 else n) ≡ q
         → slice_get (cons_option (queue_of plan i class) (queues_from plan (i + 1) more)) q ≡ Some r
-    by_class r n at (queue kind capacity) is = ap (slice_get (cons_option (queue_of plan i (queue kind capacity)) (queues_from plan (i + 1) more))) (sym is ∙ add-one n) ∙ at
-    by_class r n at class is = ap (slice_get (queues_from plan (i + 1) more)) (sym is) ∙ at
+    by_class r n at class is = search (rules, number-of, false≢true, numbered, add-one)
 
 pub number-queue : (plan : List Planned) (x q : ℕ) → queue_number plan x ≡ Some q → (r : Queued) × (slice_get (queues_of plan) q ≡ Some r)
 number-queue plan x q h = number-among plan 0 plan x q h

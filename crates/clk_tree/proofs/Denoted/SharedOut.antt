@@ -1,5 +1,5 @@
 -- The leaves of a plan's trees together are its queues, each in the tree of its device.
-use Rattle.std.proofs.Common.{◌≡◌, ℕ, ◌<◌, zero, suc, true, nat_lt, List, [], ◌∷◌, length, Option, Some, None, slice_get, inl, inr, refl, sym, ap, subst, ◌∙◌, eq-eqb, eqb-true, arith}
+use Rattle.std.proofs.Common.{◌≡◌, ℕ, ◌<◌, zero, suc, true, nat_lt, List, [], ◌∷◌, length, Option, Some, None, slice_get, inl, inr, refl, sym, ap, subst, ◌∙◌, eq-eqb, eqb-true, arith, rules}
 use Rattle.std.proofs.lemmas.Bool.{false≢true, false_from_ne_true, lt-ltb, ltb-true}
 use Rattle.std.proofs.lemmas.Option.{same_Some, slice_get_within}
 use Rattle.clk_packet.specs.Lists.{stands_in, In}
@@ -48,8 +48,7 @@ leaves-apart (t ∷ trees) distinct one =
     (λ q m k. let l = leaf-in q trees k in let same = one q 0 (suc l.place) t l.tree refl l.at m l.among in omega arith)
 
 led-to : (queues : List Queued) (d q : ℕ) (o : Option Queued) → slice_get queues q ≡ o → leads_to d o ≡ true → (queue : Queued) × (slice_get queues q ≡ Some queue) × (queue.device ≡ d)
-led-to queues d q None at is = absurd (false≢true is)
-led-to queues d q (Some queue) at is = (queue, at, eqb-true queue.device d is)
+led-to queues d q o at is = search (rules, false≢true, eqb-true)
 
 module _ (queues : List Queued) (trees : List Tree) (led : AreLed queues trees) where
   leaf-queue : (q d : ℕ) (tree : Tree) → slice_get trees d ≡ Some tree → In q (leaves (root tree)) → (queue : Queued) × (slice_get queues q ≡ Some queue) × (queue.device ≡ d)
@@ -86,8 +85,4 @@ module _ (queues : List Queued) (trees : List Tree) (led : AreLed queues trees) 
           absurd (cc)))
 
   pub shared-out : AreSharedOut queues trees
-  shared-out = record {
-    all = leaves-all;
-    once = distinct-test (all_leaves trees) (leaves-apart trees led.distinct one-tree);
-    own = own-tree;
-  }
+  shared-out = search (rules, leaves-all, distinct-test, leaves-apart, one-tree, own-tree)

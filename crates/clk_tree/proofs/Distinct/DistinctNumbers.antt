@@ -1,5 +1,5 @@
 -- Lists in which no number stands twice.
-use Rattle.std.proofs.Common.{◌≡◌, ◌⊎◌, ℕ, ◌≤◌, ◌<◌, ◌==◌, ◌||◌, Bool, true, false, List, [], ◌∷◌, ◌++◌, length, Option, Some, None, inl, inr, refl, sym, ap, ◌∙◌, subst, eq-eqb, eqb-true, ne_eqb}
+use Rattle.std.proofs.Common.{◌≡◌, ◌⊎◌, ℕ, ◌≤◌, ◌<◌, ◌==◌, ◌||◌, true, false, List, [], ◌∷◌, ◌++◌, length, Option, Some, inl, inr, refl, sym, ap, subst, eq-eqb, eqb-true, ne_eqb, rules}
 use Rattle.std.specs.Bool.{⊤}
 use Rattle.std.specs.List.{AllByRecursion, list_any, filter_map, cons_option, IsDistinct}
 use Rattle.std.proofs.lemmas.Bool.{or_right, false_from_ne_true, false≢true, both_ways}
@@ -25,11 +25,7 @@ in-stands x (y ∷ ys) (inr m) = or_right (y == x) (stands_in x ys) (in-stands x
 
 pub stands-in : (x : ℕ) (xs : List ℕ) → stands_in x xs ≡ true → In x xs
 stands-in x [] s = absurd (false≢true s)
-stands-in x (y ∷ ys) s = by_test (y == x) refl (stands-in x ys) s
-  where
-    by_test : (b : Bool) → (y == x) ≡ b → (stands_in x ys ≡ true → In x ys) → (b || stands_in x ys) ≡ true → In x (y ∷ ys)
-    by_test true e later t = inl (eqb-true y x e)
-    by_test false e later t = inr (later t)
+stands-in x (y ∷ ys) s = search (rules, false≢true, eqb-true, (stands-in x ys))
 
 pub test-distinct : (xs : List ℕ) → are_distinct xs ≡ true → Distinct xs
 test-distinct [] t = tt
@@ -58,10 +54,7 @@ in-right x (z ∷ xs) ys m = inr (in-right x xs ys m)
 pub in-append : (x : ℕ) (xs ys : List ℕ) → In x (xs ++ ys) → In x xs ⊎ In x ys
 in-append x [] ys m = inr m
 in-append x (z ∷ xs) ys (inl e) = inl (inl e)
-in-append x (z ∷ xs) ys (inr m) = elim (in-append x xs ys m) [
-  | inl a ↦ inl (inr a)
-  | inr b ↦ inr b
-]
+in-append x (z ∷ xs) ys (inr m) = search (rules, (in-append x xs ys m))
 
 pub distinct-append : (xs ys : List ℕ) → Distinct xs → Distinct ys → ((x : ℕ) → In x xs → In x ys → ⊥) → Distinct (xs ++ ys)
 distinct-append [] ys d e apart = e
@@ -85,39 +78,24 @@ mapped-from f y (x ∷ xs) m = by_option (f x) refl (λ k. later (mapped-from f 
     later r = record { from = r.from; among = inr r.among; gives = r.gives }
 
     by_option : (o : Option ℕ) → f x ≡ o → (In y (filter_map f xs) → ComesFrom f y (x ∷ xs)) → In y (cons_option o (filter_map f xs)) → ComesFrom f y (x ∷ xs)
-    by_option None e rest k = rest k
-    by_option (Some z) e rest (inl same) = record { from = x; among = inl refl; gives = e ∙ ap Some same }
-    by_option (Some z) e rest (inr k) = rest k
+    by_option o e rest k = search rules
 
 pub in-mapped : (f : ℕ → Option ℕ) (x y : ℕ) (xs : List ℕ) → In x xs → f x ≡ Some y → In y (filter_map f xs)
 in-mapped f x y [] m is = absurd m
-in-mapped f x y (z ∷ xs) (inl e) is = by_option (f z) (ap f e ∙ is)
-  where
-    by_option : (o : Option ℕ) → o ≡ Some y → In y (cons_option o (filter_map f xs))
-    by_option None is = absurd (cc)
-    by_option (Some w) is = inl (same_Some w y is)
-in-mapped f x y (z ∷ xs) (inr m) is = by_option (f z) (in-mapped f x y xs m is)
-  where
-    by_option : (o : Option ℕ) → In y (filter_map f xs) → In y (cons_option o (filter_map f xs))
-    by_option None later = later
-    by_option (Some w) later = inr later
+in-mapped f x y (z ∷ xs) (inl e) is = search (rules, same_Some)
+in-mapped f x y (z ∷ xs) (inr m) is = search (rules, same_Some, (in-mapped f x y xs m is))
 
 pub distinct-mapped : (f : ℕ → Option ℕ) (xs : List ℕ) → ((a b y : ℕ) → f a ≡ Some y → f b ≡ Some y → a ≡ b) → Distinct xs → Distinct (filter_map f xs)
 distinct-mapped f [] one d = tt
 distinct-mapped f (x ∷ xs) one d = by_option (f x) refl (distinct-mapped f xs one d.1)
   where
     by_option : (o : Option ℕ) → f x ≡ o → Distinct (filter_map f xs) → Distinct (cons_option o (filter_map f xs))
-    by_option None e rest = rest
-    by_option (Some y) e rest = (λ m. let r = mapped-from f y xs m in d.0 (subst (λ a. In a xs) (one r.from x y r.gives e) r.among), rest)
+    by_option o e rest = search (rules, mapped-from)
 
 -- distinct numbers below another are at most as many
 any-in : (x : ℕ) (xs : List ℕ) → list_any (λ y. x == y) xs ≡ true → In x xs
 any-in x [] t = absurd (false≢true t)
-any-in x (y ∷ ys) t = by_test (x == y) refl (any-in x ys) t
-  where
-    by_test : (b : Bool) → (x == y) ≡ b → (list_any (λ y. x == y) ys ≡ true → In x ys) → (b || list_any (λ y. x == y) ys) ≡ true → In x (y ∷ ys)
-    by_test true e later k = inl (sym (eqb-true x y e))
-    by_test false e later k = inr (later k)
+any-in x (y ∷ ys) t = search (rules, false≢true, eqb-true, (any-in x ys))
 
 differ-all : (x : ℕ) (xs : List ℕ) → (In x xs → ⊥) → AllByRecursion (λ y. (x == y) ≡ false) xs
 differ-all x [] none = tt

@@ -1,28 +1,24 @@
 -- In the plan of a text without faults each source of a scheduler or a device leads to it, and none stands twice: each output is connected
 -- once, and each input of theirs is. So no queue stands twice in the tree of such a plan, and the tree is smaller than the plan.
-use Rattle.std.proofs.Common.{◌≡◌, ℕ, ◌≤◌, ◌<◌, ◌+◌, ◌==◌, ◌&&◌, ◌||◌, zero, suc, Bool, true, false, not, if◌then◌else◌, nat_lt, List, [], ◌∷◌, length, map, take, get_or, Option, Some, None, slice_get, inl, inr, refl, sym, ap, subst, ◌∙◌, arith, eq-eqb, eqb-true, zero-add, unwrap_or}
+use Rattle.std.proofs.Common.{◌≡◌, ℕ, ◌≤◌, ◌<◌, ◌+◌, ◌==◌, ◌&&◌, ◌||◌, zero, suc, Bool, true, false, not, if◌then◌else◌, List, [], ◌∷◌, length, map, take, get_or, Option, Some, None, slice_get, inl, inr, refl, sym, ap, subst, ◌∙◌, arith, eq-eqb, eqb-true, zero-add, rules}
 use Rattle.std.specs.Bool.{⊤}
 use Rattle.std.specs.Option.{option_map}
 use Rattle.std.specs.List.{AllByRecursion, range_with_len, cons_option}
-use Rattle.std.proofs.lemmas.Bool.{cases_eq, and_parts, or_parts, not-false, false≢true, both_ways, ltb-false}
+use Rattle.std.proofs.lemmas.Bool.{cases_eq, and_parts, not-false, false≢true, both_ways}
 use Rattle.std.proofs.lemmas.Option.{same_Some}
-use Rattle.clk_packet.specs.declared.fault.Fault.TheVariants.{BadPort, PortTwice, PortMissing, NoDevice, NotATree, TooLarge}
+use Rattle.clk_packet.specs.declared.fault.Fault.TheVariants.{BadPort, PortTwice, PortMissing}
 use Rattle.clk_packet.specs.Limits.{most_elements}
 use Rattle.clk_sched.specs.Session as session
 use Rattle.clk_packet.specs.Lists.{are_distinct, In}
-use Rattle.clk_packet.specs.Scheduler as sched
 use Rattle.clk_sched.specs.Tree.{Tree, root, leaves_distinct}
 use Rattle.clk_syntax.specs.declared.naming.class.Role.{Role}
-use Rattle.clk_syntax.specs.declared.naming.class.Role.TheVariants as role
 use Rattle.clk_syntax.specs.declared.node.Node.{Node}
 use Rattle.clk_syntax.specs.declared.node.Link.{Link}
-use Rattle.clk_syntax.specs.Classes as class
 use Rattle.clk_syntax.specs.Classes.{Class, role_of}
 use Rattle.clk_syntax.specs.Source.{Element, Wire}
 use Rattle.clk_syntax.specs.Declarations.{first_after, fails_at, class_of}
 use Rattle.clk_syntax.specs.Ports as ports
 use Rattle.clk_syntax.specs.Ports.{role_at, uses_output, uses_input, all_connected, inputs_of, output_connected, bad_port, port_twice, port_missing, port_missing_from, has_device, not_a_tree, next, target}
-use Rattle.clk_syntax.specs.Size.{too_large, some_too_large}
 use Rattle.clk_syntax.specs.Faults as faults
 use Rattle.clk_syntax.specs.Faults.{nodes_of, links_of, naming_fault, port_fault, shape_fault, nodes_fault, fault_of}
 use Rattle.clk_syntax.specs.Reading.{elements_of, wires_of}
@@ -35,8 +31,7 @@ use Rattle.clk_tree.proofs.Distinct.DistinctTrees.{HasParents, tree-distinct, tr
 
 -- what is told of nothing
 map-none : {A B : Type 0} (f : A → B) (a : Option A) → option_map f a ≡ None → a ≡ None
-map-none f None e = refl
-map-none f (Some x) e = absurd (cc)
+map-none f a e = search rules
 
 -- each output is connected once
 abbrev pub Once : List Link → Type 0
@@ -50,8 +45,7 @@ no-more nodes j earlier (c ∷ more) e used =
     by_test (c.from == j) refl (fails-not (uses_output c.from earlier) c.from_place (neither _ _ parts.0).0) (no-more nodes j (c ∷ earlier) more parts.1)
   where
     by_test : (b : Bool) → (c.from == j) ≡ b → uses_output c.from earlier ≡ false → ((b || uses_output j earlier) ≡ true → uses_output j more ≡ false) → (b || uses_output j more) ≡ false
-    by_test true same free later = absurd (both_ways (uses_output j earlier) (subst (λ k. uses_output k earlier ≡ false) (eqb-true c.from j same) free) used)
-    by_test false same free later = later used
+    by_test b same free later = search (rules, neither, fails-not, both_ways, eqb-true)
 
 once-after : (nodes : List Node) (earlier links : List Link) → first_after (used_again nodes) earlier links ≡ None → Once links
 once-after nodes earlier [] e = tt
@@ -70,38 +64,9 @@ record IsConnected (links : List Link) (i input s : ℕ) : Type 0 where
   enters : entry links s ≡ input
   used : uses_output s links ≡ true
 
-connected-here : (c : Link) (more : List Link) (i input : ℕ) → ((c.to == i) && (c.input == input)) ≡ true → IsConnected (c ∷ more) i input c.from
-connected-here c more i input e =
-    let tests = and_parts (c.to == i) (c.input == input) e in
-    let same = eq-eqb c.from c.from refl in
-    record {
-      goes = ap (λ b. unwrap_or (if b then Some c.to else target c.from more) c.from) same ∙ eqb-true c.to i tests.0;
-      enters = ap (λ b. if b then c.input else entry more c.from) same ∙ eqb-true c.input input tests.1;
-      used = ap (λ b. b || uses_output c.from more) same;
-    }
-
-connected-later : (c : Link) (more : List Link) (i input s : ℕ) → uses_output c.from more ≡ false → IsConnected more i input s → IsConnected (c ∷ more) i input s
-connected-later c more i input s once h = by_test (c.from == s) refl
-  where
-    other : (c.from == s) ≡ false → IsConnected (c ∷ more) i input s
-    other e = record {
-      goes = ap (λ b. unwrap_or (if b then Some c.to else target s more) s) e ∙ h.goes;
-      enters = ap (λ b. if b then c.input else entry more s) e ∙ h.enters;
-      used = ap (λ b. b || uses_output s more) e ∙ h.used;
-    }
-
-    by_test : (b : Bool) → (c.from == s) ≡ b → IsConnected (c ∷ more) i input s
-    by_test true e = absurd (both_ways (uses_output s more) (subst (λ k. uses_output k more ≡ false) (eqb-true c.from s e) once) h.used)
-    by_test false e = other e
-
 connected : (links : List Link) (i input : ℕ) → Once links → uses_input i input links ≡ true → IsConnected links i input (source_at links i input)
 connected [] i input once used = absurd (false≢true used)
-connected (c ∷ more) i input once used = by_test ((c.to == i) && (c.input == input)) refl (connected more i input once.1) used
-  where
-    by_test : (b : Bool) → ((c.to == i) && (c.input == input)) ≡ b → (uses_input i input more ≡ true → IsConnected more i input (source_at more i input))
-        → (b || uses_input i input more) ≡ true → IsConnected (c ∷ more) i input (if b then c.from else source_at more i input)
-    by_test true e later u = connected-here c more i input e
-    by_test false e later u = connected-later c more i input (source_at more i input) once.0 (later u)
+connected (c ∷ more) i input once used = search (rules, false≢true, (connected more i))
 
 -- the elements at the inputs of another
 inputs-connected : (i n j : ℕ) (links : List Link) → all_connected i n links ≡ true → j < n → uses_input i j links ≡ true
@@ -126,11 +91,7 @@ record IsAmong (f : ℕ → ℕ) (a n y : ℕ) : Type 0 where
 range-in : (f : ℕ → ℕ) (a n y : ℕ) → In y (map f (range_with_len a n)) → IsAmong f a n y
 range-in f a zero y m = absurd m
 range-in f a (suc n) y (inl e) = record { from = a; low = omega arith; high = omega arith; is = e }
-range-in f a (suc n) y (inr m) =
-    let r = range-in f (a + 1) n y m in
-    let low = r.low in
-    let high = r.high in
-    record { from = r.from; low = omega arith; high = omega arith; is = r.is }
+range-in f a (suc n) y (inr m) = search (rules, (range-in f (a + 1) n y m))
 
 range-distinct : (f : ℕ → ℕ) (a n : ℕ) → ((j k : ℕ) → a ≤ j → j < a + n → a ≤ k → k < a + n → f j ≡ f k → j ≡ k) → Distinct (map f (range_with_len a n))
 range-distinct f a zero one = tt
@@ -162,9 +123,7 @@ role-known (e ∷ more) i = by_class (class_of e) i (role-known more)
     by_class : (o : Option Class) (i : ℕ) → ((j : ℕ) → role_at (nodes_of more) j ≡ option_map (λ (k : Known). role_of k.class) (slice_get (all_known more) j))
         → role_at (cons_option (option_map (faults.node e.name.place) o) (nodes_of more)) i
         ≡ option_map (λ (k : Known). role_of k.class) (slice_get (cons_option (option_map (λ c. record { name = e.name.letters; class = c }) o) (all_known more)) i)
-    by_class None i later = later i
-    by_class (Some c) zero later = refl
-    by_class (Some c) (suc i) later = later i
+    by_class o i later = search rules
 
 record IsPlanned (count : ℕ) (links : List Link) (ks : List Known) (i j : ℕ) (e : Planned) : Type 0 where
   known : Known
@@ -178,35 +137,19 @@ planned-here count links b (k ∷ more) zero e at = record {
   at = refl;
   is = sym (same_Some (planned_at count links b k) e at) ∙ ap (λ n. planned_at count links n k) (omega arith);
 }
-planned-here count links b (k ∷ more) (suc i) e at =
-    let r = planned-here count links (b + 1) more i e at in
-    record { known = r.known; at = r.at; is = r.is ∙ ap (λ n. planned_at count links n r.known) (omega arith) }
+planned-here count links b (k ∷ more) (suc i) e at = search (rules, same_Some, (planned-here count links (b + 1) more i e at))
 
 -- its sources, where it is no queue
 role-other : (c : Class) → is_queue c ≡ false → ports.is_queue (Some (role_of c)) ≡ false
-role-other (class.queue kind capacity) e = absurd (false≢true (sym e))
-role-other (class.scheduler s) e = by_inputs (sched.inputs_of s)
-  where
-    by_inputs : (o : Option ℕ) → ports.is_queue (Some (class.role_over o)) ≡ false
-    by_inputs None = refl
-    by_inputs (Some n) = refl
-role-other c e = refl
+role-other c e = search (rules, false≢true)
 
 sources-mapped : (count : ℕ) (links : List Link) (i : ℕ) (r : Role) → ports.is_queue (Some r) ≡ false → sources_of count links i r ≡ map (source_at links i) (range_with_len 0 (inputs_of i r links))
-sources-mapped count links i role.Source e = refl
-sources-mapped count links i role.Queue e = absurd (false≢true (sym e))
-sources-mapped count links i role.Scheduler e = refl
-sources-mapped count links i (role.SchedulerOf n) e = refl
-sources-mapped count links i role.Device e = refl
+sources-mapped count links i r e = search (rules, false≢true)
 
 -- each input of it is connected
 none-missing : (nodes : List Node) (links : List Link) (b i : ℕ) (r : Role) → port_missing_from b nodes links ≡ None → role_at nodes i ≡ Some r → all_connected (b + i) (inputs_of (b + i) r links) links ≡ true
 none-missing [] links b i r none at = absurd (cc)
-none-missing (n ∷ more) links b zero r none at =
-    let parts = neither (fails_at (not (output_connected b n.role links && all_connected b (inputs_of b n.role links) links)) n.place) (port_missing_from (b + 1) more links) none in
-    let tests = and_parts (output_connected b n.role links) (all_connected b (inputs_of b n.role links) links) (not-false _ (fails-not _ n.place parts.0)) in
-    let here : b ≡ b + 0 = omega arith in
-    subst (λ k. all_connected k (inputs_of k r links) links ≡ true) here (subst (λ s. all_connected b (inputs_of b s links) links ≡ true) (same_Some n.role r at) tests.1)
+none-missing (n ∷ more) links b zero r none at = search (rules, neither, and_parts, not-false, fails-not, same_Some)
 none-missing (n ∷ more) links b (suc i) r none at =
     let parts = neither (fails_at (not (output_connected b n.role links && all_connected b (inputs_of b n.role links) links)) n.place) (port_missing_from (b + 1) more links) none in
     let later = none-missing more links (b + 1) i r parts.1 at in
@@ -247,14 +190,7 @@ abbrev with_device : Bool → List ℕ → List (List ℕ) → List (List ℕ)
 with_device b sources more = if b then sources ∷ more else more
 
 device-here : (p : Planned) (more : List Planned) → is_device p.class ≡ true → IsDeviceAt (p ∷ more) 0
-device-here p more is = record {
-  place = 0;
-  element = p;
-  at = refl;
-  is = is;
-  sources = ap (λ b. get_or (with_device b p.sources (device_sources more)) 0 []) is;
-  before = refl;
-}
+device-here p more is = search rules
 
 device-after : (p : Planned) (more : List Planned) (d : ℕ) → is_device p.class ≡ true → IsDeviceAt more d → IsDeviceAt (p ∷ more) (suc d)
 device-after p more d is h = record {
@@ -294,15 +230,11 @@ module _ (elements : List Element) (wires : List Wire) (sound : AreSound element
 
   known-lead : (i : ℕ) (k : Known) → slice_get (all_known elements) i ≡ Some k → is_queue k.class ≡ false
       → AllByRecursion (λ s. next (links_of elements wires) s ≡ i) (sources_of (length (all_known elements)) (links_of elements wires) i (role_of k.class))
-  known-lead i k at other =
-      subst (AllByRecursion (λ s. next (links_of elements wires) s ≡ i)) (sym (sources-mapped (length (all_known elements)) (links_of elements wires) i (role_of k.class) (role-other k.class other)))
-      (sources-lead (links_of elements wires) i (inputs_of i (role_of k.class) (links_of elements wires)) sound.once (inputs-all i k at))
+  known-lead i k at other = search (rules, sources-mapped, role-other, sources-lead, inputs-all)
 
   known-once : (i : ℕ) (k : Known) → slice_get (all_known elements) i ≡ Some k → is_queue k.class ≡ false
       → are_distinct (sources_of (length (all_known elements)) (links_of elements wires) i (role_of k.class)) ≡ true
-  known-once i k at other =
-      ap are_distinct (sources-mapped (length (all_known elements)) (links_of elements wires) i (role_of k.class) (role-other k.class other))
-      ∙ sources-distinct (links_of elements wires) i (inputs_of i (role_of k.class) (links_of elements wires)) sound.once (inputs-all i k at)
+  known-once i k at other = search (rules, sources-mapped, role-other, sources-distinct, inputs-all)
 
   planned-at : (i : ℕ) (e : Planned) → slice_get (plan_of elements wires) i ≡ Some e → IsPlanned (length (all_known elements)) (links_of elements wires) (all_known elements) i i e
   planned-at i e at =
@@ -339,46 +271,22 @@ plan-fits elements wires d none below t is =
 
 -- and of what a text denotes
 pub denoted-distinct : (text : List ℕ) (plan : List Planned) (d : ℕ) → Denotes text plan → d < device_count plan → (t : Tree) → IsTreeOf plan d t → leaves_distinct t ≡ true
-denoted-distinct text plan d h below t is =
-    plan-distinct (elements_of text h.faultless.statements) (wires_of text h.faultless.statements) d h.faultless.sound (subst (λ p. d < device_count p) h.is below) t (subst (λ p. IsTreeOf p d t) h.is is)
+denoted-distinct text plan d h below t is = search (rules, plan-distinct)
 
 pub denoted-fits : (text : List ℕ) (plan : List Planned) (d : ℕ) → Denotes text plan → d < device_count plan → (t : Tree) → IsTreeOf plan d t → 1 + session.elements (root t) ≤ length plan
-denoted-fits text plan d h below t is =
-    subst (λ p. 1 + session.elements (root t) ≤ length p) (sym h.is)
-    (plan-fits (elements_of text h.faultless.statements) (wires_of text h.faultless.statements) d h.faultless.sound (subst (λ p. d < device_count p) h.is below) t (subst (λ p. IsTreeOf p d t) h.is is))
+denoted-fits text plan d h below t is = search (rules, plan-fits)
 
 -- which is no larger than a session may be
 pub nodes-known : (elements : List Element) → length (nodes_of elements) ≡ length (all_known elements)
 nodes-known [] = refl
-nodes-known (e ∷ more) = by_class (class_of e) (nodes-known more)
-  where
-    by_class : (o : Option Class) → length (nodes_of more) ≡ length (all_known more)
-        → length (cons_option (option_map (faults.node e.name.place) o) (nodes_of more)) ≡ length (cons_option (option_map (λ c. record { name = e.name.letters; class = c }) o) (all_known more))
-    by_class None same = same
-    by_class (Some c) same = ap suc same
+nodes-known (e ∷ more) = search (rules, (nodes-known more))
 
 planned-known : (count : ℕ) (links : List Link) (b : ℕ) (ks : List Known) → length (planned_from count links b ks) ≡ length ks
 planned-known count links b [] = refl
 planned-known count links b (k ∷ more) = ap suc (planned-known count links (b + 1) more)
 
-some-not : {A : Type 0} (b : Bool) (x : A) → (if b then Some x else None) ≡ None → b ≡ false
-some-not true x e = absurd (cc)
-some-not false x e = refl
-
-few-nodes : (nodes : List Node) (links : List Link) → shape_fault nodes links ≡ None → length nodes ≤ most_elements
-few-nodes nodes links none =
-    let shape = (neither (if has_device nodes then None else Some NoDevice) _ none).1 in
-    let size = (neither (option_map NotATree (not_a_tree nodes links)) _ shape).1 in
-    let tests = or_parts (nat_lt most_elements (length nodes)) (some_too_large 0 nodes nodes links) (some-not (too_large nodes links) TooLarge size) in
-    ltb-false most_elements (length nodes) tests.0
-
 pub plan-few : (elements : List Element) (wires : List Wire) → fault_of elements wires ≡ None → length (plan_of elements wires) ≤ most_elements
-plan-few elements wires none =
-    let links = links_of elements wires in
-    let later = (neither (naming_fault elements wires) (nodes_fault (nodes_of elements) links) none).1 in
-    let few = few-nodes (nodes_of elements) links (neither (port_fault (nodes_of elements) links) (shape_fault (nodes_of elements) links) later).1 in
-    let known = planned-known (length (all_known elements)) links 0 (all_known elements) in
-    subst (λ n. n ≤ most_elements) (nodes-known elements ∙ sym known) few
+plan-few elements wires none = search (rules, neither, planned-known, nodes-known)
 
 pub denoted-small : (text : List ℕ) (plan : List Planned) → Denotes text plan → length plan ≤ most_elements
 denoted-small text plan h = subst (λ p. length p ≤ most_elements) (sym h.is) (plan-few (elements_of text h.faultless.statements) (wires_of text h.faultless.statements) h.faultless.sound)
@@ -392,8 +300,4 @@ denoted-session text plan d h below t is =
 -- A plan has no more devices than elements.
 pub devices-few : (plan : List Planned) → device_count plan ≤ length plan
 devices-few [] = omega arith
-devices-few (p ∷ more) = by_test (is_device p.class) (devices-few more)
-  where
-    by_test : (b : Bool) → device_count more ≤ length more → length (with_device b p.sources (device_sources more)) ≤ suc (length more)
-    by_test true few = omega arith
-    by_test false few = omega arith
+devices-few (p ∷ more) = search (rules, (devices-few more))

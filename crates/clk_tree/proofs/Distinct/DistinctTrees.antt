@@ -1,6 +1,6 @@
 -- No element of a plan stands twice in the tree of a device: a place in the tree has one way up to the device, so that it stands in the
 -- tree of one source of each element above it. Then no queue stands twice, and the tree has fewer elements than the plan.
-use Rattle.std.proofs.Common.{◌≡◌, ◌≢◌, if◌then◌else◌, ◌≤◌, ◌<◌, ◌+◌, ℕ, zero, suc, List, [], ◌∷◌, ◌++◌, length, Bool, true, false, Option, Some, None, MatchOption, slice_get, inl, inr, refl, sym, ap, ap₂, subst, ◌∙◌, length-append, arith}
+use Rattle.std.proofs.Common.{◌≡◌, ◌≢◌, ◌≤◌, ◌<◌, ◌+◌, ℕ, zero, suc, List, [], ◌∷◌, ◌++◌, length, true, false, Option, Some, None, MatchOption, slice_get, inl, inr, refl, sym, ap, ap₂, subst, ◌∙◌, length-append, arith, rules}
 use Rattle.std.specs.List.{AllByRecursion, filter_map, cons_option}
 use Rattle.std.proofs.lemmas.Bool.{false≢true}
 use Rattle.std.proofs.lemmas.List.Elements.{filter_map-append}
@@ -9,7 +9,6 @@ use Rattle.clk_sched.specs.Session.{elements}
 use Rattle.clk_packet.specs.Scheduler.{Scheduler}
 use Rattle.clk_packet.specs.Lists.{are_distinct, In}
 use Rattle.clk_sched.specs.Tree.{Row, end, leaf, node, Tree, root, leaves, leaves_distinct}
-use Rattle.clk_syntax.specs.Classes as class
 use Rattle.clk_syntax.specs.Classes.{Class}
 use Rattle.clk_tree.specs.Plan.{Planned}
 use Rattle.clk_tree.specs.PlanTree.{is_queue, is_device, number_if, queue_number, scheduler_over, IsNode, sources_at, IsRowOf}
@@ -32,37 +31,23 @@ abbrev pub Stands : Option Planned → Type 0
 Stands o = MatchOption o ⊥ (λ e. is_device e.class ≡ false)
 
 pub queue-device : (c : Class) → is_queue c ≡ true → is_device c ≡ false
-queue-device (class.device word) e = absurd (false≢true e)
-queue-device c e = refl
-
-node-device : (c : Class) (over : Scheduler) (inputs : ℕ) → scheduler_over c inputs ≡ Some over → is_device c ≡ false
-node-device (class.device word) over inputs e = absurd (cc)
-node-device c over inputs e = refl
+queue-device c e = search (rules, false≢true)
 
 pub node-queue : (c : Class) (over : Scheduler) (inputs : ℕ) → scheduler_over c inputs ≡ Some over → is_queue c ≡ false
-node-queue (class.queue kind capacity) over inputs e = absurd (cc)
-node-queue c over inputs e = refl
+node-queue c over inputs e = search rules
 
 pub leaf-stands : (n q : ℕ) (o : Option Planned) → number_if n o ≡ Some q → Stands o
-leaf-stands n q None e = absurd (cc)
-leaf-stands n q (Some p) e = queue-device p.class (by_test (is_queue p.class) e)
-  where
-    by_test : (b : Bool) → (if b then Some n else None) ≡ Some q → b ≡ true
-    by_test true e = refl
-    by_test false e = absurd (cc)
+leaf-stands n q o e = search (rules, queue-device)
 
 pub node-stands : (over : Scheduler) (o : Option Planned) → IsNode over o → Stands o
-node-stands over None h = absurd h
-node-stands over (Some e) h = node-device e.class over (length e.sources) h
+node-stands over o h = search rules
 
 -- a scheduler has no number
 node-none : (over : Scheduler) (n : ℕ) (o : Option Planned) → IsNode over o → number_if n o ≡ None
-node-none over n None h = refl
-node-none over n (Some e) h = ap (λ b. if b then Some n else None) (node-queue e.class over (length e.sources) h)
+node-none over n o h = search (rules, node-queue)
 
 stands-within : (plan : List Planned) (x : ℕ) (o : Option Planned) → slice_get plan x ≡ o → Stands o → x < length plan
-stands-within plan x None at h = absurd h
-stands-within plan x (Some e) at h = slice_get_within plan x e at
+stands-within plan x o at h = search (rules, slice_get_within)
 
 pub places-stand : (plan : List Planned) (sources : List ℕ) (row : Row) (x : ℕ) → IsRowOf plan sources row → In x (places plan sources row) → Stands (slice_get plan x)
 places-stand plan [] end x is m = absurd m
@@ -144,19 +129,11 @@ under-more parent top n s t x e u = record {
 
 -- so it stands under one at most of those that are as many steps below
 one-over : (parent : ℕ → ℕ) (top n s t x : ℕ) → IsUnder parent top n s x → IsUnder parent top n t x → s ≡ t
-one-over parent top n s t x u v =
-    let same = one-depth parent top u.depth v.depth x u.at v.at in
-    let sum = u.sum in
-    let other = v.sum in
-    let steps : u.steps ≡ v.steps = omega arith in
-    sym u.leads ∙ ap (λ d. up parent d x) steps ∙ v.leads
+one-over parent top n s t x u v = search (rules, one-depth)
 
 -- and not above itself
 not-over : (parent : ℕ → ℕ) (top n s t : ℕ) → IsAt parent top n s → IsUnder parent top (suc n) t s → ⊥
-not-over parent top n s t at u =
-    let same = one-depth parent top n u.depth s at u.at in
-    let sum = u.sum in
-    omega arith
+not-over parent top n s t at u = search (rules, one-depth)
 
 -- The elements at these sources of one element are so many steps below the device, unless one is the device itself.
 abbrev AreBelow : (ℕ → ℕ) → ℕ → ℕ → List ℕ → Type 0
@@ -167,19 +144,16 @@ below-all parent top n s [] at leads = tt
 below-all parent top n s (t ∷ more) at leads = (subst (IsAt parent top n) (sym leads.0) at, below-all parent top n s more at leads.1)
 
 pub device-queue : (c : Class) → is_device c ≡ true → is_queue c ≡ false
-device-queue (class.queue kind capacity) e = absurd (false≢true e)
-device-queue c e = refl
+device-queue c e = search (rules, false≢true)
 
 -- the tree of the device that stands at the top
 module _ (plan : List Planned) (parent : ℕ → ℕ) (top : ℕ) (root_of : Planned) (h : HasParents plan parent) (top_at : slice_get plan top ≡ Some root_of) (top_is : is_device root_of.class ≡ true) where
   -- the sources of a scheduler lead to it, and are distinct
   inner-leads : (over : Scheduler) (s : ℕ) (o : Option Planned) → slice_get plan s ≡ o → IsNode over o → AllByRecursion (λ t. parent t ≡ s) (sources_at o)
-  inner-leads over s None at is = absurd is
-  inner-leads over s (Some e) at is = h.leads s e at (node-queue e.class over (length e.sources) is)
+  inner-leads over s o at is = search (rules, node-queue)
 
   inner-once : (over : Scheduler) (s : ℕ) (o : Option Planned) → slice_get plan s ≡ o → IsNode over o → Distinct (sources_at o)
-  inner-once over s None at is = absurd is
-  inner-once over s (Some e) at is = test-distinct e.sources (h.once s e at (node-queue e.class over (length e.sources) is))
+  inner-once over s o at is = search (rules, test-distinct, node-queue)
 
   stands-below : (s : ℕ) → Stands (slice_get plan s) → s ≢ top
   stands-below s stands same = false≢true (sym (subst Stands top_at (subst (λ d. Stands (slice_get plan d)) same stands)) ∙ top_is)

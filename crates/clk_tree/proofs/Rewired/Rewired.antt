@@ -1,6 +1,6 @@
 -- A plan that is written in canonical form and read again: nothing is wrong with its names, its elements are the same in the same order, and
 -- its connections are the same in another order.
-use Rattle.std.proofs.Common.{◌≡◌, ℕ, List, map, Option, None, ap₂, ◌∙◌}
+use Rattle.std.proofs.Common.{◌≡◌, ℕ, List, map, Option, None, ◌∙◌, rules}
 use Rattle.std.specs.Option.{option_or, option_map}
 use Rattle.std.specs.List.{AllByRecursion, flat_map}
 use Rattle.clk_packet.specs.declared.fault.Fault.TheVariants.{NameTwice, UnknownClass, BadArgument, UnknownName}
@@ -11,7 +11,7 @@ use Rattle.clk_syntax.specs.Declarations.{name_twice, unknown_class, bad_argumen
 use Rattle.clk_syntax.specs.Faults.{nodes_of, links_of, naming_fault, fault_of}
 use Rattle.clk_tree.specs.Plan.{all_known, plan_of}
 use Rattle.clk_tree.proofs.Canonical.CanonicalSource.{bare_element, bare_wire, element_line, wire_lines, IsReadBack}
-use Rattle.clk_tree.proofs.Rewired.SameWiring.{Occurs, IsRewired, AreSameNodes}
+use Rattle.clk_tree.proofs.Rewired.SameWiring.{IsRewired, AreSameNodes}
 use Rattle.clk_tree.proofs.Rewired.RewiredNames.{same-known, same-nodes, named-again}
 use Rattle.clk_tree.proofs.Rewired.RewiredLinks.{plan_links, plan-lines, AreAlike, joined-links, none-unknown, alike-came, alike-occurs, alike-once}
 use Rattle.clk_tree.proofs.Rewired.RewiredCame.{plan-came, plan-ends, plan-once}
@@ -27,13 +27,7 @@ pub record IsDeclaredAgain (elements again : List Element) (wires joined : List 
 -- connections that are those of a plan, one after another
 rewired : (elements : List Element) (wires : List Wire) (others : List Link) → fault_of elements wires ≡ None → AreAlike others (plan_links 0 (plan_of elements wires))
     → IsRewired (links_of elements wires) others
-rewired elements wires others none alike = record {
-  kept =
-      all-weaker (λ c. Occurs c (plan_links 0 (plan_of elements wires))) (λ c. Occurs c others) (links_of elements wires)
-      (λ c among. alike-occurs c others (plan_links 0 (plan_of elements wires)) alike among) (plan-kept elements wires none);
-  came = alike-came others (plan_links 0 (plan_of elements wires)) (links_of elements wires) alike (plan-came elements wires none);
-  once = alike-once others (plan_links 0 (plan_of elements wires)) alike (plan-once elements wires none);
-}
+rewired elements wires others none alike = search (rules, all-weaker, alike-occurs, plan-kept, alike-came, plan-came, alike-once, plan-once)
 
 pub declared-again : (elements : List Element) (wires : List Wire) → fault_of elements wires ≡ None → (again : List Element) (joined : List Wire) → AllByRecursion IsReadBack (plan_of elements wires)
     → map bare_element again ≡ map element_line (plan_of elements wires) → map bare_wire joined ≡ flat_map (wire_lines (plan_of elements wires)) (plan_of elements wires)
@@ -52,6 +46,4 @@ declared-again elements wires none again joined back lines wired =
   where
     no-fault : (a b c d : Option ℕ) → a ≡ None → b ≡ None → c ≡ None → d ≡ None
         → option_or (option_map NameTwice a) (option_or (option_map UnknownClass b) (option_or (option_map BadArgument c) (option_map UnknownName d))) ≡ None
-    no-fault a b c d p q r s =
-        ap₂ (λ x y. option_or (option_map NameTwice x) (option_or (option_map UnknownClass y) (option_or (option_map BadArgument c) (option_map UnknownName d)))) p q
-        ∙ ap₂ (λ x y. option_or (option_map BadArgument x) (option_map UnknownName y)) r s
+    no-fault a b c d p q r s = search (rules, named-again, joined-links, plan-ends, plan-lines, none-unknown, same-known, same-nodes, rewired)

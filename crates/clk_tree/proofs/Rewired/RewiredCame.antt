@@ -1,5 +1,6 @@
 -- In a plan without a fault each connection to an element, by its sources, is one of the text, and each output stands once among the sources.
-use Rattle.std.proofs.Common.{◌≡◌, ℕ, ◌+◌, ◌<◌, ◌==◌, ◌&&◌, ◌||◌, zero, suc, Bool, true, false, if◌then◌else◌, List, [], ◌∷◌, ◌++◌, length, map, filter, Option, Some, None, slice_get, inl, inr, refl, sym, ap, subst, ◌∙◌, arith, eqb-true, unwrap_or}
+use Rattle.std.proofs.lemmas.Grind.{common_steps}
+use Rattle.std.proofs.Common.{◌≡◌, ℕ, ◌+◌, ◌<◌, ◌==◌, ◌||◌, zero, suc, Bool, true, false, List, [], ◌∷◌, ◌++◌, length, map, filter, Option, Some, None, slice_get, inl, inr, refl, sym, ap, subst, ◌∙◌, arith, eqb-true, unwrap_or, rules}
 use Rattle.std.specs.List.{AllByRecursion, range_with_len}
 use Rattle.std.proofs.lemmas.Bool.{and_parts, false_from_ne_true, cases_Bool, false≢true}
 use Rattle.std.proofs.lemmas.Option.{same_Some}
@@ -29,12 +30,7 @@ use Rattle.clk_tree.proofs.Rewired.RewiredLinks.{source_link, input_links, class
 
 -- what the ports of a connection are that is right
 output-zero : (o : Option Role) (output : ℕ) → has_output o output ≡ true → output ≡ 0
-output-zero None output has = absurd (cc)
-output-zero (Some role.Source) output has = eqb-true output 0 has
-output-zero (Some role.Queue) output has = eqb-true output 0 has
-output-zero (Some role.Scheduler) output has = eqb-true output 0 has
-output-zero (Some (role.SchedulerOf n)) output has = eqb-true output 0 has
-output-zero (Some role.Device) output has = absurd (cc)
+output-zero o output has = search (rules, eqb-true)
 
 pub right-output : (nodes : List Node) (c : Link) → IsRight nodes c → c.output ≡ 0
 right-output nodes c right = output-zero (role_at nodes c.from) c.output right.output
@@ -46,28 +42,13 @@ queue-input nodes c right queue = eqb-true c.input 0 (ap (λ o. has_input o c.in
 input-occurs : (nodes : List Node) (links : List Link) (i input : ℕ) → AllByRecursion (IsRight nodes) links → uses_input i input links ≡ true
     → Occurs (source_link i input (source_at links i input)) links
 input-occurs nodes [] i input right uses = absurd (cc)
-input-occurs nodes (c ∷ links) i input right uses = by_test ((c.to == i) && (c.input == input)) refl uses (input-occurs nodes links i input right.1)
-  where
-    by_test : (b : Bool) → ((c.to == i) && (c.input == input)) ≡ b → (b || uses_input i input links) ≡ true
-        → (uses_input i input links ≡ true → Occurs (source_link i input (source_at links i input)) links)
-        → Occurs (source_link i input (if b then c.from else source_at links i input)) (c ∷ links)
-    by_test true is e later =
-        let tests = and_parts (c.to == i) (c.input == input) is in
-        inl (record { from = refl; output = sym (right-output nodes c right.0); input = sym (eqb-true c.input input tests.1); to = sym (eqb-true c.to i tests.0) })
-    by_test false is e later = inr (later e)
+input-occurs nodes (c ∷ links) i input right uses = search (rules, and_parts, right-output, eqb-true, (input-occurs nodes links i))
 
 -- and so is the first connection from an element that leads to a queue
 target-occurs : (nodes : List Node) (links : List Link) (i s : ℕ) → AllByRecursion (IsRight nodes) links → role_at nodes i ≡ Some role.Queue → target s links ≡ Some i
     → Occurs (source_link i 0 s) links
 target-occurs nodes [] i s right queue leads = absurd (cc)
-target-occurs nodes (c ∷ links) i s right queue leads = by_test (c.from == s) refl leads (target-occurs nodes links i s right.1 queue)
-  where
-    by_test : (b : Bool) → (c.from == s) ≡ b → (if b then Some c.to else target s links) ≡ Some i → (target s links ≡ Some i → Occurs (source_link i 0 s) links)
-        → Occurs (source_link i 0 s) (c ∷ links)
-    by_test true is e later =
-        let to : c.to ≡ i = same_Some c.to i e in
-        inl (record { from = sym (eqb-true c.from s is); output = sym (right-output nodes c right.0); input = sym (queue-input nodes c right.0 (ap (role_at nodes) to ∙ queue)); to = sym to })
-    by_test false is e later = inr (later e)
+target-occurs nodes (c ∷ links) i s right queue leads = search (rules, same_Some, eqb-true, right-output, queue-input, (target-occurs nodes links i s right.1 queue))
 
 target-next : (links : List Link) (s i : ℕ) → target s links ≡ Some i → next links s ≡ i
 target-next links s i leads = ap (λ o. unwrap_or o s) leads
@@ -92,12 +73,7 @@ inputs-all P i f a (suc n) each = (each a (omega arith), inputs-all P i f (a + 1
 
 sent-all : (P : Link → Type 0) (i : ℕ) (p : ℕ → Bool) (xs : List ℕ) → ((s : ℕ) → p s ≡ true → P (source_link i 0 s)) → AllByRecursion P (map (source_link i 0) (filter p xs))
 sent-all P i p [] each = tt
-sent-all P i p (x ∷ xs) each = by_test (p x) (each x) (sent-all P i p xs each)
-  where
-    by_test : (b : Bool) → (b ≡ true → P (source_link i 0 x)) → AllByRecursion P (map (source_link i 0) (filter p xs))
-        → AllByRecursion P (map (source_link i 0) (if b then x ∷ filter p xs else filter p xs))
-    by_test true here later = (here refl, later)
-    by_test false here later = later
+sent-all P i p (x ∷ xs) each = search (rules, (sent-all P i p xs each))
 
 -- each connection to an element is one of the text
 element-came : (elements : List Element) (wires : List Wire) → fault_of elements wires ≡ None → (i : ℕ) (e : Planned) → slice_get (plan_of elements wires) i ≡ Some e
@@ -123,9 +99,7 @@ element-came elements wires none i e at =
         (input-used i n k (links_of elements wires) (sound.connected i (role_of e.class) h.role).inputs (omega arith))))
 
 pub plan-came : (elements : List Element) (wires : List Wire) → fault_of elements wires ≡ None → AllByRecursion (λ c. Occurs c (links_of elements wires)) (plan_links 0 (plan_of elements wires))
-plan-came elements wires none =
-    plan-all (λ c. Occurs c (links_of elements wires)) 0 (plan_of elements wires)
-    (each-element (λ j e. AllByRecursion (λ c. Occurs c (links_of elements wires)) (class_links j e.sources e.class)) (plan_of elements wires) (element-came elements wires none))
+plan-came elements wires none = search (rules, plan-all, each-element, element-came)
 
 -- Both ends of a connection that is right are elements of the plan.
 end-there : (elements : List Element) (wires : List Wire) (i : ℕ) (o : Option Role) → role_at (nodes_of elements) i ≡ o → (o ≡ None → ⊥) → HasElement (plan_of elements wires) i
@@ -190,12 +164,7 @@ sent-from P i [] all = tt
 sent-from P i (x ∷ xs) all = (all.0, sent-from P i xs all.1)
 
 unused-append : (s : ℕ) (xs ys : List Link) → uses_output s xs ≡ false → uses_output s ys ≡ false → uses_output s (xs ++ ys) ≡ false
-unused-append s [] ys a b = b
-unused-append s (c ∷ xs) ys a b = by_test (c.from == s) a (λ later. unused-append s xs ys later b)
-  where
-    by_test : (t : Bool) → (t || uses_output s xs) ≡ false → (uses_output s xs ≡ false → uses_output s (xs ++ ys) ≡ false) → (t || uses_output s (xs ++ ys)) ≡ false
-    by_test true e later = e
-    by_test false e later = later e
+unused-append s xs ys a b = search (rules, common_steps)
 
 once-append : (xs ys : List Link) → Once xs → Once ys → AllByRecursion (λ (c : Link). uses_output c.from ys ≡ false) xs → Once (xs ++ ys)
 once-append [] ys a b apart = b
@@ -224,16 +193,7 @@ not-later links i s (e ∷ more) each below =
 
 once-from : (links : List Link) (i : ℕ) (plan : List Planned) → Each (LeadTo links) i plan → Once (plan_links i plan)
 once-from links i [] each = tt
-once-from links i (e ∷ more) each =
-    once-append (class_links i e.sources e.class) (plan_links (i + 1) more)
-    (class-links Once i e.sources e.class (λ is. sent-once i e.sources each.0.distinct) (λ is. inputs-once i 0 e.sources each.0.distinct))
-    (once-from links (i + 1) more each.1)
-    (class-links (AllByRecursion (λ (c : Link). uses_output c.from (plan_links (i + 1) more) ≡ false)) i e.sources e.class
-    (λ is. sent-from (λ s. uses_output s (plan_links (i + 1) more) ≡ false) i e.sources apart)
-    (λ is. inputs-from (λ s. uses_output s (plan_links (i + 1) more) ≡ false) i 0 e.sources apart))
-  where
-    apart : AllByRecursion (λ s. uses_output s (plan_links (i + 1) more) ≡ false) e.sources
-    apart = all-weaker (λ s. next links s ≡ i) (λ s. uses_output s (plan_links (i + 1) more) ≡ false) e.sources (λ s to. not-later links (i + 1) s more each.1 (omega arith)) each.0.all
+once-from links i (e ∷ more) each = search (rules, once-append, class-links, sent-once, inputs-once, sent-from, inputs-from, all-weaker, not-later, (once-from links (i + 1) more each.1))
 
 element-leads : (elements : List Element) (wires : List Wire) → fault_of elements wires ≡ None → (i : ℕ) (e : Planned) → slice_get (plan_of elements wires) i ≡ Some e
     → LeadTo (links_of elements wires) i e

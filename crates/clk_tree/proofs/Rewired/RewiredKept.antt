@@ -1,5 +1,7 @@
 -- Each connection of a text without a fault is one to an element of its plan, by the sources of that element.
-use Rattle.std.proofs.Common.{◌≡◌, ℕ, ◌+◌, ◌<◌, ◌≤◌, ◌==◌, ◌&&◌, ◌||◌, nat_lt, nat_le, max, zero, suc, Bool, true, false, not, if◌then◌else◌, List, [], ◌∷◌, ◌++◌, length, map, Some, None, slice_get, inl, inr, refl, sym, ap, ap₂, subst, ◌∙◌, arith, eqb-true, eq-eqb, zero-add, unwrap_or}
+use Rattle.std.proofs.lemmas.Bool.Decides.{nat_tests}
+use Rattle.std.proofs.lemmas.Grind.{common_steps, elements}
+use Rattle.std.proofs.Common.{◌≡◌, ℕ, ◌+◌, ◌<◌, ◌≤◌, ◌==◌, ◌&&◌, ◌||◌, zero, suc, Bool, true, false, not, if◌then◌else◌, List, [], ◌∷◌, ◌++◌, length, map, Some, None, slice_get, inl, inr, refl, sym, ap, ap₂, subst, ◌∙◌, arith, eqb-true, eq-eqb, zero-add, rules}
 use Rattle.std.specs.List.{AllByRecursion, range_with_len}
 use Rattle.std.proofs.lemmas.Bool.{and_parts, or_parts, or_cases, or_left, or_right, cases_eq, ltb-true}
 use Rattle.std.proofs.lemmas.Option.{same_Some, slice_get_within}
@@ -7,13 +9,11 @@ use Rattle.clk_sched.proofs.Callers.Lists.{all-weaker}
 use Rattle.clk_packet.specs.Lists.{stands_in}
 use Rattle.clk_sched.specs.Tree.{is_number}
 use Rattle.clk_syntax.specs.declared.naming.class.Role.{Role}
-use Rattle.clk_syntax.specs.declared.naming.class.Role.TheVariants as role
 use Rattle.clk_syntax.specs.declared.node.Node.{Node}
 use Rattle.clk_syntax.specs.declared.node.Link.{Link}
 use Rattle.clk_syntax.specs.Source.{Element, Wire}
 use Rattle.clk_syntax.specs.Classes.{role_of}
 use Rattle.clk_syntax.specs.Declarations.{first_after, fails_at}
-use Rattle.clk_syntax.specs.Limits.{most_port}
 use Rattle.clk_syntax.specs.Ports.{role_at, is_queue, has_input, uses_output, uses_input, inputs_used, inputs_of, target, next}
 use Rattle.clk_syntax.specs.Faults.{nodes_of, links_of, fault_of}
 use Rattle.clk_syntax.proofs.Callers.Graphs.{used_again}
@@ -34,8 +34,7 @@ abbrev pulls_again : List Node → List Link → Link → Bool
 pulls_again nodes earlier c = not (is_queue (role_at nodes c.to)) && uses_input c.to c.input earlier
 
 not-both : (b used more : Bool) → (not b && (used || more)) ≡ false → b ≡ false → (used ≡ false) × (more ≡ false)
-not-both true used more e pull = absurd (cc)
-not-both false used more e pull = or_parts used more e
+not-both b used more e pull = search (rules, or_parts)
 
 unpulled-after : (nodes : List Node) (earlier links : List Link) → first_after (used_again nodes) earlier links ≡ None → AllByRecursion (λ c. pulls_again nodes earlier c ≡ false) links
 unpulled-after nodes earlier [] e = tt
@@ -48,8 +47,7 @@ unpulled-after nodes earlier (c ∷ links) e =
     )
   where
     fewer : (b used more : Bool) → (not b && (used || more)) ≡ false → (not b && more) ≡ false
-    fewer true used more e = refl
-    fewer false used more e = (or_parts used more e).1
+    fewer b used more e = search (rules, neither, fails-not, all-weaker, or_parts)
 
 -- so a connection to an element that is no queue is the first to its input
 abbrev IsFirst : List Node → List Link → Link → Type 0
@@ -67,41 +65,17 @@ all-first nodes earlier (c ∷ links) e =
     )
 
 -- and its input is one of those that are used
-used-more : (c d : Link) (links : List Link) → d.input < inputs_used d.to links → d.input < inputs_used d.to (c ∷ links)
-used-more c d links below = by_test (c.to == d.to)
-  where
-    by_test : (b : Bool) → d.input < (if b then max (c.input + 1) (inputs_used d.to links) else inputs_used d.to links)
-    by_test true = omega arith
-    by_test false = below
-
 all-used : (links : List Link) → AllByRecursion (λ (c : Link). c.input < inputs_used c.to links) links
 all-used [] = tt
-all-used (c ∷ links) = (
-  first (c.to == c.to) (eq-eqb c.to c.to refl),
-  all-weaker (λ (d : Link). d.input < inputs_used d.to links) (λ (d : Link). d.input < inputs_used d.to (c ∷ links)) links (λ d below. used-more c d links below) (all-used links),
-)
-  where
-    first : (b : Bool) → b ≡ true → c.input < (if b then max (c.input + 1) (inputs_used c.to links) else inputs_used c.to links)
-    first true e = omega arith
-    first false e = absurd (cc)
+all-used (c ∷ links) = search (rules, eq-eqb, all-weaker, (all-used links))
 
 -- the output of a connection is used, and leads where the element does
 all-outputs : (links : List Link) → AllByRecursion (λ (c : Link). uses_output c.from links ≡ true) links
-all-outputs [] = tt
-all-outputs (c ∷ links) = (
-  or_left (c.from == c.from) (uses_output c.from links) (eq-eqb c.from c.from refl),
-  all-weaker (λ (d : Link). uses_output d.from links ≡ true) (λ (d : Link). uses_output d.from (c ∷ links) ≡ true) links
-      (λ d used. or_right (c.from == d.from) (uses_output d.from links) used) (all-outputs links),
-)
+all-outputs links = grind (arith, common_steps, elements, nat_tests, or_left, eq-eqb, all-weaker, or_right)
 
 next-target : (links : List Link) (s : ℕ) → uses_output s links ≡ true → target s links ≡ Some (next links s)
 next-target [] s used = absurd (cc)
-next-target (c ∷ links) s used = by_test (c.from == s) used (next-target links s)
-  where
-    by_test : (b : Bool) → (b || uses_output s links) ≡ true → (uses_output s links ≡ true → target s links ≡ Some (next links s))
-        → (if b then Some c.to else target s links) ≡ Some (unwrap_or (if b then Some c.to else target s links) s)
-    by_test true e later = refl
-    by_test false e later = later e
+next-target (c ∷ links) s used = search (rules, (next-target links s))
 
 -- What is known of each connection of a text without a fault.
 record IsSettled (nodes : List Node) (links : List Link) (c : Link) : Type 0 where
@@ -122,11 +96,7 @@ all-settled nodes links sound =
 
 -- an input that an element has, and that a connection uses, is one of its inputs
 input-within : (r : Role) (i input : ℕ) (links : List Link) → has_input (Some r) input ≡ true → is_queue (Some r) ≡ false → input < inputs_used i links → input < inputs_of i r links
-input-within role.Source i input links has pull used = absurd (cc)
-input-within role.Queue i input links has pull used = absurd (cc)
-input-within role.Scheduler i input links has pull used = omega arith
-input-within (role.SchedulerOf n) i input links has pull used = ltb-true input n (and_parts (nat_lt input n) (nat_le input most_port) has).0
-input-within role.Device i input links has pull used = let zeroth : input ≡ 0 = eqb-true input 0 has in omega arith
+input-within r i input links has pull used = search (rules, ltb-true, and_parts, eqb-true)
 
 -- where a connection stands among those to an element
 inputs-have : (i : ℕ) (f : ℕ → ℕ) (a n k : ℕ) (c : Link) → IsAlike c (source_link i k (f k)) → a ≤ k → k < a + n → Occurs c (input_links i a (map f (range_with_len a n)))
@@ -154,10 +124,7 @@ occurs-right c (x ∷ xs) ys among = inr (occurs-right c xs ys among)
 
 plan-has : (c : Link) (i : ℕ) (plan : List Planned) (j : ℕ) (e : Planned) → slice_get plan j ≡ Some e → Occurs c (class_links (i + j) e.sources e.class) → Occurs c (plan_links i plan)
 plan-has c i [] j e at among = absurd (cc)
-plan-has c i (p ∷ plan) zero e at among =
-    let place : i + 0 ≡ i = omega arith in
-    occurs-left c (class_links i p.sources p.class) (plan_links (i + 1) plan)
-    (subst (λ (q : Planned). Occurs c (class_links i q.sources q.class)) (sym (same_Some p e at)) (subst (λ n. Occurs c (class_links n e.sources e.class)) place among))
+plan-has c i (p ∷ plan) zero e at among = search (rules, occurs-left, same_Some, occurs-right, at-more)
 plan-has c i (p ∷ plan) (suc j) e at among =
     occurs-right c (class_links i p.sources p.class) (plan_links (i + 1) plan)
     (plan-has c (i + 1) plan j e at (subst (λ n. Occurs c (class_links n e.sources e.class)) (sym (at-more i j)) among))
@@ -190,6 +157,4 @@ settled-kept elements wires c h =
         (record { from = sym (h.first (ap is_queue p.role ∙ p.pull)); output = right-output (nodes_of elements) c h.right; input = refl; to = refl }) (omega arith) (omega arith))
 
 pub plan-kept : (elements : List Element) (wires : List Wire) → fault_of elements wires ≡ None → AllByRecursion (λ c. Occurs c (plan_links 0 (plan_of elements wires))) (links_of elements wires)
-plan-kept elements wires none =
-    all-weaker (IsSettled (nodes_of elements) (links_of elements wires)) (λ c. Occurs c (plan_links 0 (plan_of elements wires))) (links_of elements wires)
-    (settled-kept elements wires) (all-settled (nodes_of elements) (links_of elements wires) (sound-nodes elements wires none))
+plan-kept elements wires none = search (rules, all-weaker, settled-kept, all-settled, sound-nodes)

@@ -1,5 +1,5 @@
 -- The connections that a plan has by the sources of its elements, and those that its canonical lines make.
-use Rattle.std.proofs.Common.{◌≡◌, ℕ, ◌+◌, ◌==◌, ◌||◌, not, zero, suc, true, false, List, [], ◌∷◌, ◌++◌, map, Some, None, slice_get, inl, inr, refl, sym, ap, ap₂, subst, ◌∙◌, arith, zero-add}
+use Rattle.std.proofs.Common.{◌≡◌, ℕ, ◌+◌, ◌==◌, ◌||◌, not, zero, suc, true, false, List, [], ◌∷◌, ◌++◌, map, Some, None, slice_get, inl, inr, refl, sym, ap, ap₂, subst, ◌∙◌, arith, zero-add, rules}
 use Rattle.std.specs.Bool.{⊤}
 use Rattle.std.specs.Option.{option_or}
 use Rattle.std.specs.List.{AllByRecursion, flat_map}
@@ -15,7 +15,7 @@ use Rattle.clk_syntax.specs.Faults.{place_of, links_of, port_kept}
 use Rattle.clk_tree.specs.Plan.{Planned}
 use Rattle.clk_tree.specs.PlanTree as tree
 use Rattle.clk_tree.specs.Canonical.{name_of}
-use Rattle.clk_tree.proofs.Canonical.CanonicalSource.{BareElement, BareWire, bare_element, bare_wire, element_line, wire_line, input_lines, class_lines, wire_lines}
+use Rattle.clk_tree.proofs.Canonical.CanonicalSource.{BareWire, bare_element, bare_wire, element_line, wire_line, input_lines, class_lines, wire_lines}
 use Rattle.clk_tree.proofs.Distinct.DistinctPlans.{Once}
 use Rattle.clk_tree.proofs.Rewired.SameWiring.{IsAlike, Occurs}
 use Rattle.clk_tree.proofs.Sound.SoundChecks.{at-more}
@@ -41,8 +41,7 @@ plan_links i (e ∷ more) = class_links i e.sources e.class ++ plan_links (i + 1
 -- what holds of those of a queue, and of those of any other element
 pub class-links : (P : List Link → Type 0) (i : ℕ) (sources : List ℕ) (class : Class) → (tree.is_queue class ≡ true → P (map (source_link i 0) sources))
     → (tree.is_queue class ≡ false → P (input_links i 0 sources)) → P (class_links i sources class)
-class-links P i sources (queue kind capacity) push pull = push refl
-class-links P i sources class push pull = pull refl
+class-links P i sources class push pull = search rules
 
 -- what holds of each element of a plan, and of its place
 abbrev pub Each : (ℕ → Planned → Type 0) → ℕ → List Planned → Type 0
@@ -81,14 +80,11 @@ sent-lines plan i name (s ∷ more) is = ap₂ (λ w ws. w ∷ ws) (to-named pla
 
 class-lines : (plan : List Planned) (i : ℕ) (name : List ℕ) (sources : List ℕ) (class : Class) → name_of (slice_get plan i) ≡ name
     → class_lines plan name sources class ≡ map (line_of plan) (class_links i sources class)
-class-lines plan i name sources (queue kind capacity) is = sent-lines plan i name sources is
-class-lines plan i name sources class is = input-lines plan i name 0 sources is
+class-lines plan i name sources class is = search (rules, sent-lines, input-lines)
 
 lines-from : (plan : List Planned) (i : ℕ) (rest : List Planned) → Each (λ j e. name_of (slice_get plan j) ≡ e.name) i rest → flat_map (wire_lines plan) rest ≡ map (line_of plan) (plan_links i rest)
 lines-from plan i [] each = refl
-lines-from plan i (e ∷ more) each =
-    ap₂ (λ ws vs. ws ++ vs) (class-lines plan i e.name e.sources e.class each.0) (lines-from plan (i + 1) more each.1)
-    ∙ sym (map-append (line_of plan) (class_links i e.sources e.class) (plan_links (i + 1) more))
+lines-from plan i (e ∷ more) each = search (rules, class-lines, map-append, (lines-from plan (i + 1) more each.1))
 
 pub plan-lines : (plan : List Planned) → flat_map (wire_lines plan) plan ≡ map (line_of plan) (plan_links 0 plan)
 plan-lines plan = lines-from plan 0 plan (each-element (λ j e. name_of (slice_get plan j) ≡ e.name) plan (λ j e at. ap name_of at))
@@ -102,9 +98,7 @@ record IsLineAt (again : List Element) (s : ℕ) (name : List ℕ) : Type 0 wher
 line-at : (again : List Element) (plan : List Planned) (s : ℕ) (e : Planned) → map bare_element again ≡ map element_line plan → slice_get plan s ≡ Some e → IsLineAt again s e.name
 line-at again [] s e lines at = absurd (cc)
 line-at [] (p ∷ plan) s e lines at = absurd (cc)
-line-at (f ∷ again) (p ∷ plan) zero e lines at =
-    let same : bare_element f ≡ element_line p = cc in
-    record { element = f; at = refl; is = ap (λ (b : BareElement). b.name) same ∙ ap (λ (x : Planned). x.name) (same_Some p e at) }
+line-at (f ∷ again) (p ∷ plan) zero e lines at = search (rules, same_Some)
 line-at (f ∷ again) (p ∷ plan) (suc s) e lines at =
     let rest : map bare_element again ≡ map element_line plan = cc in
     let h = line-at again plan s e rest at in
@@ -178,9 +172,7 @@ joined-links again plan (w ∷ joined) (c ∷ links) lines once ends same =
 known-after : (again : List Element) (earlier joined : List Wire) → AllByRecursion (λ (w : Wire). (unknown_end again w.from ≡ None) × (unknown_end again w.to ≡ None)) joined
     → first_after (λ before (w : Wire). option_or (unknown_end again w.from) (unknown_end again w.to)) earlier joined ≡ None
 known-after again earlier [] known = refl
-known-after again earlier (w ∷ joined) known =
-    ap₂ (λ a b. option_or (option_or a b) (first_after (λ before (v : Wire). option_or (unknown_end again v.from) (unknown_end again v.to)) (w ∷ earlier) joined)) known.0.0 known.0.1
-    ∙ known-after again (w ∷ earlier) joined known.1
+known-after again earlier (w ∷ joined) known = search (rules, (known-after again (w ∷ earlier) joined known.1))
 
 pub none-unknown : (again : List Element) (joined : List Wire) (links : List Link) → IsJoined again joined links → unknown_name again joined ≡ None
 none-unknown again joined links h = known-after again [] joined h.known
@@ -220,5 +212,4 @@ pub alike-once : (others links : List Link) → AreAlike others links → Once l
 alike-once [] [] alike once = tt
 alike-once [] (c ∷ links) alike once = absurd alike
 alike-once (d ∷ others) [] alike once = absurd alike
-alike-once (d ∷ others) (c ∷ links) alike once =
-    (alike-uses d.from others links alike.1 ∙ ap (λ s. uses_output s links) alike.0.from ∙ once.0, alike-once others links alike.1 once.1)
+alike-once (d ∷ others) (c ∷ links) alike once = search (rules, alike-uses, (alike-once others links alike.1 once.1))

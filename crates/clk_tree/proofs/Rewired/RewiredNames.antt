@@ -1,5 +1,5 @@
 -- Elements that are declared again by the lines of their plan: their names and classes are the same, so nothing is wrong with them.
-use Rattle.std.proofs.Common.{◌≡◌, ℕ, ◌+◌, zero, suc, Bool, true, false, cond, not, ◌||◌, List, [], ◌∷◌, length, map, slice_get, option_map, Option, Some, None, refl, sym, ap, ap₂, subst, ◌∙◌, arith}
+use Rattle.std.proofs.Common.{◌≡◌, ℕ, ◌+◌, zero, suc, Bool, true, false, cond, not, ◌||◌, List, [], ◌∷◌, length, map, slice_get, option_map, Option, Some, None, refl, sym, ap, ap₂, ◌∙◌, rules}
 use Rattle.std.specs.Bool.{⊤}
 use Rattle.std.specs.List.{AllByRecursion, cons_option}
 use Rattle.std.specs.Str.{bytes_eq}
@@ -8,18 +8,17 @@ use Rattle.std.proofs.lemmas.Bool.{both_ways, or_left, or_right}
 use Rattle.std.proofs.lemmas.Option.{same_Some}
 use Rattle.std.proofs.lemmas.Slice.Eq.{bytes_eq-Decides}
 use Rattle.clk_packet.specs.declared.fault.Fault.TheVariants.{NameTwice, UnknownClass, BadArgument}
-use Rattle.clk_syntax.specs.declared.naming.class.ClassName.{ClassName}
 use Rattle.clk_syntax.specs.declared.naming.class.Role.{Role}
 use Rattle.clk_syntax.specs.declared.node.Link.{Link}
-use Rattle.clk_syntax.specs.Classes.{Class, sender, class_named, role_of}
+use Rattle.clk_syntax.specs.Classes.{Class, role_of}
 use Rattle.clk_syntax.specs.Source.{Element, Wire}
-use Rattle.clk_syntax.specs.Declarations.{first_after, fails_at, is_declared, name_twice, is_missing, unknown_class, class_if, class_of, is_sender, is_bad_after, bad_argument}
+use Rattle.clk_syntax.specs.Declarations.{first_after, fails_at, is_declared, name_twice, unknown_class, class_of, is_sender, is_bad_after, bad_argument}
 use Rattle.clk_syntax.specs.Faults.{node, nodes_of, place_of, naming_fault, nodes_fault, links_of, fault_of}
 use Rattle.clk_syntax.specs.inside.Naming.{bad_at}
 use Rattle.clk_syntax.proofs.Callers.Elements.{among, unknown_in, unknown_class-in}
 use Rattle.clk_syntax.proofs.Callers.Checks.{neither, fails-not}
-use Rattle.clk_tree.specs.Plan.{Known, all_known, planned_at, planned_from, plan_of}
-use Rattle.clk_tree.proofs.Canonical.CanonicalSource.{bare_element, BareElement, element_line, IsReadBack}
+use Rattle.clk_tree.specs.Plan.{Known, all_known, planned_from, plan_of}
+use Rattle.clk_tree.proofs.Canonical.CanonicalSource.{bare_element, element_line, IsReadBack}
 use Rattle.clk_tree.proofs.Rewired.SameWiring.{role_in, AreSameNodes}
 use Rattle.clk_tree.proofs.Sound.SoundNodes.{known_as}
 use Rattle.clk_tree.proofs.Sound.SoundPaths.{none-of}
@@ -50,8 +49,7 @@ all-classes earlier (e ∷ more) none =
     (has (class_of e) refl (fails-not (is_bad_after earlier (class_of e)) e.class.place parts.0), all-classes (e ∷ earlier) more parts.1)
   where
     has : (o : Option Class) → class_of e ≡ o → is_bad_after earlier o ≡ false → HasClass e
-    has None is good = absurd (cc)
-    has (Some class) is good = (class, is)
+    has o is good = search (rules, neither, fails-not)
 
 -- the same elements from the lines of their plan
 same-from : (count : ℕ) (links : List Link) (i : ℕ) (elements again : List Element) → AllByRecursion HasClass elements
@@ -67,28 +65,14 @@ same-from count links i (e ∷ es) again classes back lines =
         → ((fs : List Element) → AllByRecursion IsReadBack (planned_from count links (i + 1) (all_known es)) → map bare_element fs ≡ map element_line (planned_from count links (i + 1) (all_known es))
         → AreSame es fs)
         → AreSame (e ∷ es) again
-    by_class again None is back lines later = absurd (cc)
-    by_class [] (Some class) is back lines later = absurd (cc)
-    by_class (f ∷ fs) (Some class) is back lines later =
-        let one : bare_element f ≡ element_line (planned_at count links i (known_as e class)) = cc in
-        let rest : map bare_element fs ≡ map element_line (planned_from count links (i + 1) (all_known es)) = cc in
-        let same : classes.0.0 ≡ class = cc in (
-          record {
-            name = ap (λ (b : BareElement). b.name) one;
-            class = class;
-            before = classes.0.1 ∙ ap Some same;
-            after = ap (λ (b : BareElement). class_if b.arguments (class_named b.class)) one ∙ back.0;
-          },
-          later fs back.1 rest,
-        )
+    by_class again o is back lines later = search rules
 
 -- the same classes and names are known
 pub same-known : (elements again : List Element) → AreSame elements again → all_known again ≡ all_known elements
 same-known [] [] same = refl
 same-known [] (f ∷ fs) same = absurd same
 same-known (e ∷ es) [] same = absurd same
-same-known (e ∷ es) (f ∷ fs) same =
-    ap₂ cons_option (ap₂ (λ name o. option_map (λ class. record { name = name; class = class }) o) same.0.name (same.0.after ∙ sym same.0.before)) (same-known es fs same.1)
+same-known (e ∷ es) (f ∷ fs) same = search (rules, (same-known es fs same.1))
 
 abbrev role_known : Known → Role
 role_known k = role_of k.class
@@ -99,8 +83,7 @@ known-roles (e ∷ more) = by_class (class_of e) (known-roles more)
   where
     by_class : (o : Option Class) → map role_in (nodes_of more) ≡ map role_known (all_known more)
         → map role_in (cons_option (option_map (node e.name.place) o) (nodes_of more)) ≡ map role_known (cons_option (option_map (known_as e) o) (all_known more))
-    by_class None later = later
-    by_class (Some class) later = ap (λ rs. role_of class ∷ rs) later
+    by_class o later = search rules
 
 pub same-nodes : (elements again : List Element) → AreSame elements again → AreSameNodes (nodes_of elements) (nodes_of again)
 same-nodes elements again same = known-roles again ∙ ap (map role_known) (same-known elements again same) ∙ sym (known-roles elements)
@@ -140,9 +123,7 @@ same-once before after (e ∷ es) (f ∷ fs) known same once =
     (same-once (e ∷ before) (f ∷ after) es fs (same.0, known) same.1 parts.1)
 
 same-bad : (before after : List Element) (o : Option Class) → AreSame before after → is_bad_after after o ≡ is_bad_after before o
-same-bad before after None known = refl
-same-bad before after (Some (sender n)) known = same-sender n before after known
-same-bad before after (Some class) known = refl
+same-bad before after o known = search (rules, same-sender)
 
 same-arguments : (before after elements again : List Element) → AreSame before after → AreSame elements again → first_after bad_at before elements ≡ None → first_after bad_at after again ≡ None
 same-arguments before after [] [] known same good = refl
@@ -159,12 +140,7 @@ same-classes : (elements again : List Element) → AreSame elements again → un
 same-classes [] [] same = refl
 same-classes [] (f ∷ fs) same = absurd same
 same-classes (e ∷ es) [] same = absurd same
-same-classes (e ∷ es) (f ∷ fs) same =
-    nothing (is_missing (class_named f.class.letters)) f.class.place (unknown_in fs) (there (class_named f.class.letters) same.0.after) (same-classes es fs same.1)
-  where
-    there : (o : Option ClassName) → class_if f.arguments o ≡ Some same.0.class → is_missing o ≡ false
-    there None is = absurd (cc)
-    there (Some name) is = refl
+same-classes (e ∷ es) (f ∷ fs) same = search (rules, (same-classes es fs same.1))
 
 -- Elements that are declared again, with nothing wrong.
 pub record IsNamedAgain (elements again : List Element) : Type 0 where
@@ -198,21 +174,18 @@ not-again name earlier (e ∷ more) once there =
   where
     by_test : (b : Bool) → bytes_eq e.name.letters name ≡ b → is_declared e.name.letters earlier ≡ false → ((b || is_declared name earlier) ≡ true → is_declared name more ≡ false)
         → (b || is_declared name more) ≡ false
-    by_test true same free later = absurd (both_ways (is_declared name earlier) (subst (λ l. is_declared l earlier ≡ false) ((bytes_eq-Decides e.name.letters name).0 same) free) there)
-    by_test false same free later = later there
+    by_test b same free later = search (rules, neither, fails-not, both_ways, bytes_eq-Decides)
 
 -- the element at a place is declared
 pub declared-at : (elements : List Element) (s : ℕ) (e : Element) → slice_get elements s ≡ Some e → is_declared e.name.letters elements ≡ true
 declared-at [] s e at = absurd (cc)
-declared-at (x ∷ more) zero e at =
-    or_left (bytes_eq x.name.letters e.name.letters) (is_declared e.name.letters more) ((bytes_eq-Decides x.name.letters e.name.letters).1 (ap (λ (y : Element). y.name.letters) (same_Some x e at)))
+declared-at (x ∷ more) zero e at = search (rules, or_left, bytes_eq-Decides, same_Some, or_right)
 declared-at (x ∷ more) (suc s) e at = or_right (bytes_eq x.name.letters e.name.letters) (is_declared e.name.letters more) (declared-at more s e at)
 
 -- and its name stands for it
 pub placed-at : (earlier elements : List Element) (s : ℕ) (e : Element) → NamesOnce earlier elements → slice_get elements s ≡ Some e → place_of elements e.name.letters ≡ s
 placed-at earlier [] s e once at = absurd (cc)
-placed-at earlier (x ∷ more) zero e once at =
-    ap (λ b. cond (not b) (1 + place_of more e.name.letters) 0) ((bytes_eq-Decides x.name.letters e.name.letters).1 (ap (λ (y : Element). y.name.letters) (same_Some x e at)))
+placed-at earlier (x ∷ more) zero e once at = search (rules, bytes_eq-Decides, same_Some, neither, not-again, or_left, both_ways, declared-at)
 placed-at earlier (x ∷ more) (suc s) e once at =
     let parts = neither (twice_at earlier x) (first_after twice_at (x ∷ earlier) more) once in
     by_test (bytes_eq x.name.letters e.name.letters) refl (placed-at (x ∷ earlier) more s e parts.1 at)
@@ -220,5 +193,4 @@ placed-at earlier (x ∷ more) (suc s) e once at =
   where
     by_test : (b : Bool) → bytes_eq x.name.letters e.name.letters ≡ b → place_of more e.name.letters ≡ s → (bytes_eq x.name.letters e.name.letters ≡ true → is_declared e.name.letters more ≡ false)
         → cond (not b) (1 + place_of more e.name.letters) 0 ≡ suc s
-    by_test true is later apart = absurd (both_ways (is_declared e.name.letters more) (apart is) (declared-at more s e at))
-    by_test false is later apart = omega arith
+    by_test b is later apart = search (rules, bytes_eq-Decides, same_Some, neither, not-again, or_left, both_ways, declared-at)

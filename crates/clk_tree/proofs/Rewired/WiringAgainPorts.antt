@@ -1,15 +1,16 @@
 -- Connections in another order, and with other places, pass the checks of ports.
-use Rattle.std.proofs.Common.{◌≡◌, ℕ, ◌+◌, ◌==◌, ◌&&◌, max, zero, suc, Bool, true, false, not, List, [], ◌∷◌, map, Option, Some, None, refl, sym, ap, ap₂, ◌∙◌, eq-eqb, eqb-true, ne_eqb}
+use Rattle.std.proofs.lemmas.Bool.Decides.{nat_tests}
+use Rattle.std.proofs.lemmas.Grind.{common_steps, elements}
+use Rattle.std.proofs.Common.{◌≡◌, ℕ, ◌+◌, ◌==◌, ◌&&◌, zero, suc, Bool, true, false, not, List, [], ◌∷◌, map, Option, Some, None, refl, sym, ap, ap₂, ◌∙◌, eq-eqb, eqb-true, ne_eqb, arith, rules}
 use Rattle.std.specs.Bool.{⊤}
 use Rattle.std.specs.Option.{option_or}
 use Rattle.std.specs.List.{AllByRecursion}
 use Rattle.std.proofs.lemmas.Bool.{both_ways, and_parts, or_parts, or_from, not-false}
 use Rattle.clk_syntax.specs.declared.naming.class.Role.{Role}
-use Rattle.clk_syntax.specs.declared.naming.class.Role.TheVariants as role
 use Rattle.clk_syntax.specs.declared.node.Node.{Node}
 use Rattle.clk_syntax.specs.declared.node.Link.{Link}
 use Rattle.clk_syntax.specs.Declarations.{first_after, fails_at}
-use Rattle.clk_syntax.specs.Ports.{role_at, is_source, is_queue, has_output, has_input, differ, uses_output, uses_input, inputs_of, all_connected, output_connected, bad_port, port_twice, port_missing_from, wrong_kind}
+use Rattle.clk_syntax.specs.Ports.{role_at, is_queue, differ, uses_output, uses_input, inputs_of, all_connected, output_connected, bad_port, port_twice, port_missing_from, wrong_kind}
 use Rattle.clk_syntax.specs.inside.Checks.{first_of, bad_link, mixed_link, is_connected}
 use Rattle.clk_syntax.proofs.Callers.Graphs.{bad-port-first, wrong-kind-first, used_again}
 use Rattle.clk_syntax.proofs.Callers.Checks.{neither, fails-not}
@@ -50,28 +51,16 @@ none-of-all fails (x ∷ xs) all = both-none (fails x) (first_of fails xs) all.0
 
 -- Each connection has its ports, and is of one kind.
 right-again : (nodes others : List Node) → AreSameNodes nodes others → (c d : Link) → IsAlike c d → IsRight nodes d → IsRight others c
-right-again nodes others same c d a is = record {
-  output = ap₂ (λ r n. has_output r n) (roles c.from ∙ ap (role_at nodes) a.from) a.output ∙ is.output;
-  input = ap₂ (λ r n. has_input r n) (roles c.to ∙ ap (role_at nodes) a.to) a.input ∙ is.input;
-  kind = ap is_source (roles c.from ∙ ap (role_at nodes) a.from) ∙ is.kind ∙ sym (ap is_queue (roles c.to ∙ ap (role_at nodes) a.to));
-}
-  where
-    roles : (i : ℕ) → role_at others i ≡ role_at nodes i
-    roles = same-roles nodes others same
+right-again nodes others same c d a is = search (rules, same-roles)
 
 one-kind : (a b : Bool) → a ≡ b → differ a b ≡ false
-one-kind true true e = refl
-one-kind true false e = e
-one-kind false b e = sym e
+one-kind a b e = search rules
 
 has-ports : (nodes : List Node) (c : Link) → IsRight nodes c → bad_link nodes c ≡ None
-has-ports nodes c is =
-    both-none (fails_at (not (has_output (role_at nodes c.from) c.output)) c.from_place) (fails_at (not (has_input (role_at nodes c.to) c.input)) c.to_place)
-    (holds-at (has_output (role_at nodes c.from) c.output) c.from_place is.output) (holds-at (has_input (role_at nodes c.to) c.input) c.to_place is.input)
+has-ports nodes c is = search (rules, both-none, holds-at)
 
 is-unmixed : (nodes : List Node) (c : Link) → IsRight nodes c → mixed_link nodes c ≡ None
-is-unmixed nodes c is =
-    passes-at (differ (is_source (role_at nodes c.from)) (is_queue (role_at nodes c.to))) c.from_place (one-kind (is_source (role_at nodes c.from)) (is_queue (role_at nodes c.to)) is.kind)
+is-unmixed nodes c is = search (rules, passes-at, one-kind)
 
 pub links-right : (nodes others : List Node) (links rewired : List Link) → AreSameNodes nodes others → IsRewired links rewired → bad_port nodes links ≡ None → wrong_kind nodes links ≡ None
     → (bad_port others rewired ≡ None) × (wrong_kind others rewired ≡ None)
@@ -102,14 +91,7 @@ no-input nodes d [] pull apart = refl
 no-input nodes d (c ∷ earlier) pull apart = or_from (leads_into d.to d.input c) (uses_input d.to d.input earlier) (apart.0.input pull) (no-input nodes d earlier pull apart.1)
 
 none-used : (nodes : List Node) (earlier : List Link) (d : Link) → AllByRecursion (λ c. IsApart nodes c d) earlier → used_again nodes earlier d ≡ None
-none-used nodes earlier d apart =
-    both-none (fails_at (uses_output d.from earlier) d.from_place) (fails_at (not (is_queue (role_at nodes d.to)) && uses_input d.to d.input earlier) d.to_place)
-    (passes-at (uses_output d.from earlier) d.from_place (no-output nodes d earlier apart))
-    (passes-at (not (is_queue (role_at nodes d.to)) && uses_input d.to d.input earlier) d.to_place (by_kind (is_queue (role_at nodes d.to)) refl))
-  where
-    by_kind : (b : Bool) → is_queue (role_at nodes d.to) ≡ b → (not b && uses_input d.to d.input earlier) ≡ false
-    by_kind true push = refl
-    by_kind false pull = no-input nodes d earlier pull apart
+none-used nodes earlier d apart = search (rules, both-none, passes-at, no-output, no-input)
 
 none-again : (nodes : List Node) (earlier links : List Link) → AllByRecursion (λ d. AllByRecursion (λ c. IsApart nodes c d) earlier) links → AreApart nodes links
     → first_after (used_again nodes) earlier links ≡ None
@@ -122,8 +104,7 @@ none-again nodes earlier (c ∷ more) fresh apart =
     apart.1)
 
 fresh-first : (nodes : List Node) (links : List Link) → AllByRecursion (λ d. AllByRecursion (λ c. IsApart nodes c d) []) links
-fresh-first nodes [] = tt
-fresh-first nodes (c ∷ more) = (tt, fresh-first nodes more)
+fresh-first nodes links = grind (arith, common_steps, elements, nat_tests)
 
 -- Those that came: two to one pull input would come from one element.
 module _ (nodes others : List Node) (links : List Link) (same : AreSameNodes nodes others) (twice : port_twice nodes links ≡ None) where
@@ -160,22 +141,14 @@ module _ (nodes others : List Node) (links : List Link) (same : AreSameNodes nod
 -- The same ports are connected.
 module _ (links rewired : List Link) (is : IsRewired links rewired) where
   pub same-inputs-of : (i : ℕ) (r : Role) → inputs_of i r rewired ≡ inputs_of i r links
-  same-inputs-of i role.Source = refl
-  same-inputs-of i role.Queue = refl
-  same-inputs-of i role.Scheduler = ap (max 1) (same-used links rewired is i)
-  same-inputs-of i (role.SchedulerOf n) = refl
-  same-inputs-of i role.Device = refl
+  same-inputs-of i r = search (rules, same-used)
 
   all-same : (i n : ℕ) → all_connected i n rewired ≡ all_connected i n links
   all-same i zero = refl
   all-same i (suc n) = ap₂ (λ a b. a && b) (same-inputs links rewired is i n) (all-same i n)
 
   output-same : (i : ℕ) (r : Role) → output_connected i r rewired ≡ output_connected i r links
-  output-same i role.Source = same-outputs links rewired is i
-  output-same i role.Queue = same-outputs links rewired is i
-  output-same i role.Scheduler = same-outputs links rewired is i
-  output-same i (role.SchedulerOf n) = same-outputs links rewired is i
-  output-same i role.Device = refl
+  output-same i r = search (rules, same-outputs)
 
   same-connected : (i : ℕ) (r : Role) → is_connected i r rewired ≡ is_connected i r links
   same-connected i r = ap₂ (λ a b. a && b) (output-same i r) (ap (λ n. all_connected i n rewired) (same-inputs-of i r) ∙ all-same i (inputs_of i r links))

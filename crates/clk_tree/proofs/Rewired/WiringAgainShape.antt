@@ -1,5 +1,6 @@
 -- Connections in another order, and elements at other places, pass the checks of the tree and of sizes.
-use Rattle.std.proofs.Common.{◌≡◌, ℕ, ◌+◌, ◌&&◌, ◌||◌, nat_lt, zero, suc, not, if◌then◌else◌, List, [], ◌∷◌, length, Some, None, refl, ap, ap₂, ◌∙◌}
+use Rattle.std.proofs.lemmas.Grind.{common_steps}
+use Rattle.std.proofs.Common.{◌≡◌, ℕ, ◌+◌, ◌&&◌, ◌||◌, nat_lt, zero, suc, not, if◌then◌else◌, List, [], ◌∷◌, length, Some, None, refl, ap, ap₂, ◌∙◌, rules}
 use Rattle.clk_packet.specs.Limits.{most_inputs, most_levels, most_elements}
 use Rattle.clk_syntax.specs.declared.node.Node.{Node}
 use Rattle.clk_syntax.specs.declared.node.Link.{Link}
@@ -12,10 +13,7 @@ use Rattle.clk_tree.proofs.Rewired.WiringAgainTests.{same-next}
 use Rattle.clk_tree.proofs.Rewired.WiringAgainPorts.{first-roles, same-roles, both-none, passes-at, same-inputs-of}
 
 same-length : (nodes others : List Node) → AreSameNodes nodes others → length others ≡ length nodes
-same-length [] [] same = refl
-same-length [] (o ∷ others) same = absurd (cc)
-same-length (n ∷ nodes) [] same = absurd (cc)
-same-length (n ∷ nodes) (o ∷ others) same = ap suc (same-length nodes others (first-roles n o nodes others same).1)
+same-length nodes others same = search (rules, common_steps, first-roles)
 
 -- A device is declared.
 pub same-device : (nodes others : List Node) → AreSameNodes nodes others → has_device others ≡ has_device nodes
@@ -28,8 +26,7 @@ same-device (n ∷ nodes) (o ∷ others) same =
 
 module _ (links rewired : List Link) (is : IsRewired links rewired) where
   same-follow : (n i : ℕ) → follow rewired n i ≡ follow links n i
-  same-follow zero i = refl
-  same-follow (suc n) i = ap (follow rewired n) (same-next links rewired is i) ∙ same-follow n (next links i)
+  same-follow n i = search (rules, same-next)
 
   module _ (nodes others : List Node) (same : AreSameNodes nodes others) where
     -- The outputs from an element lead to a device.

@@ -1,12 +1,12 @@
 -- Connections in another order, and with other places: what is asked of them has the same answer.
-use Rattle.std.proofs.Common.{◌≡◌, ℕ, ◌+◌, ◌≤◌, ◌==◌, ◌&&◌, ◌||◌, max, Bool, true, false, not, if◌then◌else◌, List, [], ◌∷◌, Option, Some, None, unwrap_or, inl, inr, refl, sym, ap, ap₂, subst, ◌∙◌, arith, eq-eqb, eqb-true}
+use Rattle.std.proofs.Common.{◌≡◌, ℕ, ◌+◌, ◌≤◌, ◌==◌, ◌&&◌, ◌||◌, Bool, true, false, if◌then◌else◌, List, [], ◌∷◌, Some, None, unwrap_or, inl, inr, refl, sym, ap, ap₂, subst, ◌∙◌, arith, eq-eqb, eqb-true, rules}
 use Rattle.std.proofs.Math.Nat.{le-max_left, le-max_right, max-le}
 use Rattle.std.specs.Bool.{⊤}
 use Rattle.std.specs.List.{AllByRecursion, list_any}
 use Rattle.std.proofs.lemmas.Bool.{false≢true, both_ways, and_parts, and_from, or_left, or_right}
 use Rattle.clk_syntax.specs.declared.node.Node.{Node}
 use Rattle.clk_syntax.specs.declared.node.Link.{Link}
-use Rattle.clk_syntax.specs.Declarations.{first_after, fails_at}
+use Rattle.clk_syntax.specs.Declarations.{first_after}
 use Rattle.clk_syntax.specs.Ports.{role_at, is_queue, uses_output, uses_input, inputs_used, target, next}
 use Rattle.clk_syntax.proofs.Callers.Graphs.{used_again}
 use Rattle.clk_syntax.proofs.Callers.Checks.{neither, fails-not}
@@ -37,16 +37,10 @@ occurs-passes p alike c (d ∷ more) (inr o) passes = or_right (p d) (list_any p
 
 some-pass : (p : Link → Bool) → Placeless p → (links others : List Link) → AllByRecursion (λ c. Occurs c others) links → list_any p links ≡ true → list_any p others ≡ true
 some-pass p alike [] others occur some = absurd (false≢true some)
-some-pass p alike (c ∷ more) others occur some = by_test (p c) refl some (some-pass p alike more others occur.1)
-  where
-    by_test : (b : Bool) → p c ≡ b → (b || list_any p more) ≡ true → (list_any p more ≡ true → list_any p others ≡ true) → list_any p others ≡ true
-    by_test true passes e later = occurs-passes p alike c others occur.0 passes
-    by_test false passes e later = later e
+some-pass p alike (c ∷ more) others occur some = search (rules, false≢true, occurs-passes, (some-pass p alike more others occur.1))
 
 same-tests : (a b : Bool) → (a ≡ true → b ≡ true) → (b ≡ true → a ≡ true) → a ≡ b
-same-tests true b f g = sym (f refl)
-same-tests false true f g = g refl
-same-tests false false f g = refl
+same-tests a b f g = search rules
 
 pub same-any : (p : Link → Bool) → Placeless p → (links rewired : List Link) → IsRewired links rewired → list_any p rewired ≡ list_any p links
 same-any p alike links rewired is = same-tests (list_any p rewired) (list_any p links) (some-pass p alike rewired links is.came) (some-pass p alike links rewired is.kept)
@@ -72,30 +66,15 @@ same-inputs links rewired is i input = same-any (leads_into i input) (into-place
 -- The greatest input that is used is the same.
 occurs-below : (i : ℕ) (c : Link) (links : List Link) → Occurs c links → c.to ≡ i → c.input + 1 ≤ inputs_used i links
 occurs-below i c [] o e = absurd o
-occurs-below i c (d ∷ more) (inl a) e =
-    let here : c.input + 1 ≤ max (d.input + 1) (inputs_used i more) = subst (λ k. k + 1 ≤ max (d.input + 1) (inputs_used i more)) (sym a.input) (le-max_left (d.input + 1) (inputs_used i more)) in
-    subst (λ n. c.input + 1 ≤ n) (ap (λ b. if b then max (d.input + 1) (inputs_used i more) else inputs_used i more) (sym (eq-eqb d.to i (sym a.to ∙ e)))) here
-occurs-below i c (d ∷ more) (inr o) e = by_test (d.to == i) (occurs-below i c more o e)
-  where
-    by_test : (b : Bool) → c.input + 1 ≤ inputs_used i more → c.input + 1 ≤ (if b then max (d.input + 1) (inputs_used i more) else inputs_used i more)
-    by_test true later =
-        let most = le-max_right (d.input + 1) (inputs_used i more) in
-        omega arith
-    by_test false later = later
+occurs-below i c (d ∷ more) (inl a) e = search (rules, le-max_left, eq-eqb, le-max_right)
+occurs-below i c (d ∷ more) (inr o) e = search (rules, le-max_left, eq-eqb, le-max_right, (occurs-below i c more o e))
 
 used-least : (i : ℕ) (links others : List Link) → AllByRecursion (λ c. Occurs c others) links → inputs_used i links ≤ inputs_used i others
 used-least i [] others occur = omega arith
-used-least i (c ∷ more) others occur = by_test (c.to == i) refl (used-least i more others occur.1)
-  where
-    by_test : (b : Bool) → (c.to == i) ≡ b → inputs_used i more ≤ inputs_used i others → (if b then max (c.input + 1) (inputs_used i more) else inputs_used i more) ≤ inputs_used i others
-    by_test true is later = max-le (occurs-below i c others occur.0 (eqb-true c.to i is)) later
-    by_test false is later = later
+used-least i (c ∷ more) others occur = search (rules, max-le, occurs-below, eqb-true, (used-least i more others occur.1))
 
 pub same-used : (links rewired : List Link) → IsRewired links rewired → (i : ℕ) → inputs_used i rewired ≡ inputs_used i links
-same-used links rewired is i = as-much (inputs_used i rewired) (inputs_used i links) (used-least i rewired links is.came) (used-least i links rewired is.kept)
-  where
-    as-much : (a b : ℕ) → a ≤ b → b ≤ a → a ≡ b
-    as-much a b few many = omega arith
+same-used links rewired is i = search (rules, used-least)
 
 -- what is read of the first connection that passes a test
 abbrev first_with : {A : Type 0} → (Link → Bool) → (Link → A) → A → List Link → A
@@ -111,28 +90,15 @@ module _ {A : Type 0} (p : Link → Bool) (alike : Placeless p) (value : Link �
   lone-value : (c : Link) (links : List Link) → Lone p links → Occurs c links → p c ≡ true → first_with p value none links ≡ value c
   lone-value c [] lone o passes = absurd o
   lone-value c (d ∷ more) lone (inl a) passes = ap (λ b. if b then value d else first_with p value none more) (sym (alike c d a) ∙ passes) ∙ sym (valued c d a)
-  lone-value c (d ∷ more) lone (inr o) passes = by_test (p d) refl (lone-value c more lone.1 o passes)
-    where
-      by_test : (b : Bool) → p d ≡ b → first_with p value none more ≡ value c → (if b then value d else first_with p value none more) ≡ value c
-      by_test true is later = absurd (both_ways (list_any p more) (lone.0 is) (occurs-passes p alike c more o passes))
-      by_test false is later = later
+  lone-value c (d ∷ more) lone (inr o) passes = search (rules, both_ways, occurs-passes, (lone-value c more lone.1 o passes))
 
   lone-same : (links others : List Link) → AllByRecursion (λ c. Occurs c others) links → Lone p others → list_any p links ≡ true → first_with p value none others ≡ first_with p value none links
   lone-same [] others occur lone some = absurd (false≢true some)
-  lone-same (c ∷ more) others occur lone some = by_test (p c) refl some (lone-same more others occur.1 lone)
-    where
-      by_test : (b : Bool) → p c ≡ b → (b || list_any p more) ≡ true → (list_any p more ≡ true → first_with p value none others ≡ first_with p value none more)
-          → first_with p value none others ≡ (if b then value c else first_with p value none more)
-      by_test true is e later = lone-value c others lone occur.0 is
-      by_test false is e later = later e
+  lone-same (c ∷ more) others occur lone some = search (rules, false≢true, lone-value, (lone-same more others occur.1 lone))
 
 none-first : {A : Type 0} (p : Link → Bool) (value : Link → A) (none : A) (links : List Link) → list_any p links ≡ false → first_with p value none links ≡ none
 none-first p value none [] e = refl
-none-first p value none (c ∷ more) e = by_test (p c) e (none-first p value none more)
-  where
-    by_test : (b : Bool) → (b || list_any p more) ≡ false → (list_any p more ≡ false → first_with p value none more ≡ none) → (if b then value c else first_with p value none more) ≡ none
-    by_test true e later = absurd (false≢true (sym e))
-    by_test false e later = later e
+none-first p value none (c ∷ more) e = search (rules, false≢true, (none-first p value none more))
 
 -- An element leads to the same.
 once-lone : (i : ℕ) (links : List Link) → Once links → Lone (leads_from i) links
@@ -140,15 +106,11 @@ once-lone i [] once = tt
 once-lone i (c ∷ more) once = (λ is. subst (λ k. uses_output k more ≡ false) (eqb-true c.from i is) once.0, once-lone i more once.1)
 
 target-first : (i : ℕ) (links : List Link) → target i links ≡ first_with (leads_from i) (λ c. Some c.to) None links
-target-first i [] = refl
-target-first i (c ∷ more) = ap (λ t. if c.from == i then Some c.to else t) (target-first i more)
+target-first i links = search rules
 
 pub same-target : (links rewired : List Link) → IsRewired links rewired → (i : ℕ) → target i rewired ≡ target i links
 same-target links rewired is i = by_test (uses_output i links) refl
   where
-    first : List Link → Option ℕ
-    first = first_with (leads_from i) (λ c. Some c.to) None
-
     by_test : (b : Bool) → uses_output i links ≡ b → target i rewired ≡ target i links
     by_test true uses =
         target-first i rewired
@@ -165,13 +127,7 @@ same-next links rewired is i = ap (λ t. unwrap_or t i) (same-target links rewir
 -- One connection at most leads to a pull input.
 fresh-input : (nodes : List Node) (i input : ℕ) (earlier : List Link) (c : Link) → is_queue (role_at nodes i) ≡ false → used_again nodes earlier c ≡ None → leads_into i input c ≡ true
     → uses_input i input earlier ≡ false
-fresh-input nodes i input earlier c pull fresh is =
-    let parts = neither (fails_at (uses_output c.from earlier) c.from_place) (fails_at (not (is_queue (role_at nodes c.to)) && uses_input c.to c.input earlier) c.to_place) fresh in
-    let tests = and_parts (c.to == i) (c.input == input) is in
-    let here : (not (is_queue (role_at nodes i)) && uses_input i input earlier) ≡ false =
-    ap₂ (λ t k. not (is_queue (role_at nodes t)) && uses_input t k earlier) (sym (eqb-true c.to i tests.0)) (sym (eqb-true c.input input tests.1))
-    ∙ fails-not (not (is_queue (role_at nodes c.to)) && uses_input c.to c.input earlier) c.to_place parts.1 in
-    ap (λ b. not b && uses_input i input earlier) (sym pull) ∙ here
+fresh-input nodes i input earlier c pull fresh is = search (rules, neither, and_parts, eqb-true, fails-not)
 
 no-more : (nodes : List Node) (i input : ℕ) (earlier links : List Link) → is_queue (role_at nodes i) ≡ false → first_after (used_again nodes) earlier links ≡ None
     → uses_input i input earlier ≡ true → uses_input i input links ≡ false
@@ -182,8 +138,7 @@ no-more nodes i input earlier (c ∷ more) pull e used =
     (no-more nodes i input (c ∷ earlier) more pull parts.1 (or_right (leads_into i input c) (uses_input i input earlier) used))
   where
     by_test : (b : Bool) → leads_into i input c ≡ b → (leads_into i input c ≡ true → uses_input i input earlier ≡ false) → uses_input i input more ≡ false → (b || uses_input i input more) ≡ false
-    by_test true is fresh later = absurd (both_ways (uses_input i input earlier) (fresh is) used)
-    by_test false is fresh later = later
+    by_test b is fresh later = search (rules, neither, fresh-input, or_right, both_ways)
 
 pub lone-input : (nodes : List Node) (i input : ℕ) (earlier links : List Link) → is_queue (role_at nodes i) ≡ false → first_after (used_again nodes) earlier links ≡ None
     → Lone (leads_into i input) links

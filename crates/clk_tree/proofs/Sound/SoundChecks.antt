@@ -1,14 +1,13 @@
 -- What a check that finds nothing says of each member.
-use Rattle.std.proofs.Common.{◌≡◌, ℕ, ◌+◌, ◌≤◌, ◌==◌, ◌&&◌, nat_lt, zero, suc, Bool, true, false, not, if◌then◌else◌, List, [], ◌∷◌, Option, Some, None, refl, sym, ap, subst, ◌∙◌, arith, eq-eqb, unwrap_or}
+use Rattle.std.proofs.Common.{◌≡◌, ℕ, ◌+◌, ◌≤◌, ◌==◌, ◌&&◌, zero, suc, true, false, not, if◌then◌else◌, List, [], ◌∷◌, Option, Some, None, refl, ap, subst, ◌∙◌, arith, eq-eqb, unwrap_or, rules}
 use Rattle.std.specs.List.{AllByRecursion}
 use Rattle.std.proofs.lemmas.Bool.{and_parts, or_parts, not-false}
-use Rattle.std.proofs.lemmas.Bool.Decides.{nat_tests}
 use Rattle.clk_packet.specs.Limits.{most_inputs, most_levels}
 use Rattle.clk_syntax.specs.declared.naming.class.Role.{Role}
 use Rattle.clk_syntax.specs.declared.node.Node.{Node}
 use Rattle.clk_syntax.specs.declared.node.Link.{Link}
 use Rattle.clk_syntax.specs.Declarations.{first_after, fails_at}
-use Rattle.clk_syntax.specs.Ports.{role_at, is_source, is_queue, is_scheduler, has_output, has_input, differ, uses_output, uses_input, inputs_of, all_connected, output_connected, port_missing_from, not_a_tree_from, leads, next, target}
+use Rattle.clk_syntax.specs.Ports.{role_at, is_source, is_queue, is_scheduler, has_output, has_input, uses_output, uses_input, inputs_of, all_connected, output_connected, port_missing_from, not_a_tree_from, leads, next, target}
 use Rattle.clk_syntax.specs.Size.{is_too_large, some_too_large, levels}
 use Rattle.clk_syntax.specs.inside.Checks.{first_of, bad_link, mixed_link}
 use Rattle.clk_syntax.proofs.Callers.Graphs.{used_again}
@@ -29,23 +28,11 @@ pub record IsRight (nodes : List Node) (c : Link) : Type 0 where
   pub input : has_input (role_at nodes c.to) c.input ≡ true
   pub kind : is_source (role_at nodes c.from) ≡ is_queue (role_at nodes c.to)
 
-same-kind : (a b : Bool) → differ a b ≡ false → a ≡ b
-same-kind true true e = refl
-same-kind true false e = e
-same-kind false b e = sym e
-
 right : (nodes : List Node) (c : Link) → bad_link nodes c ≡ None → mixed_link nodes c ≡ None → IsRight nodes c
-right nodes c there kind =
-    let parts = neither (fails_at (not (has_output (role_at nodes c.from) c.output)) c.from_place) (fails_at (not (has_input (role_at nodes c.to) c.input)) c.to_place) there in
-    record {
-      output = not-false (has_output (role_at nodes c.from) c.output) (fails-not (not (has_output (role_at nodes c.from) c.output)) c.from_place parts.0);
-      input = not-false (has_input (role_at nodes c.to) c.input) (fails-not (not (has_input (role_at nodes c.to) c.input)) c.to_place parts.1);
-      kind = same-kind (is_source (role_at nodes c.from)) (is_queue (role_at nodes c.to)) (fails-not (differ (is_source (role_at nodes c.from)) (is_queue (role_at nodes c.to))) c.from_place kind);
-    }
+right nodes c there kind = search (rules, neither, not-false, fails-not)
 
 pub all-right : (nodes : List Node) (links : List Link) → first_of (bad_link nodes) links ≡ None → first_of (mixed_link nodes) links ≡ None → AllByRecursion (IsRight nodes) links
-all-right nodes links there kind =
-    all-both (λ c. bad_link nodes c ≡ None) (λ c. mixed_link nodes c ≡ None) (IsRight nodes) links (right nodes) (each-of (bad_link nodes) links there) (each-of (mixed_link nodes) links kind)
+all-right nodes links there kind = search (rules, all-both, right, each-of)
 
 -- no output that was used is used again
 pub unused-after : (nodes : List Node) (earlier links : List Link) → first_after (used_again nodes) earlier links ≡ None → AllByRecursion (λ (c : Link). uses_output c.from earlier ≡ false) links
@@ -75,37 +62,23 @@ pub record IsConnected (links : List Link) (i : ℕ) (r : Role) : Type 0 where
   pub inputs : all_connected i (inputs_of i r links) links ≡ true
 
 connected : (links : List Link) (i : ℕ) (r : Role) (place : ℕ) → fails_at (not (output_connected i r links && all_connected i (inputs_of i r links) links)) place ≡ None → IsConnected links i r
-connected links i r place e =
-    let both = not-false (output_connected i r links && all_connected i (inputs_of i r links) links) (fails-not (not (output_connected i r links && all_connected i (inputs_of i r links) links)) place e) in
-    let parts = and_parts (output_connected i r links) (all_connected i (inputs_of i r links) links) both in
-    record { output = parts.0; inputs = parts.1 }
+connected links i r place e = search (rules, not-false, fails-not, and_parts)
 
 pub at-more : (i j : ℕ) → i + 1 + j ≡ i + suc j
 at-more i j = omega arith
 
 pub connected-at : (links : List Link) (i : ℕ) (nodes : List Node) (j : ℕ) (r : Role) → port_missing_from i nodes links ≡ None → role_at nodes j ≡ Some r → IsConnected links (i + j) r
 connected-at links i [] j r none at = absurd (cc)
-connected-at links i (node ∷ nodes) zero r none at =
-    let parts = neither (fails_at (not (output_connected i node.role links && all_connected i (inputs_of i node.role links) links)) node.place) (port_missing_from (i + 1) nodes links) none in
-    let is : node.role ≡ r = cc in
-    let place : i ≡ i + 0 = omega arith in
-    subst (λ k. IsConnected links k r) place (subst (IsConnected links i) is (connected links i node.role node.place parts.0))
+connected-at links i (node ∷ nodes) zero r none at = search (rules, neither, connected, at-more)
 connected-at links i (node ∷ nodes) (suc j) r none at =
     let parts = neither (fails_at (not (output_connected i node.role links && all_connected i (inputs_of i node.role links) links)) node.place) (port_missing_from (i + 1) nodes links) none in
     subst (λ k. IsConnected links k r) (at-more i j) (connected-at links (i + 1) nodes j r parts.1 at)
 
 -- the way from a scheduler leads to a device
-leads-if : (r : Role) (b : Bool) (place : ℕ) → fails_at (is_scheduler (Some r) && not b) place ≡ None → is_scheduler (Some r) ≡ true → b ≡ true
-leads-if r b place none is = not-false b (ap (λ s. s && not b) (sym is) ∙ fails-not (is_scheduler (Some r) && not b) place none)
-
 pub leads-at : (all : List Node) (links : List Link) (i : ℕ) (nodes : List Node) (j : ℕ) (r : Role) → not_a_tree_from i nodes all links ≡ None → role_at nodes j ≡ Some r
     → is_scheduler (Some r) ≡ true → leads all links (i + j) ≡ true
 leads-at all links i [] j r none at is = absurd (cc)
-leads-at all links i (node ∷ nodes) zero r none at is =
-    let parts = neither (fails_at (is_scheduler (Some node.role) && not (leads all links i)) node.place) (not_a_tree_from (i + 1) nodes all links) none in
-    let same : node.role ≡ r = cc in
-    let place : i ≡ i + 0 = omega arith in
-    subst (λ k. leads all links k ≡ true) place (leads-if node.role (leads all links i) node.place parts.0 (ap (λ s. is_scheduler (Some s)) same ∙ is))
+leads-at all links i (node ∷ nodes) zero r none at is = search (rules, neither, at-more)
 leads-at all links i (node ∷ nodes) (suc j) r none at is =
     let parts = neither (fails_at (is_scheduler (Some node.role) && not (leads all links i)) node.place) (not_a_tree_from (i + 1) nodes all links) none in
     subst (λ k. leads all links k ≡ true) (at-more i j) (leads-at all links (i + 1) nodes j r parts.1 at is)
@@ -116,22 +89,11 @@ pub record IsSmall (nodes : List Node) (links : List Link) (i : ℕ) (r : Role) 
   pub levels : levels nodes links i ≤ most_levels
 
 small : (all : List Node) (links : List Link) (i : ℕ) (node : Node) → is_too_large i node all links ≡ false → IsSmall all links i node.role
-small all links i node fits =
-    let parts = or_parts (nat_lt most_inputs (inputs_of i node.role links)) (nat_lt most_levels (levels all links i)) fits in
-    let few : nat_lt most_inputs (inputs_of i node.role links) ≡ false = parts.0 in
-    let low : nat_lt most_levels (levels all links i) ≡ false = parts.1 in
-    record { inputs = at-most most_inputs (inputs_of i node.role links) few; levels = at-most most_levels (levels all links i) low }
-  where
-    at-most : (m n : ℕ) → nat_lt m n ≡ false → n ≤ m
-    at-most m n e = grind (arith, nat_tests)
+small all links i node fits = search (rules, or_parts)
 
 pub small-at : (all : List Node) (links : List Link) (i : ℕ) (nodes : List Node) (j : ℕ) (r : Role) → some_too_large i nodes all links ≡ false → role_at nodes j ≡ Some r → IsSmall all links (i + j) r
 small-at all links i [] j r fits at = absurd (cc)
-small-at all links i (node ∷ nodes) zero r fits at =
-    let parts = or_parts (is_too_large i node all links) (some_too_large (i + 1) nodes all links) fits in
-    let same : node.role ≡ r = cc in
-    let place : i ≡ i + 0 = omega arith in
-    subst (λ k. IsSmall all links k r) place (subst (IsSmall all links i) same (small all links i node parts.0))
+small-at all links i (node ∷ nodes) zero r fits at = search (rules, or_parts, small, at-more)
 small-at all links i (node ∷ nodes) (suc j) r fits at =
     let parts = or_parts (is_too_large i node all links) (some_too_large (i + 1) nodes all links) fits in
     subst (λ k. IsSmall all links k r) (at-more i j) (small-at all links (i + 1) nodes j r parts.1 at)

@@ -1,12 +1,11 @@
 -- The elements of a plan and those that the checks see stand at the same places.
-use Rattle.std.proofs.Common.{◌≡◌, ℕ, ◌+◌, ◌≤◌, zero, suc, Bool, true, false, ◌||◌, if◌then◌else◌, List, [], ◌∷◌, length, Option, Some, None, slice_get, option_map, refl, sym, ap, ◌∙◌, arith}
+use Rattle.std.proofs.Common.{◌≡◌, ℕ, ◌+◌, ◌≤◌, zero, suc, true, List, [], ◌∷◌, Option, Some, None, slice_get, option_map, refl, ap, ◌∙◌, arith, rules}
 use Rattle.std.proofs.lemmas.Option.{same_Some}
 use Rattle.std.specs.List.{cons_option}
 use Rattle.clk_syntax.specs.declared.naming.class.Role.{Role}
 use Rattle.clk_syntax.specs.declared.naming.class.Role.TheVariants as role
 use Rattle.clk_syntax.specs.declared.node.Link.{Link}
-use Rattle.clk_packet.specs.Scheduler.{inputs_of}
-use Rattle.clk_syntax.specs.Classes.{Class, scheduler, role_of, role_over}
+use Rattle.clk_syntax.specs.Classes.{Class, role_of}
 use Rattle.clk_syntax.specs.Source.{Element}
 use Rattle.clk_syntax.specs.Declarations.{class_of}
 use Rattle.clk_syntax.specs.Ports.{role_at, is_queue, is_device, has_device}
@@ -41,13 +40,7 @@ first-planned plan count links i k r is limits = record {
 
 later-planned : (first : Planned) (plan : List Planned) (count : ℕ) (links : List Link) (i j : ℕ) (r : Role) → IsPlanned plan count links (i + 1 + j) j r
     → IsPlanned (first ∷ plan) count links (i + suc j) (suc j) r
-later-planned first plan count links i j r h = record {
-  element = h.element;
-  at = h.at;
-  role = h.role;
-  sources = h.sources ∙ ap (λ n. sources_of count links n r) (at-more i j);
-  limits = h.limits;
-}
+later-planned first plan count links i j r h = search (rules, at-more)
 
 pub planned-at : (count : ℕ) (links : List Link) (elements : List Element) (i j : ℕ) (r : Role) → role_at (nodes_of elements) j ≡ Some r
     → IsPlanned (planned_from count links i (all_known elements)) count links (i + j) j r
@@ -77,44 +70,19 @@ node-at count links (e ∷ elements) i j p at = by_case (class_of e) j at (λ m.
         → ((m : ℕ) → slice_get (planned_from count links i (all_known elements)) m ≡ Some p → role_at (nodes_of elements) m ≡ Some (role_of p.class))
         → ((m : ℕ) → slice_get (planned_from count links (i + 1) (all_known elements)) m ≡ Some p → role_at (nodes_of elements) m ≡ Some (role_of p.class))
         → role_at (cons_option (option_map (node e.name.place) o) (nodes_of elements)) j ≡ Some (role_of p.class)
-    by_case None j at here later = here j at
-    by_case (Some class) zero at here later = ap (λ (q : Planned). Some (role_of q.class)) (same_Some (planned_at count links i (known_as e class)) p at)
-    by_case (Some class) (suc j) at here later = later j at
+    by_case o j at here later = search (rules, same_Some)
 
 -- what a role says of a class
 pub queue-class : (class : Class) → tree.is_queue class ≡ is_queue (Some (role_of class))
-queue-class (scheduler s) = by_inputs (inputs_of s)
-  where
-    by_inputs : (o : Option ℕ) → false ≡ is_queue (Some (role_over o))
-    by_inputs None = refl
-    by_inputs (Some n) = refl
-queue-class class = refl
+queue-class class = search rules
 
 pub device-class : (class : Class) → tree.is_device class ≡ is_device (Some (role_of class))
-device-class (scheduler s) = by_inputs (inputs_of s)
-  where
-    by_inputs : (o : Option ℕ) → false ≡ is_device (Some (role_over o))
-    by_inputs None = refl
-    by_inputs (Some n) = refl
-device-class class = refl
+device-class class = search rules
 
 -- a device among the elements that the checks see is one of the plan
 pub some-device : (count : ℕ) (links : List Link) (elements : List Element) (i : ℕ) → has_device (nodes_of elements) ≡ true → 1 ≤ device_count (planned_from count links i (all_known elements))
 some-device count links [] i has = absurd (cc)
-some-device count links (e ∷ elements) i has = by_case (class_of e) has (some-device count links elements i) (some-device count links elements (i + 1))
-  where
-    by_class : (class : Class) (b : Bool) → tree.is_device class ≡ b → (is_device (Some (role_of class)) || has_device (nodes_of elements)) ≡ true
-        → (has_device (nodes_of elements) ≡ true → 1 ≤ device_count (planned_from count links (i + 1) (all_known elements)))
-        → (sources : List ℕ) → 1 ≤ length (if b then sources ∷ device_sources (planned_from count links (i + 1) (all_known elements)) else device_sources (planned_from count links (i + 1) (all_known elements)))
-    by_class class true is has later sources = omega arith
-    by_class class false is has later sources = later (ap (λ b. b || has_device (nodes_of elements)) (sym is ∙ device-class class) ∙ has)
-
-    by_case : (o : Option Class) → has_device (cons_option (option_map (node e.name.place) o) (nodes_of elements)) ≡ true
-        → (has_device (nodes_of elements) ≡ true → 1 ≤ device_count (planned_from count links i (all_known elements)))
-        → (has_device (nodes_of elements) ≡ true → 1 ≤ device_count (planned_from count links (i + 1) (all_known elements)))
-        → 1 ≤ device_count (planned_from count links i (cons_option (option_map (known_as e) o) (all_known elements)))
-    by_case None has here later = here has
-    by_case (Some class) has here later = by_class class (tree.is_device class) refl has later (sources_of count links i (role_of class))
+some-device count links (e ∷ elements) i has = search (rules, device-class, (some-device count links elements i), (some-device count links elements (i + 1)))
 
 pub queue-planned : (plan : List Planned) (count : ℕ) (links : List Link) (i j : ℕ) → IsPlanned plan count links i j role.Queue → is_queue_at (slice_get plan j) ≡ true
 queue-planned plan count links i j h = ap is_queue_at h.at ∙ queue-class h.element.class ∙ ap (λ r. is_queue (Some r)) h.role

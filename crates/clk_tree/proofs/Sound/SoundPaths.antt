@@ -1,10 +1,10 @@
 -- Each input of an element that is no queue has a queue or a scheduler, whose output leads there; and the ways of schedulers to a device
 -- are no longer than is allowed.
-use Rattle.std.proofs.Common.{◌≡◌, ℕ, ◌+◌, ◌<◌, ◌≤◌, ◌==◌, ◌&&◌, ◌||◌, nat_lt, ◌⊎◌, inl, inr, zero, suc, Bool, true, false, if◌then◌else◌, List, [], ◌∷◌, length, Option, Some, None, option_map, refl, sym, ap, subst, ◌∙◌, arith, eqb-true}
+use Rattle.std.proofs.Common.{◌≡◌, ℕ, ◌+◌, ◌<◌, ◌≤◌, ◌||◌, nat_lt, ◌⊎◌, inl, inr, zero, suc, Bool, true, false, if◌then◌else◌, List, [], ◌∷◌, length, Option, Some, None, option_map, refl, sym, ap, subst, ◌∙◌, arith, eqb-true, rules}
 use Rattle.std.specs.List.{AllByRecursion}
 use Rattle.std.proofs.lemmas.Bool.{and_parts, false≢true, cases_lt, cases_eq}
 use Rattle.clk_packet.specs.declared.fault.Fault.{Fault}
-use Rattle.clk_packet.specs.declared.fault.Fault.TheVariants.{BadPort, PortTwice, PortMissing, WrongKind, NoDevice, NotATree, TooLarge}
+use Rattle.clk_packet.specs.declared.fault.Fault.TheVariants.{NoDevice, TooLarge}
 use Rattle.clk_packet.specs.Limits.{most_elements, most_levels}
 use Rattle.clk_syntax.specs.declared.naming.class.Role.{Role}
 use Rattle.clk_syntax.specs.declared.naming.class.Role.TheVariants as role
@@ -12,7 +12,7 @@ use Rattle.clk_syntax.specs.declared.node.Node.{Node}
 use Rattle.clk_syntax.specs.declared.node.Link.{Link}
 use Rattle.clk_syntax.specs.Ports.{role_at, is_source, is_queue, is_device, is_scheduler, has_output, uses_input, inputs_of, all_connected, next, follow, leads, bad_port, port_twice, port_missing, wrong_kind, has_device, not_a_tree}
 use Rattle.clk_syntax.specs.Size.{levels_from, some_too_large, too_large}
-use Rattle.clk_syntax.specs.Faults.{port_fault, shape_fault, nodes_fault}
+use Rattle.clk_syntax.specs.Faults.{nodes_fault}
 use Rattle.clk_syntax.proofs.Callers.Graphs.{bad-port-first, wrong-kind-first}
 use Rattle.clk_syntax.proofs.Callers.Checks.{neither}
 use Rattle.clk_tree.specs.Plan.{source_at}
@@ -29,8 +29,7 @@ pub record AreSound (nodes : List Node) (links : List Link) : Type 0 where
   pub once : port_twice nodes links ≡ None
 
 pub none-of : (fault : ℕ → Fault) (place : Option ℕ) → option_map fault place ≡ None → place ≡ None
-none-of fault None e = refl
-none-of fault (Some place) e = absurd (cc)
+none-of fault place e = search rules
 
 -- No check finds a fault.
 pub record AreFaultless (nodes : List Node) (links : List Link) : Type 0 where
@@ -43,22 +42,7 @@ pub record AreFaultless (nodes : List Node) (links : List Link) : Type 0 where
   pub size : (if too_large nodes links then Some TooLarge else None) ≡ None
 
 pub each-check : (nodes : List Node) (links : List Link) → nodes_fault nodes links ≡ None → AreFaultless nodes links
-each-check nodes links e =
-    let all = neither (port_fault nodes links) (shape_fault nodes links) e in
-    let ports = neither (option_map BadPort (bad_port nodes links)) _ all.0 in
-    let twice = neither (option_map PortTwice (port_twice nodes links)) _ ports.1 in
-    let missing = neither (option_map PortMissing (port_missing nodes links)) _ twice.1 in
-    let devices = neither (if has_device nodes then None else Some NoDevice) _ all.1 in
-    let trees = neither (option_map NotATree (not_a_tree nodes links)) _ devices.1 in
-    record {
-      ports = none-of BadPort (bad_port nodes links) ports.0;
-      twice = none-of PortTwice (port_twice nodes links) twice.0;
-      missing = none-of PortMissing (port_missing nodes links) missing.0;
-      kinds = none-of WrongKind (wrong_kind nodes links) missing.1;
-      device = devices.0;
-      tree = none-of NotATree (not_a_tree nodes links) trees.0;
-      size = trees.1;
-    }
+each-check nodes links e = search (rules, neither, none-of)
 
 zeroth : (i : ℕ) → 0 + i ≡ i
 zeroth i = omega arith
@@ -77,13 +61,10 @@ are-sound nodes links e =
     }
   where
     has : (b : Bool) → (if b then None else Some NoDevice) ≡ None → b ≡ true
-    has true e = refl
-    has false e = absurd (cc)
+    has b e = search (rules, each-check, all-right, bad-port-first, wrong-kind-first, all-next, zeroth, connected-at, leads-at, small-at)
 
     no-size : (a b : Bool) → (if a || b then Some TooLarge else None) ≡ None → b ≡ false
-    no-size true b e = absurd (cc)
-    no-size false true e = absurd (cc)
-    no-size false false e = refl
+    no-size a b e = search (rules, each-check, all-right, bad-port-first, wrong-kind-first, all-next, zeroth, connected-at, leads-at, small-at)
 
 -- the connection to an input that is used
 pub record IsLinkTo (P : Link → Type 0) (links : List Link) (i input : ℕ) : Type 0 where
@@ -95,33 +76,11 @@ pub record IsLinkTo (P : Link → Type 0) (links : List Link) (i input : ℕ) : 
 
 pub link-to : (P : Link → Type 0) (links : List Link) (i input : ℕ) → AllByRecursion P links → uses_input i input links ≡ true → IsLinkTo P links i input
 link-to P [] i input all uses = absurd (cc)
-link-to P (c ∷ links) i input all uses = by_test ((c.to == i) && (c.input == input)) refl uses (link-to P links i input all.1)
-  where
-    by_test : (b : Bool) → ((c.to == i) && (c.input == input)) ≡ b → (b || uses_input i input links) ≡ true → (uses_input i input links ≡ true → IsLinkTo P links i input)
-        → IsLinkTo P (c ∷ links) i input
-    by_test true is e later = record {
-      link = c;
-      has = all.0;
-      to = eqb-true c.to i (and_parts (c.to == i) (c.input == input) is).0;
-      at_input = eqb-true c.input input (and_parts (c.to == i) (c.input == input) is).1;
-      source = ap (λ b. if b then c.from else source_at links i input) is;
-    }
-    by_test false is e later = let h = later e in record {
-      link = h.link;
-      has = h.has;
-      to = h.to;
-      at_input = h.at_input;
-      source = ap (λ b. if b then c.from else source_at links i input) is ∙ h.source;
-    }
+link-to P (c ∷ links) i input all uses = search (rules, eqb-true, and_parts, (link-to P links i))
 
 pub input-used : (i n input : ℕ) (links : List Link) → all_connected i n links ≡ true → input < n → uses_input i input links ≡ true
 input-used i zero input links all within = absurd (omega arith)
-input-used i (suc n) input links all within =
-    let parts = and_parts (uses_input i n links) (all_connected i n links) all in
-    elim (cases_eq input n) [
-      | inl same ↦ ap (λ p. uses_input i p links) same ∙ parts.0
-      | inr other ↦ input-used i n input links parts.1 (omega arith)
-    ]
+input-used i (suc n) input links all within = search (rules, and_parts, cases_eq, (input-used i n))
 
 -- an element with a pull output that leads to this one
 pub record Feeds (nodes : List Node) (links : List Link) (i s : ℕ) : Type 0 where
@@ -131,12 +90,7 @@ pub record Feeds (nodes : List Node) (links : List Link) (i s : ℕ) : Type 0 wh
   pub to : next links s ≡ i
 
 pull-output : (nodes : List Node) (links : List Link) (i s output : ℕ) (o : Option Role) → role_at nodes s ≡ o → has_output o output ≡ true → is_source o ≡ false → next links s ≡ i → Feeds nodes links i s
-pull-output nodes links i s output None at has kind leads = absurd (cc)
-pull-output nodes links i s output (Some role.Source) at has kind leads = absurd (cc)
-pull-output nodes links i s output (Some role.Queue) at has kind leads = record { is = role.Queue; at = at; pulls = inl refl; to = leads }
-pull-output nodes links i s output (Some role.Scheduler) at has kind leads = record { is = role.Scheduler; at = at; pulls = inr refl; to = leads }
-pull-output nodes links i s output (Some (role.SchedulerOf n)) at has kind leads = record { is = role.SchedulerOf n; at = at; pulls = inr refl; to = leads }
-pull-output nodes links i s output (Some role.Device) at has kind leads = absurd (cc)
+pull-output nodes links i s output o at has kind leads = search rules
 
 pub fed : (nodes : List Node) (links : List Link) (i input : ℕ) (r : Role) → AreSound nodes links → role_at nodes i ≡ Some r → is_queue (Some r) ≡ false → input < inputs_of i r links
     → Feeds nodes links i (source_at links i input)
@@ -155,9 +109,7 @@ Way nodes links (suc k) i = (is_scheduler (role_at nodes i) ≡ true) × Way nod
 way-counts : (nodes : List Node) (links : List Link) (k n i : ℕ) → Way nodes links k i → k ≤ n → k ≤ levels_from nodes links n i
 way-counts nodes links zero n i way few = omega arith
 way-counts nodes links (suc k) zero i way few = absurd (omega arith)
-way-counts nodes links (suc k) (suc n) i way few =
-    let later = way-counts nodes links k n (next links i) way.1 (omega arith) in
-    rw (way.0) (omega arith)
+way-counts nodes links (suc k) (suc n) i way few = search (rules, (way-counts nodes links k n (next links i) way.1 (omega arith)))
 
 way-on : (nodes : List Node) (links : List Link) (k n i : ℕ) → Way nodes links k i → n < k → is_scheduler (role_at nodes (follow links n i)) ≡ true
 way-on nodes links zero n i way below = absurd (omega arith)
@@ -165,19 +117,11 @@ way-on nodes links (suc k) zero i way below = way.0
 way-on nodes links (suc k) (suc n) i way below = way-on nodes links k n (next links i) way.1 (omega arith)
 
 device-alone : (o : Option Role) → is_device o ≡ true → is_scheduler o ≡ true → ⊥
-device-alone None d s = false≢true d
-device-alone (Some role.Source) d s = false≢true d
-device-alone (Some role.Queue) d s = false≢true d
-device-alone (Some role.Scheduler) d s = false≢true d
-device-alone (Some (role.SchedulerOf n)) d s = false≢true d
-device-alone (Some role.Device) d s = false≢true s
+device-alone o d s = search (rules, false≢true)
 
 -- the way of a scheduler is no longer than is allowed: a longer one comes back to where it was
 pub way-short : (nodes : List Node) (links : List Link) (k i : ℕ) (r : Role) → AreSound nodes links → Way nodes links k i → role_at nodes i ≡ Some r → is_scheduler (Some r) ≡ true → k ≤ most_levels
 way-short nodes links k i r sound way at is = elim (cases_lt (length nodes) k) [
   | inl long ↦ absurd (device-alone (role_at nodes (follow links (length nodes) i)) (sound.ends i r at is) (way-on nodes links k (length nodes) i way long))
-  | inr short ↦ through k (levels_from nodes links (length nodes) i) most_levels (way-counts nodes links k (length nodes) i way short) (sound.small i r at).levels
+  | inr short ↦ (search (rules, (levels_from nodes links (length nodes) i), (way-counts nodes links k (length nodes) i way short), (sound.small i r at).levels))
 ]
-  where
-    through : (a b c : ℕ) → a ≤ b → b ≤ c → a ≤ c
-    through a b c x y = omega arith

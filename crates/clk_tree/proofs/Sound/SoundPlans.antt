@@ -1,6 +1,6 @@
 -- The plan of a text without a fault can be made trees: each device has one input, at which stands a queue or a scheduler over such
 -- elements, within the limits of trees.
-use Rattle.std.proofs.Common.{◌≡◌, ℕ, ◌+◌, ◌<◌, ◌≤◌, inl, inr, zero, suc, Bool, true, false, if◌then◌else◌, List, [], ◌∷◌, length, map, Option, Some, None, MatchOption, slice_get, refl, sym, ap, subst, ◌∙◌, arith}
+use Rattle.std.proofs.Common.{◌≡◌, ℕ, ◌+◌, ◌<◌, ◌≤◌, inl, inr, zero, suc, Bool, true, false, if◌then◌else◌, List, [], ◌∷◌, length, map, Option, Some, None, MatchOption, slice_get, refl, sym, ap, subst, ◌∙◌, arith, rules}
 use Rattle.std.specs.List.{AllByRecursion, range_with_len}
 use Rattle.std.proofs.lemmas.List.FromFn.{length-map-range_with_len}
 use Rattle.std.proofs.lemmas.Option.{same_Some}
@@ -31,27 +31,18 @@ abbrev pub inputs_at : List Link → ℕ → Role → List ℕ
 inputs_at links i r = map (source_at links i) (range_with_len 0 (inputs_of i r links))
 
 pub pull-sources : (count : ℕ) (links : List Link) (i : ℕ) (r : Role) → is_queue (Some r) ≡ false → sources_of count links i r ≡ inputs_at links i r
-pull-sources count links i role.Source pull = refl
-pull-sources count links i role.Queue pull = absurd (cc)
-pull-sources count links i role.Scheduler pull = refl
-pull-sources count links i (role.SchedulerOf n) pull = refl
-pull-sources count links i role.Device pull = refl
+pull-sources count links i r pull = search rules
 
 pub all-range : (P : ℕ → Type 0) (f : ℕ → ℕ) (a n : ℕ) → ((k : ℕ) → k < a + n → P (f k)) → AllByRecursion P (map f (range_with_len a n))
 all-range P f a zero each = tt
 all-range P f a (suc n) each = (each a (omega arith), all-range P f (a + 1) n (λ k below. each k (omega arith)))
 
 scheduler-pulls : (r : Role) → is_scheduler (Some r) ≡ true → is_queue (Some r) ≡ false
-scheduler-pulls role.Source is = absurd (cc)
-scheduler-pulls role.Queue is = absurd (cc)
-scheduler-pulls role.Scheduler is = refl
-scheduler-pulls (role.SchedulerOf n) is = refl
-scheduler-pulls role.Device is = absurd (cc)
+scheduler-pulls r is = search rules
 
 module _ (plan : List Planned) (count : ℕ) (nodes : List Node) (links : List Link) (most : ℕ) (sound : AreSound nodes links) (is : IsPlanOf plan count nodes links) (large : most_levels ≤ most) where
   queue-done : (m s : ℕ) → is_queue_at (slice_get plan s) ≡ true → IsScheduled plan m s
-  queue-done zero s q = q
-  queue-done (suc m) s q = inl q
+  queue-done m s q = search rules
 
   -- a scheduler whose inputs are scheduled a level below
   over-done : (m s : ℕ) (r : Role) → role_at nodes s ≡ Some r → is_scheduler (Some r) ≡ true → AllByRecursion (IsScheduled plan m) (inputs_at links s r) → IsScheduled plan (suc m) s
@@ -126,20 +117,14 @@ device-root elements wires none i e at is =
     record { top = source_at links i 0; source = ap (λ (p : Planned). p.sources) (sym same) ∙ h.sources; is = done.0 }
   where
     device-role : (o : Option Role) → is_device o ≡ true → o ≡ Some role.Device
-    device-role None e = absurd (cc)
-    device-role (Some role.Source) e = absurd (cc)
-    device-role (Some role.Queue) e = absurd (cc)
-    device-role (Some role.Scheduler) e = absurd (cc)
-    device-role (Some (role.SchedulerOf n)) e = absurd (cc)
-    device-role (Some role.Device) e = refl
+    device-role o e = search (rules, sound-nodes, is-plan, node-at, device-class, same_Some)
 
 all-devices : (P : List ℕ → Type 0) (plan : List Planned) → ((i : ℕ) (e : Planned) → slice_get plan i ≡ Some e → tree.is_device e.class ≡ true → P e.sources) → AllByRecursion P (device_sources plan)
 all-devices P [] each = tt
 all-devices P (x ∷ plan) each = by_test (tree.is_device x.class) (each 0 x refl) (all-devices P plan (λ i e at is. each (suc i) e at is))
   where
     by_test : (b : Bool) → (b ≡ true → P x.sources) → AllByRecursion P (device_sources plan) → AllByRecursion P (if b then x.sources ∷ device_sources plan else device_sources plan)
-    by_test true here later = (here refl, later)
-    by_test false here later = later
+    by_test b here later = search rules
 
 -- One element is connected to each device of a plan without a fault, and it is scheduled.
 pub plan-scheduled : (elements : List Element) (wires : List Wire) → fault_of elements wires ≡ None → AllByRecursion (IsRoot (plan_of elements wires)) (device_sources (plan_of elements wires))

@@ -1,5 +1,5 @@
 -- In the plan of a text without a fault what is connected to a queue are Senders, and each Sender is connected to one element, a queue.
-use Rattle.std.proofs.Common.{◌≡◌, ℕ, ◌+◌, ◌<◌, ◌≤◌, ◌==◌, ◌&&◌, ◌||◌, inl, inr, zero, suc, Bool, true, false, not, if◌then◌else◌, List, [], ◌∷◌, length, map, filter, Option, Some, None, slice_get, refl, sym, ap, subst, ◌∙◌, arith, eqb-true, eq-eqb, ne_eqb}
+use Rattle.std.proofs.Common.{◌≡◌, ℕ, ◌+◌, ◌<◌, ◌≤◌, ◌==◌, inl, inr, zero, suc, Bool, true, false, if◌then◌else◌, List, [], ◌∷◌, length, map, filter, Option, Some, None, slice_get, refl, sym, ap, subst, ◌∙◌, arith, eqb-true, eq-eqb, rules}
 use Rattle.std.specs.List.{AllByRecursion, range_with_len}
 use Rattle.std.proofs.lemmas.Bool.{false≢true, cases_eq, cases_Bool, or_cases, or_from}
 use Rattle.std.proofs.lemmas.Option.{slice_get_within, same_Some}
@@ -9,10 +9,9 @@ use Rattle.clk_syntax.specs.declared.naming.class.Role.{Role}
 use Rattle.clk_syntax.specs.declared.naming.class.Role.TheVariants as role
 use Rattle.clk_syntax.specs.declared.node.Node.{Node}
 use Rattle.clk_syntax.specs.declared.node.Link.{Link}
-use Rattle.clk_packet.specs.Scheduler as sched
-use Rattle.clk_syntax.specs.Classes.{Class, sender, scheduler, role_of, role_over}
+use Rattle.clk_syntax.specs.Classes.{sender, role_of}
 use Rattle.clk_syntax.specs.Source.{Element, Wire}
-use Rattle.clk_syntax.specs.Ports.{role_at, is_source, is_queue, is_scheduler, uses_output, inputs_of, target}
+use Rattle.clk_syntax.specs.Ports.{role_at, is_source, is_queue, uses_output, inputs_of, target}
 use Rattle.clk_syntax.specs.Faults.{nodes_of, links_of, fault_of}
 use Rattle.clk_tree.specs.Plan.{Planned, Known, is_connected, source_at, sources_of, all_known, planned_from, plan_of}
 use Rattle.clk_tree.specs.PlanTree as tree
@@ -34,56 +33,24 @@ pub record IsLinkFrom (P : Link → Type 0) (links : List Link) (s : ℕ) : Type
 
 pub link-from : (P : Link → Type 0) (links : List Link) (s : ℕ) → AllByRecursion P links → uses_output s links ≡ true → IsLinkFrom P links s
 link-from P [] s all uses = absurd (cc)
-link-from P (c ∷ links) s all uses = by_test (c.from == s) refl uses (link-from P links s all.1)
-  where
-    by_test : (b : Bool) → (c.from == s) ≡ b → (b || uses_output s links) ≡ true → (uses_output s links ≡ true → IsLinkFrom P links s) → IsLinkFrom P (c ∷ links) s
-    by_test true is e later = record { link = c; has = all.0; from = eqb-true c.from s is; target = ap (λ b. if b then Some c.to else target s links) is }
-    by_test false is e later = let h = later e in record { link = h.link; has = h.has; from = h.from; target = ap (λ b. if b then Some c.to else target s links) is ∙ h.target }
+link-from P (c ∷ links) s all uses = search (rules, eqb-true, (link-from P links s all.1))
 
 target-used : (links : List Link) (s i : ℕ) → target s links ≡ Some i → uses_output s links ≡ true
 target-used [] s i e = absurd (cc)
-target-used (c ∷ links) s i e = by_test (c.from == s) e (target-used links s i)
-  where
-    by_test : (b : Bool) → (if b then Some c.to else target s links) ≡ Some i → (target s links ≡ Some i → uses_output s links ≡ true) → (b || uses_output s links) ≡ true
-    by_test true e later = refl
-    by_test false e later = later e
+target-used (c ∷ links) s i e = search (rules, (target-used links s i))
 
 pub number-is : (n : ℕ) (o : Option ℕ) → is_number n o ≡ true → o ≡ Some n
-number-is n None e = absurd (cc)
-number-is n (Some m) e = ap Some (eqb-true m n e)
+number-is n o e = search (rules, eqb-true)
 
 pub all-filter : (P : ℕ → Type 0) (p : ℕ → Bool) (xs : List ℕ) → ((x : ℕ) → p x ≡ true → P x) → AllByRecursion P (filter p xs)
 all-filter P p [] each = tt
-all-filter P p (x ∷ xs) each = by_test (p x) (each x) (all-filter P p xs each)
-  where
-    by_test : (b : Bool) → (b ≡ true → P x) → AllByRecursion P (filter p xs) → AllByRecursion P (if b then x ∷ filter p xs else filter p xs)
-    by_test true here later = (here refl, later)
-    by_test false here later = later
+all-filter P p (x ∷ xs) each = search (rules, (all-filter P p xs each))
 
 source-role : (o : Option Role) → is_source o ≡ true → o ≡ Some role.Source
-source-role None e = absurd (cc)
-source-role (Some role.Source) e = refl
-source-role (Some role.Queue) e = absurd (cc)
-source-role (Some role.Scheduler) e = absurd (cc)
-source-role (Some (role.SchedulerOf n)) e = absurd (cc)
-source-role (Some role.Device) e = absurd (cc)
+source-role o e = search rules
 
 pub queue-role : (o : Option Role) → is_queue o ≡ true → o ≡ Some role.Queue
-queue-role None e = absurd (cc)
-queue-role (Some role.Source) e = absurd (cc)
-queue-role (Some role.Queue) e = refl
-queue-role (Some role.Scheduler) e = absurd (cc)
-queue-role (Some (role.SchedulerOf n)) e = absurd (cc)
-queue-role (Some role.Device) e = absurd (cc)
-
-sender-class : (class : Class) → is_source (Some (role_of class)) ≡ true → (n : ℕ) × (class ≡ sender n)
-sender-class (sender n) e = (n, refl)
-sender-class (scheduler s) e = absurd (by_inputs (sched.inputs_of s) e)
-  where
-    by_inputs : (o : Option ℕ) → is_source (Some (role_over o)) ≡ true → ⊥
-    by_inputs None e = cc
-    by_inputs (Some n) e = cc
-sender-class class e = absurd (cc)
+queue-role o e = search rules
 
 -- at a place of a plan stands a Sender
 pub record IsSenderAt (plan : List Planned) (s : ℕ) : Type 0 where
@@ -93,9 +60,7 @@ pub record IsSenderAt (plan : List Planned) (s : ℕ) : Type 0 where
   pub is : element.class ≡ sender number
 
 sender-planned : (plan : List Planned) (count : ℕ) (links : List Link) (i s : ℕ) → IsPlanned plan count links i s role.Source → IsSenderAt plan s
-sender-planned plan count links i s h =
-    let found = sender-class h.element.class (ap (λ r. is_source (Some r)) h.role) in
-    record { element = h.element; number = found.0; at = h.at; is = found.1 }
+sender-planned plan count links i s h = search rules
 
 -- What leads to a queue is a Sender, and what a Sender leads to is a queue.
 source-of-queue : (nodes : List Node) (links : List Link) (s i : ℕ) → AreSound nodes links → role_at nodes i ≡ Some role.Queue → target s links ≡ Some i → role_at nodes s ≡ Some role.Source
@@ -143,27 +108,14 @@ stands-filter p s a (suc n) is low high = elim (cases_eq a s) [
 ]
   where
     by_here : (b : Bool) → b ≡ true → (a == s) ≡ true → stands_in s (if b then a ∷ filter p (range_with_len (a + 1) n) else filter p (range_with_len (a + 1) n)) ≡ true
-    by_here true e here = ap (λ t. t || stands_in s (filter p (range_with_len (a + 1) n))) here
-    by_here false e here = absurd (cc)
+    by_here b e here = search (rules, cases_eq, eq-eqb)
 
     by_later : (b : Bool) → stands_in s (filter p (range_with_len (a + 1) n)) ≡ true → stands_in s (if b then a ∷ filter p (range_with_len (a + 1) n) else filter p (range_with_len (a + 1) n)) ≡ true
-    by_later true e = more (a == s) (stands_in s (filter p (range_with_len (a + 1) n))) e
-      where
-        more : (x y : Bool) → y ≡ true → (x || y) ≡ true
-        more true y e = refl
-        more false y e = e
-    by_later false e = e
+    by_later b e = search (rules, cases_eq, eq-eqb)
 
 filter-stands : (p : ℕ → Bool) (s : ℕ) (xs : List ℕ) → stands_in s (filter p xs) ≡ true → p s ≡ true
 filter-stands p s [] e = absurd (cc)
-filter-stands p s (x ∷ xs) e = by_test (p x) refl e (filter-stands p s xs)
-  where
-    by_test : (b : Bool) → p x ≡ b → stands_in s (if b then x ∷ filter p xs else filter p xs) ≡ true → (stands_in s (filter p xs) ≡ true → p s ≡ true) → p s ≡ true
-    by_test true is e later = elim (or_cases (x == s) (stands_in s (filter p xs)) e) [
-      | inl same ↦ ap p (sym (eqb-true x s same)) ∙ is
-      | inr more ↦ later more
-    ]
-    by_test false is e later = later e
+filter-stands p s (x ∷ xs) e = search (rules, or_cases, eqb-true, (filter-stands p s xs))
 
 map-stands : (f : ℕ → ℕ) (s a n : ℕ) → stands_in s (map f (range_with_len a n)) ≡ true → (k : ℕ) × (k < a + n) × (f k ≡ s)
 map-stands f s a zero e = absurd (cc)
@@ -183,15 +135,7 @@ pub record IsSentTo (plan : List Planned) (s : ℕ) : Type 0 where
 
 -- a Sender feeds no input
 no-pull : (nodes : List Node) (links : List Link) (i s : ℕ) → role_at nodes s ≡ Some role.Source → Feeds nodes links i s → ⊥
-no-pull nodes links i s at h =
-    let same : h.is ≡ role.Source = same_Some h.is role.Source (sym h.at ∙ at) in
-    elim h.pulls [
-      | inl other ↦ no-queue (sym other ∙ same)
-      | inr pulls ↦ false≢true (ap (λ r. is_scheduler (Some r)) (sym same) ∙ pulls)
-    ]
-  where
-    no-queue : role.Queue ≡ role.Source → ⊥
-    no-queue e = cc
+no-pull nodes links i s at h = search (rules, same_Some, false≢true)
 
 pub sender-sent : (elements : List Element) (wires : List Wire) → fault_of elements wires ≡ None → (s : ℕ) → IsSenderAt (plan_of elements wires) s → IsSentTo (plan_of elements wires) s
 sender-sent elements wires none s from =
@@ -232,21 +176,11 @@ sender-sent elements wires none s from =
 -- no Sender stands twice among the sources of a queue
 later-differ : (p : ℕ → Bool) (s a n : ℕ) → s < a → stands_in s (filter p (range_with_len a n)) ≡ false
 later-differ p s a zero below = refl
-later-differ p s a (suc n) below = by_test (p a) (ne_eqb a s (λ same. omega arith)) (later-differ p s (a + 1) n (omega arith))
-  where
-    by_test : (b : Bool) → (a == s) ≡ false → stands_in s (filter p (range_with_len (a + 1) n)) ≡ false
-        → stands_in s (if b then a ∷ filter p (range_with_len (a + 1) n) else filter p (range_with_len (a + 1) n)) ≡ false
-    by_test true other later = or_from (a == s) (stands_in s (filter p (range_with_len (a + 1) n))) other later
-    by_test false other later = later
+later-differ p s a (suc n) below = search (rules, or_from, (later-differ p s (a + 1) n (omega arith)))
 
 range-distinct : (p : ℕ → Bool) (a n : ℕ) → are_distinct (filter p (range_with_len a n)) ≡ true
 range-distinct p a zero = refl
-range-distinct p a (suc n) = by_test (p a) (later-differ p a (a + 1) n (omega arith)) (range-distinct p (a + 1) n)
-  where
-    by_test : (b : Bool) → stands_in a (filter p (range_with_len (a + 1) n)) ≡ false → are_distinct (filter p (range_with_len (a + 1) n)) ≡ true
-        → are_distinct (if b then a ∷ filter p (range_with_len (a + 1) n) else filter p (range_with_len (a + 1) n)) ≡ true
-    by_test true apart later = ap (λ t. not t && are_distinct (filter p (range_with_len (a + 1) n))) apart ∙ later
-    by_test false apart later = later
+range-distinct p a (suc n) = search (rules, later-differ, (range-distinct p (a + 1) n))
 
 pub queue-distinct : (elements : List Element) (wires : List Wire) (i : ℕ) (e : Planned) → slice_get (plan_of elements wires) i ≡ Some e → tree.is_queue e.class ≡ true
     → are_distinct e.sources ≡ true

@@ -1,5 +1,5 @@
 -- No two Senders of the plan of a text without a fault have the same number.
-use Rattle.std.proofs.Common.{◌≡◌, ℕ, ◌+◌, ◌==◌, ◌&&◌, ◌||◌, zero, suc, Bool, true, false, not, List, [], ◌∷◌, length, Option, Some, None, option_map, slice_get, refl, sym, ap, subst, ◌∙◌, eq-eqb, ne_eqb}
+use Rattle.std.proofs.Common.{◌≡◌, ℕ, ◌+◌, ◌&&◌, zero, suc, true, false, not, List, [], ◌∷◌, length, Option, Some, None, option_map, slice_get, refl, ap, subst, ◌∙◌, eq-eqb, rules}
 use Rattle.std.specs.List.{AllByRecursion, list_any, cons_option}
 use Rattle.std.proofs.lemmas.Bool.{or_parts, or_from, or_right, false≢true}
 use Rattle.std.proofs.lemmas.Option.{same_Some}
@@ -35,10 +35,7 @@ record AreNew (earlier : List Element) (numbers : List ℕ) : Type 0 where
 
 unlike : (n : ℕ) (e : Element) (numbers : List ℕ) → AllByRecursion (λ m. is_sender m (Some (sender n)) ≡ false) numbers → stands_in n numbers ≡ false
 unlike n e [] apart = refl
-unlike n e (m ∷ numbers) apart = or_from (m == n) (stands_in n numbers) (differs (n == m) refl apart.0) (unlike n e numbers apart.1)
-  where
-    differs : (b : Bool) → (n == m) ≡ b → b ≡ false → (m == n) ≡ false
-    differs b is e = ne_eqb m n (λ same. false≢true (sym e ∙ sym is ∙ eq-eqb n m (sym same)))
+unlike n e (m ∷ numbers) apart = search (rules, or_from, false≢true, eq-eqb, (unlike n e numbers apart.1))
 
 each-new : (e : Element) (earlier : List Element) (numbers : List ℕ) → AllByRecursion (IsNew (e ∷ earlier)) numbers → AllByRecursion (IsNew earlier) numbers
 each-new e earlier [] new = tt
@@ -69,13 +66,10 @@ distinct-after count links earlier (e ∷ elements) i none =
         → AreNew (e ∷ earlier) (sender_numbers (planned_from count links i (all_known elements)))
         → AreNew (e ∷ earlier) (sender_numbers (planned_from count links (i + 1) (all_known elements)))
         → AreNew earlier (sender_numbers (planned_from count links i (cons_option (option_map (known_as e) o) (all_known elements))))
-    by_case None is good here later = kept (sender_numbers (planned_from count links i (all_known elements))) here
-    by_case (Some (sender n)) is good here later = more n (sender_numbers (planned_from count links (i + 1) (all_known elements))) is good later
-    by_case (Some class) is good here later = kept (sender_numbers (planned_from count links (i + 1) (all_known elements))) later
+    by_case o is good here later = search (rules, neither, fails-not, each-new, unlike, each-apart, kept, more)
 
 none-bad : (place : Option ℕ) → option_map BadArgument place ≡ None → place ≡ None
-none-bad None e = refl
-none-bad (Some place) e = absurd (cc)
+none-bad place e = search rules
 
 pub senders-distinct : (elements : List Element) (wires : List Wire) → fault_of elements wires ≡ None → are_distinct (sender_numbers (plan_of elements wires)) ≡ true
 senders-distinct elements wires none =
@@ -87,25 +81,18 @@ senders-distinct elements wires none =
 
 -- by their places: Senders of one number are one
 stands-more : (class : Class) (numbers : List ℕ) (n : ℕ) → stands_in n numbers ≡ true → stands_in n (with_number class numbers) ≡ true
-stands-more (sender m) numbers n e = or_right (m == n) (stands_in n numbers) e
-stands-more class numbers n e = e
+stands-more class numbers n e = search (rules, or_right)
 
 number-stands : (plan : List Planned) (i n : ℕ) (e : Planned) → slice_get plan i ≡ Some e → e.class ≡ sender n → stands_in n (sender_numbers plan) ≡ true
 number-stands [] i n e at is = absurd (cc)
-number-stands (x ∷ plan) zero n e at is =
-    let same : x.class ≡ sender n = ap (λ (p : Planned). p.class) (same_Some x e at) ∙ is in
-    ap (λ c. stands_in n (with_number c (sender_numbers plan))) same ∙ ap (λ b. b || stands_in n (sender_numbers plan)) (eq-eqb n n refl)
+number-stands (x ∷ plan) zero n e at is = search (rules, same_Some, eq-eqb, stands-more)
 number-stands (x ∷ plan) (suc i) n e at is = stands-more x.class (sender_numbers plan) n (number-stands plan i n e at is)
 
 rest-distinct : (class : Class) (numbers : List ℕ) → are_distinct (with_number class numbers) ≡ true → are_distinct numbers ≡ true
-rest-distinct (sender m) numbers e = (distinct-parts m numbers e).1
-rest-distinct class numbers e = e
+rest-distinct class numbers e = search (rules, distinct-parts)
 
 first-differs : (x e f : Planned) (plan : List Planned) (j n : ℕ) → are_distinct (sender_numbers (x ∷ plan)) ≡ true → x ≡ e → e.class ≡ sender n → slice_get plan j ≡ Some f → f.class ≡ sender n → ⊥
-first-differs x e f plan j n distinct same is at also =
-    let class : x.class ≡ sender n = ap (λ (p : Planned). p.class) same ∙ is in
-    let none : are_distinct (n ∷ sender_numbers plan) ≡ true = ap (λ c. are_distinct (with_number c (sender_numbers plan))) (sym class) ∙ distinct in
-    false≢true (sym (distinct-parts n (sender_numbers plan) none).0 ∙ number-stands plan j n f at also)
+first-differs x e f plan j n distinct same is at also = search (rules, false≢true, distinct-parts, number-stands)
 
 one-place : (plan : List Planned) (i j n : ℕ) (e f : Planned) → are_distinct (sender_numbers plan) ≡ true → slice_get plan i ≡ Some e → e.class ≡ sender n → slice_get plan j ≡ Some f → f.class ≡ sender n → i ≡ j
 one-place [] i j n e f distinct at is there also = absurd (cc)

@@ -1,4 +1,4 @@
-use Rattle.std.proofs.Common.{◌≡◌, ◌+◌, ◌++◌, ◌<◌, ◌∷◌, ◌∙◌, Bool, true, false, not, length, map, drop, slice_index_or, Some, inr, sym, ap, subst, arith}
+use Rattle.std.proofs.Common.{◌≡◌, ◌+◌, ◌++◌, ◌<◌, ◌∷◌, ◌∙◌, Bool, true, false, not, length, map, drop, slice_index_or, Some, inr, sym, ap, subst, arith, rules}
 use Rattle.std.specs.Map.{update}
 use Rattle.std.specs.Option.{option_map, is_some}
 use Rattle.std.specs.Str.{bytes_eq}
@@ -13,8 +13,7 @@ use Rattle.clk_syntax.proofs.Elements.NameLemmas.{Declares-twice, Declares-more}
 use Rattle.clk_syntax.proofs.naming.declare.Goals as goal
 
 not_is : (a b c : Bool) → a ≡ not b → a ≡ c → b ≡ not c
-not_is a true c e f = ap not (sym e ∙ f)
-not_is a false c e f = ap not (sym e ∙ f)
+not_is a b c e f = search rules
 
 pub returns-then-not-branch-clause-declared : goal.returns-then-not-branch-clause-declared
 returns-then-not-branch-clause-declared c =

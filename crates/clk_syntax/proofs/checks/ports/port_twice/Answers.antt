@@ -1,4 +1,4 @@
-use Rattle.std.proofs.Common.{◌≡◌, ◌∙◌, ◌∷◌, ◌+◌, false, ℕ, Option, Some, None, get_or, drop, refl, sym, subst}
+use Rattle.std.proofs.Common.{◌≡◌, ◌∙◌, ◌∷◌, ◌+◌, false, ℕ, Option, None, get_or, drop, sym, subst, rules}
 use Rattle.std.specs.Option.{is_some}
 use Rattle.std.proofs.lemmas.List.{drop_more}
 use Rattle.clk_syntax.specs.declared.node.Link.{Link}
@@ -9,8 +9,7 @@ use Rattle.clk_syntax.proofs.Graphs.PortLemmas.{HasSeen, seen-again, seen-more}
 use Rattle.clk_syntax.proofs.checks.ports.port_twice.Goals as goal
 
 none-there : (o : Option ℕ) → is_some o ≡ false → o ≡ None
-none-there None e = refl
-none-there (Some x) e = absurd (cc)
+none-there o e = search rules
 
 pub loop-link-preserved : goal.loop-link-preserved
 loop-link-preserved c =
