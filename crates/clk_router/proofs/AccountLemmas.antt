@@ -1,6 +1,6 @@
 -- The accounts of senders after one event more.
-use Rattle.std.proofs.Common.{◌≡◌, ℕ, ◌+◌, ◌<◌, ◌==◌, Bool, true, false, if◌then◌else◌, List, [], ◌∷◌, ◌++◌, length, map, set, drop, Option, Some, None, slice_get, get_or, refl, sym, ap, ap₂, ◌∙◌, subst, arith}
-use Rattle.std.specs.List.{list_any, filter_map, cons_option, sum_by}
+use Rattle.std.proofs.Common.{◌≡◌, ℕ, ◌+◌, ◌<◌, ◌==◌, true, false, List, [], ◌∷◌, ◌++◌, length, map, set, drop, Option, Some, None, slice_get, get_or, refl, sym, ap, ap₂, ◌∙◌, subst, arith, rules}
+use Rattle.std.specs.List.{list_any, filter_map, cons_option}
 use Rattle.std.specs.Option.{option_map}
 use Rattle.std.proofs.lemmas.List.{append-nil, append_assoc, drop_more, length-append, length-map}
 use Rattle.std.proofs.lemmas.List.Elements.{filter-append, filter_map-append}
@@ -19,7 +19,7 @@ use Rattle.clk_tree.specs.declared.plan.parts.SenderSpec.{SenderSpec}
 use Rattle.clk_tree.specs.PlanParts.{number_of}
 use Rattle.clk_router.specs.declared.accounts.Total.{Total}
 use Rattle.clk_router.specs.declared.accounts.Account.{Account}
-use Rattle.clk_router.specs.Accounts.{capped, length_of, total_of, account_after, account_sender}
+use Rattle.clk_router.specs.Accounts.{total_of, account_after, account_sender}
 use Rattle.clk_sched.specs.Keeps.{keeps_nothing}
 use Rattle.clk_router.specs.Course.{Course, after}
 use Rattle.clk_router.specs.Events.{sender_numbers, Event, offered, pulled, pulls_from, accepted_in, refused_in, evicted_in, emitted_in}
@@ -50,29 +50,12 @@ abbrev pub departed : List Departure → Account → Account
 departed [] a = a
 departed (d ∷ more) a = departed more (with_emitted d.packet a)
 
--- a count that was capped before more came
-capped-plus : (n k : ℕ) → capped (n + k) ≡ capped (capped n + k)
-capped-plus n k = omega arith
-
 -- one packet more in a total, and one of a sender's packets
 total-more : (packets : List Packet) (p : Packet) → total_of (packets ++ p ∷ []) ≡ with_packet p (total_of packets)
-total-more packets p = λ i. record { packets = count i; bytes = bytes i }
-  where
-    count : capped (length (packets ++ p ∷ [])) ≡ capped (capped (length packets) + 1)
-    count = ap capped (length-append packets (p ∷ [])) ∙ capped-plus (length packets) 1
-
-    alone : sum_by length_of (p ∷ []) ≡ p.length
-    alone = omega arith
-
-    bytes : capped (sum_by length_of (packets ++ p ∷ [])) ≡ capped (capped (sum_by length_of packets) + p.length)
-    bytes = ap capped (sum_by-append length_of packets (p ∷ []) ∙ ap (λ n. sum_by length_of packets + n) alone) ∙ capped-plus (sum_by length_of packets) p.length
+total-more packets p = search (rules, length-append, sum_by-append)
 
 one-more : (s : ℕ) (packets : List Packet) (p : Packet) → with_its s p (total_of packets) ≡ total_of (packets ++ of_sender s (p ∷ []))
-one-more s packets p = by_test (p.sender == s)
-  where
-    by_test : (b : Bool) → (if b then with_packet p (total_of packets) else total_of packets) ≡ total_of (packets ++ (if b then p ∷ [] else []))
-    by_test true = sym (total-more packets p)
-    by_test false = ap total_of (sym (append-nil packets))
+one-more s packets p = search (rules, total-more)
 
 -- what an event adds to the total of a sender's packets of some kind, by the packet of that kind in it
 abbrev with_any : ℕ → Option Packet → Total → Total
@@ -85,9 +68,7 @@ any-more s packets (Some p) = one-more s packets p
 
 total-after : (f : Event → Option Packet) (s : ℕ) (events : List Event) (e : Event)
     → with_any s (f e) (total_of (of_sender s (filter_map f events))) ≡ total_of (of_sender s (filter_map f (events ++ e ∷ [])))
-total-after f s events e =
-    any-more s (of_sender s (filter_map f events)) (f e)
-    ∙ ap total_of (sym (ap (of_sender s) (filter_map-append f events (e ∷ [])) ∙ filter-append (λ (p : Packet). p.sender == s) (filter_map f events) (cons_option (f e) [])))
+total-after f s events e = search (rules, any-more, filter_map-append, filter-append)
 
 -- a sender's account with what an event adds to each total
 abbrev with_event : Event → Account → Account
@@ -121,11 +102,7 @@ noted-event p (Refused q) a = refl
 noted-event p (Evicted front) a = refl
 
 given-event : (d moment : ℕ) (visits : List Visit) (a : Account) → given (result_of (visits_of 0 visits)) a ≡ with_event (pulled d moment visits) a
-given-event d moment visits a = by_result (result_of (visits_of 0 visits))
-  where
-    by_result : (o : Option Packet) → given o a ≡ record { sender = a.sender; queue = a.queue; accepted = a.accepted; refused = a.refused; evicted = a.evicted; emitted = with_any a.sender o a.emitted }
-    by_result None = refl
-    by_result (Some p) = refl
+given-event d moment visits a = search rules
 
 pub accounts-offered : (events : List Event) (p : Packet) (outcome : Offered) (specs : List SenderSpec) → map (noted p outcome) (map (account_after events) specs) ≡ map (account_after (events ++ offered p outcome ∷ [])) specs
 accounts-offered events p outcome = map-after (noted p outcome) (account_after events) (account_after (events ++ offered p outcome ∷ []))

@@ -1,9 +1,8 @@
 -- What a router answers where it is asked what can be done.
-use Rattle.std.proofs.Common.{◌≡◌, ℕ, ◌+◌, ◌<◌, ◌^◌, suc, zero, true, false, Bool, ◌==◌, List, [], ◌∷◌, length, Some, slice_get, get_or, refl, sym, ap, ◌∙◌, subst, arith}
+use Rattle.std.proofs.Common.{◌≡◌, ℕ, ◌+◌, ◌<◌, ◌^◌, false, ◌==◌, List, [], ◌∷◌, length, Some, slice_get, get_or, refl, sym, ap, ◌∙◌, subst, arith, rules}
 use Rattle.std.specs.Option.{option_map}
 use Rattle.std.specs.List.{list_any}
 use Rattle.std.proofs.lemmas.List.{length-map}
-use Rattle.std.proofs.lemmas.Bool.Decides.{nat_tests}
 use Rattle.std.proofs.lemmas.Option.{slice_get-map, slice_get_within, slice_get_read}
 use Rattle.clk_sched.specs.Session.{counted_moment, progress_of}
 use Rattle.clk_tree.specs.PlanParts.{SendsWithin, number_of}
@@ -119,9 +118,4 @@ module _ (setup : Setup) (events : List Event) (parts : Parts) (stand : Stand se
 -- where a number is none of some, no place has it
 pub none-at : (numbers : List ℕ) (n place : ℕ) → list_any (λ m. m == n) numbers ≡ false → slice_get numbers place ≡ Some n → ⊥
 none-at [] n place none at = absurd (cc)
-none-at (m ∷ numbers) n place none at = by_test (m == n) refl place at (none-at numbers n)
-  where
-    by_test : (b : Bool) → (m == n) ≡ b → (k : ℕ) → slice_get (m ∷ numbers) k ≡ Some n → ((j : ℕ) → list_any (λ l. l == n) numbers ≡ false → slice_get numbers j ≡ Some n → ⊥) → ⊥
-    by_test true e k here rest = let no = rw e at none in absurd (cc)
-    by_test false e zero here rest = let same : m ≡ n = cc in absurd (grind (arith, nat_tests))
-    by_test false e (suc k) here rest = rest k (rw e at none) here
+none-at (m ∷ numbers) n place none at = search (rules, (none-at numbers n))

@@ -1,5 +1,5 @@
 -- From which moment on a device could emit a packet, by the device's session and the queues.
-use Rattle.std.proofs.Common.{◌≡◌, ℕ, ◌+◌, ◌<◌, ◌≤◌, ◌==◌, max, fold, nat_lt, Bool, true, false, not, List, [], ◌∷◌, ◌++◌, length, reverse, Option, Some, None, is_some, MatchOption, slice_get, refl, sym, ap, ap₂, ◌∙◌, subst, arith, if◌then◌else◌, inl, inr}
+use Rattle.std.proofs.Common.{◌≡◌, ℕ, ◌+◌, ◌<◌, ◌≤◌, ◌==◌, max, fold, nat_lt, Bool, true, false, not, List, [], ◌∷◌, ◌++◌, length, reverse, Option, Some, None, is_some, MatchOption, slice_get, refl, sym, ap, ◌∙◌, subst, arith, if◌then◌else◌, inl, inr, rules, ap₂}
 use Rattle.std.specs.Bool.{⊤}
 use Rattle.std.specs.List.{filter_map}
 use Rattle.std.proofs.lemmas.Bool.{false≢true}
@@ -12,7 +12,7 @@ use Rattle.clk_packet.specs.Lists.{In, stands_in}
 use Rattle.clk_ring.specs.Queue.{Queue}
 use Rattle.clk_ring.specs.QueueHistory.{held, pull_event, IsInOrder, IsQueueHistory}
 use Rattle.clk_sched.specs.declared.visit.Visit.{Visit}
-use Rattle.clk_sched.specs.Due.{IsDue, turns_in, tree_could_emit, GetsFromBacklogged, EmitsOnceDue}
+use Rattle.clk_sched.specs.Due.{IsDue, tree_could_emit, GetsFromBacklogged, EmitsOnceDue, turns_in}
 use Rattle.clk_sched.specs.Log.{pulls, moment_of, visits_of, result_of}
 use Rattle.clk_sched.specs.Answers.{tree_queue}
 use Rattle.clk_sched.specs.Results.{asks_queue}
@@ -34,16 +34,14 @@ use Rattle.clk_router.specs.inside.Queues.{packets_in, packets_at}
 use Rattle.clk_router.proofs.AskLemmas.{moment-is}
 use Rattle.clk_router.proofs.Callers.Events.{events-here, log-pulled, latest-moment}
 use Rattle.clk_router.proofs.Callers.Plans.{queue-stands}
-use Rattle.clk_router.proofs.PartsLemmas.{IsHere, member-at, device-here}
+use Rattle.clk_router.proofs.PartsLemmas.{member-at, IsHere, device-here}
 use Rattle.clk_router.proofs.RouterLemmas.{course}
 use Rattle.clk_router.proofs.Settled.QueuePackets.{history-in_order, held-before}
 
 -- a queue of a device holds what its history says
 held-there : (setup : Setup) (d q : ℕ) (events : List Event) (room : Option Room) (ring : Option Queue) → is_at d room ≡ true → AreQueuesAt (history setup q events) room ring
     → nat_lt 0 (length (packets_in ring)) ≡ is_backlogged setup events q
-held-there setup d q events None ring at leads = absurd (false≢true at)
-held-there setup d q events (Some room) None at leads = absurd leads
-held-there setup d q events (Some room) (Some ring) at leads = ap (λ l. nat_lt 0 (length l)) (sym leads.leads.holds)
+held-there setup d q events room ring at leads = search rules
 
 device-due : (setup : Setup) (events : List Event) (parts : Parts) (d : ℕ) (its : Device) (due : Option ℕ) → Stand setup events parts → slice_get parts.devices.items d ≡ Some its
     → IsSessionDue its.session parts.queues.rings.items due → IsDeviceDue (course setup events parts) d due

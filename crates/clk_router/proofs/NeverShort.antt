@@ -1,9 +1,8 @@
 -- The closing of a device over a plan never stops short: its queues lose nothing, and what it is told to be left is what queues and heads hold.
-use Rattle.std.proofs.Common.{◌≡◌, ◌≢◌, ℕ, zero, suc, ◌+◌, ◌<◌, ◌==◌, ◌||◌, Bool, true, false, List, [], ◌∷◌, length, map, Option, Some, None, slice_get, refl, sym, ap, ◌∙◌, subst, arith}
+use Rattle.std.proofs.Common.{◌≡◌, ℕ, zero, suc, ◌+◌, ◌<◌, ◌==◌, ◌||◌, Bool, true, false, List, [], ◌∷◌, length, map, Option, Some, None, slice_get, refl, sym, ap, ◌∙◌, subst, arith, rules}
 use Rattle.std.specs.List.{AllByRecursion}
 use Rattle.std.proofs.lemmas.Bool.{false≢true}
 use Rattle.std.proofs.lemmas.Bool.Decides.{nat_tests}
-use Rattle.clk_packet.specs.declared.packet.Packet.{Packet}
 use Rattle.clk_ring.specs.Queue.{Queue}
 use Rattle.clk_ring.specs.QueueHistory.{held}
 use Rattle.clk_packet.specs.Lists.{stands_in, AreRising}
@@ -11,7 +10,7 @@ use Rattle.clk_sched.specs.Tree.{Tree, root, leaves, leaves_distinct}
 use Rattle.clk_sched.specs.Run.{IsRun}
 use Rattle.clk_sched.specs.Results.{emitted, heads}
 use Rattle.clk_sched.specs.Conservation.{ConservesCounts}
-use Rattle.clk_sched.specs.Closing.{GivesOut, LosesNothing, held_in_all, left_in}
+use Rattle.clk_sched.specs.Closing.{LosesNothing, held_in_all, left_in}
 use Rattle.clk_tree.specs.Plan.{Planned}
 use Rattle.clk_tree.specs.PlanTree.{device_count}
 use Rattle.clk_tree.specs.PlanParts.{Queued, queues_of, senders_of, number_of}
@@ -22,29 +21,15 @@ use Rattle.clk_router.specs.declared.parts.Parts.{Parts}
 use Rattle.clk_router.specs.Events.{Room, Setup, Event, is_at, events_at, log_of, history, plan_setup}
 use Rattle.clk_router.specs.inside.Closable.{AreQueuesOf, IsClosable}
 use Rattle.clk_router.specs.inside.Parts.{CanStand, AreQueuesAt, IsAt}
-use Rattle.clk_router.specs.inside.Queues.{packets_in, packets_at, PullsFrom, GivesAt}
+use Rattle.clk_router.specs.inside.Queues.{packets_in, packets_at, GivesAt}
 use Rattle.clk_router.proofs.Callers.Plans.{plan-apart, leaves-at}
 use Rattle.clk_router.proofs.Callers.Apart.{history-alone}
 use Rattle.clk_router.proofs.PartsLemmas.{IsHere, device-here}
 use Rattle.clk_router.proofs.Settled.NoneLeft.{left-held}
 
 -- Queues lose nothing.
-queue-gives : (got : Option Packet) (old new : Option Queue) → PullsFrom got old new → GivesOut (length (packets_in old)) (got ∷ []) (length (packets_in new))
-queue-gives None None new h = (refl, ap (λ o. length (packets_in o)) (sym h.1))
-queue-gives (Some p) None new h = absurd (cc)
-queue-gives got (Some old) None h = absurd h
-queue-gives None (Some old) (Some new) h = (ap length h.0, ap (λ (q : Queue). length q.packets) (sym h.1))
-queue-gives (Some p) (Some old) (Some new) h = (length h.0, ap length h.1, ap (λ (q : Queue). length q.packets) (sym h.2))
-
 pub queues-lose-nothing : LosesNothing (λ (old : Queues) leaf got (new : Queues). GivesAt old.rings.items leaf got new.rings.items) (λ (s : Queues) leaf. length (packets_at s.rings.items leaf))
-queues-lose-nothing a leaf got b h = record {
-  here = queue-gives got (slice_get a.rings.items leaf) (slice_get b.rings.items leaf) h.here;
-  others = λ q other. ap (λ o. length (packets_in o)) (h.only.others q (apart q other (leaf == q) refl));
-}
-  where
-    apart : (q : ℕ) → q ≢ leaf → (b : Bool) → (leaf == q) ≡ b → b ≡ false
-    apart q other false e = refl
-    apart q other true e = let same : q ≡ leaf = grind (arith, nat_tests, e) in absurd (other same)
+queues-lose-nothing a leaf got b h = search rules
 
 -- a sum over queues goes by what each holds
 held-same : (f g : ℕ → ℕ) (qs : List ℕ) → ((q : ℕ) → stands_in q qs ≡ true → f q ≡ g q) → held_in_all f qs ≡ held_in_all g qs

@@ -1,21 +1,19 @@
 -- How the parts of a router go on by one event.
-use Rattle.std.proofs.Common.{◌≡◌, ℕ, ◌+◌, ◌<◌, ◌==◌, ◌&&◌, ◌||◌, zero, suc, Bool, true, false, List, [], ◌∷◌, ◌++◌, length, map, drop, reverse, max, set, if◌then◌else◌, Option, Some, None, Result, Ok, Err, IfOk, OnOk, MatchOption, Vec, slice_get, slice_set, get_or, refl, sym, ap, ap₂, ◌∙◌, subst, arith}
+use Rattle.std.proofs.Common.{◌≡◌, ℕ, ◌+◌, ◌<◌, ◌==◌, ◌&&◌, zero, suc, Bool, true, false, List, [], ◌∷◌, ◌++◌, length, map, drop, reverse, max, set, if◌then◌else◌, Option, Some, None, Result, Ok, Err, IfOk, OnOk, MatchOption, Vec, slice_get, slice_set, get_or, refl, sym, ap, ap₂, ◌∙◌, subst, arith, rules}
 use Rattle.std.specs.Bool.{⊤}
-use Rattle.std.specs.Option.{option_map}
 use Rattle.std.specs.declared.alloc.Global.{Global}
-use Rattle.std.specs.List.{AllByRecursion, list_any, filter_map, cons_option}
-use Rattle.std.proofs.lemmas.List.{append_assoc, append-nil, length-append, length-map, length-set}
+use Rattle.std.specs.List.{AllByRecursion, list_any}
+use Rattle.std.proofs.lemmas.List.{append_assoc, append-nil, length-append, length-map}
 use Rattle.std.proofs.lemmas.List.Concat.{flat_map-append}
 use Rattle.std.proofs.lemmas.List.Elements.{filter_map-append}
 use Rattle.std.proofs.lemmas.Option.{slice_get-map, slice_get_read, slice_get_within}
-use Rattle.std.proofs.lemmas.Bool.{false≢true}
 use Rattle.std.proofs.lemmas.Bool.Decides.{nat_tests}
 use Rattle.clk_sched.proofs.Callers.Lists.{set-here, set-other}
 use Rattle.clk_packet.specs.declared.packet.Packet.{Packet}
 use Rattle.clk_packet.specs.declared.packet.Offered.{Offered}
 use Rattle.clk_packet.specs.declared.packet.Offered.TheVariants.{Accepted, Refused, Evicted}
-use Rattle.clk_ring.specs.Queue.{Queue, IsOffered, IsPulled}
-use Rattle.clk_ring.specs.QueueHistory.{QueueEvent, IsQueueHistory, offer_events, pull_event, NamesOffer}
+use Rattle.clk_ring.specs.Queue.{Queue, IsOffered}
+use Rattle.clk_ring.specs.QueueHistory.{QueueEvent, IsQueueHistory, pull_event, NamesOffer, offer_events}
 use Rattle.clk_ring.specs.Laws.{CallsAreHistory}
 use Rattle.clk_sched.specs.declared.session.keeps.Keeps.{Keeps}
 use Rattle.clk_sched.specs.declared.visit.Visit.{Visit}
@@ -33,7 +31,7 @@ use Rattle.clk_router.specs.declared.senders.Sender.{Sender}
 use Rattle.clk_router.specs.declared.queues.Queues.{Queues}
 use Rattle.clk_router.specs.declared.devices.Device.{Device}
 use Rattle.clk_router.specs.declared.parts.Parts.{Parts}
-use Rattle.clk_router.specs.Events.{Room, Setup, room_of, setup_of, sender_numbers, is_at, is_of_device, Event, offered, pulled, happens_at, events_at, numbers_of, accepted_in, evicted_in, visits_in, log_of, sends_to, answers_in, at_queue, history, RunsTree}
+use Rattle.clk_router.specs.Events.{Room, Setup, room_of, setup_of, sender_numbers, is_at, is_of_device, Event, offered, pulled, happens_at, events_at, numbers_of, log_of, sends_to, answers_in, at_queue, history, RunsTree}
 use Rattle.clk_router.specs.Course.{room_device}
 use Rattle.clk_router.specs.inside.Parts.{path_made, device_made, sender_made, sent_one_more, AreQueuesAt, IsDeviceAt, AreDevicesAt, IsAt, CanSendOn, CanCount, ChangesDevice, kept_by, CountsHere, CountsAt, Counts, KeepsAs, KeepsAsAt, LeadsOnByPull}
 use Rattle.clk_router.specs.inside.Queues.{packets_at, queue_made, OffersTo, PullsFrom, OffersAt, GivesAt}
@@ -60,53 +58,16 @@ all-there P (y ∷ xs) (suc i) x all e = all-there P xs i x all.1 e
 pub history-with : (setup : Setup) (q : ℕ) (events : List Event) (e : Event) → history setup q (events ++ e ∷ []) ≡ history setup q events ++ at_queue setup q e
 history-with setup q events e = flat_map-append (at_queue setup q) events (e ∷ []) ∙ ap (λ l. history setup q events ++ l) (append-nil (at_queue setup q e))
 
--- a call keeps the kind and the capacity
-offered-keeps : (old new : Queue) (p : Packet) (outcome : Offered) → IsOffered old p outcome new → (new.kind ≡ old.kind) × (new.capacity ≡ old.capacity)
-offered-keeps old new p Accepted h = (ap (λ (q : Queue). q.kind) h.1, ap (λ (q : Queue). q.capacity) h.1)
-offered-keeps old new p (Refused q) h = (ap (λ (q : Queue). q.kind) h.3, ap (λ (q : Queue). q.capacity) h.3)
-offered-keeps old new p (Evicted front) h = (ap (λ (q : Queue). q.kind) h.2.2, ap (λ (q : Queue). q.capacity) h.2.2)
-
-pulled-keeps : (old new : Queue) (got : Option Packet) → IsPulled old got new → (new.kind ≡ old.kind) × (new.capacity ≡ old.capacity)
-pulled-keeps old new None h = (ap (λ (q : Queue). q.kind) h.1, ap (λ (q : Queue). q.capacity) h.1)
-pulled-keeps old new (Some p) h = (ap (λ (q : Queue). q.kind) h.2, ap (λ (q : Queue). q.capacity) h.2)
-
--- a refusal names what was offered
-names-offer : (old new : Queue) (p : Packet) (outcome : Offered) → IsOffered old p outcome new → NamesOffer p outcome
-names-offer old new p Accepted h = tt
-names-offer old new p (Refused q) h = h.2
-names-offer old new p (Evicted front) h = tt
-
 names-at : (old new : Option Queue) (p : Packet) (outcome : Offered) → OffersTo p outcome old new → NamesOffer p outcome
-names-at None new p outcome h = absurd h
-names-at (Some old) None p outcome h = absurd h
-names-at (Some old) (Some new) p outcome h = names-offer old new p outcome h
-
--- the queue at a place goes on by an offer, and by a pull
-at-offered : CallsAreHistory → (events : List QueueEvent) (room : Option Room) (old new : Option Queue) (p : Packet) (outcome : Offered) → AreQueuesAt events room old → OffersTo p outcome old new
-    → AreQueuesAt (events ++ offer_events p outcome) room new
-at-offered calls events room None new p outcome is h = absurd h
-at-offered calls events room (Some old) None p outcome is h = absurd h
-at-offered calls events None (Some old) (Some new) p outcome is h = absurd is
-at-offered calls events (Some room) (Some old) (Some new) p outcome is h =
-    let keeps = offered-keeps old new p outcome h in
-    record { leads = calls.offered events old new p outcome is.leads h; kind = keeps.0 ∙ is.kind; capacity = keeps.1 ∙ is.capacity }
+names-at old new p outcome h = search rules
 
 at-pulled : CallsAreHistory → (events : List QueueEvent) (room : Option Room) (old new : Option Queue) (got : Option Packet) → AreQueuesAt events room old → PullsFrom got old new
     → AreQueuesAt (events ++ pull_event got ∷ []) room new
-at-pulled calls events None None None got is h = tt
-at-pulled calls events None None (Some new) got is h = absurd (subst (λ (o : Option Queue). MatchOption o ⊤ (λ q. ⊥)) (sym h.1) tt)
-at-pulled calls events (Some room) None new got is h = absurd is
-at-pulled calls events room (Some old) None got is h = absurd h
-at-pulled calls events None (Some old) (Some new) got is h = absurd is
-at-pulled calls events (Some room) (Some old) (Some new) got is h =
-    let keeps = pulled-keeps old new got h in
-    record { leads = calls.pulled events old new got is.leads h; kind = keeps.0 ∙ is.kind; capacity = keeps.1 ∙ is.capacity }
+at-pulled calls events room old new got is h = search rules
 
 -- what a queue has been through, as the setup says it
 pub its-history : (events : List QueueEvent) (room : Option Room) (q : Option Queue) → AreQueuesAt events room q → MatchOption room ⊤ (λ (s : Room). IsQueueHistory s.kind s.capacity events)
-its-history events None q is = tt
-its-history events (Some room) None is = absurd is
-its-history events (Some room) (Some q) is = subst (λ k. IsQueueHistory k room.capacity events) is.kind (subst (λ n. IsQueueHistory q.kind n events) is.capacity is.leads.whole)
+its-history events room q is = search rules
 
 -- these histories lead to these queues, which are those of a setup
 pub record StandAt (setup : Setup) (events : ℕ → List QueueEvent) (queues : List Queue) : Type 0 where
@@ -133,9 +94,7 @@ visit-answered calls setup tree v a events Rest at answer = by_asked (tree_queue
     by_asked None e rest = (a, record { each = same; count = at.count }, rest)
       where
         same : (q : ℕ) → AreQueuesAt (events q ++ at_visit tree q v) (slice_get setup.queues q) (slice_get a.rings.items q)
-        same q =
-            let none : asks_queue tree q v ≡ false = asks-its tree q v ∙ ap (is_number q) e in
-            rw (none, append-nil) (at.each q)
+        same q = search rules
     by_asked (Some leaf) e answered = (answered.0, record { each = changed; count = answered.1.only.count ∙ at.count }, answered.2)
       where
         changed : (q : ℕ) → AreQueuesAt (events q ++ at_visit tree q v) (slice_get setup.queues q) (slice_get answered.0.rings.items q)
@@ -158,11 +117,7 @@ visit-answered calls setup tree v a events Rest at answer = by_asked (tree_queue
 -- the answers of a tree's visits
 visits-answered : CallsAreHistory → (setup : Setup) (tree : Tree) (visits : List Visit) (a b : Queues) (events : ℕ → List QueueEvent) → StandAt setup events a.rings.items
     → Answers gives (tree_queue tree) a visits b → StandAt setup (λ q. events q ++ answers_in (Some tree) q visits) b.rings.items
-visits-answered calls setup tree [] a b events at e =
-    record {
-      each = λ q. rw append-nil (subst (λ (s : Queues). AreQueuesAt (events q) (slice_get setup.queues q) (slice_get s.rings.items q)) e (at.each q));
-      count = ap (λ (s : Queues). length s.rings.items) (sym e) ∙ at.count;
-    }
+visits-answered calls setup tree [] a b events at e = search rules
 visits-answered calls setup tree (v ∷ visits) a b events at answers =
     let first = visit-answered calls setup tree v a events (λ c. Answers gives (tree_queue tree) c visits b) at answers in
     let rest = visits-answered calls setup tree visits first.0 b (λ q. events q ++ at_visit tree q v) first.1 first.2 in
@@ -190,12 +145,7 @@ pub record IsHere (setup : Setup) (events : List Event) (d : ℕ) (device : Devi
 
 here-at : (setup : Setup) (events : List Event) (d : ℕ) (device : Device) (tree : Option Tree) (at : Option Device) → slice_get setup.trees d ≡ tree → AreDevicesAt (events_at setup d events) tree at
     → MatchOption tree ⊤ (λ t. RunsTree t (events_at setup d events)) → at ≡ Some device → IsHere setup events d device
-here-at setup events d device None None e is runs here = absurd (cc)
-here-at setup events d device None (Some other) e is runs here = absurd is
-here-at setup events d device (Some tree) None e is runs here = absurd is
-here-at setup events d device (Some tree) (Some other) e is runs here =
-    let same : other ≡ device = cc in
-    record { tree = tree; its = e; is = subst (IsDeviceAt (events_at setup d events) tree) same is; runs = runs }
+here-at setup events d device tree at e is runs here = search rules
 
 pub device-here : (setup : Setup) (events : List Event) (parts : Parts) (d : ℕ) (device : Device) → IsAt setup events parts → slice_get parts.devices.items d ≡ Some device → IsHere setup events d device
 device-here setup events parts d device at here =
@@ -208,28 +158,7 @@ devices-same es fs tree old new e f is = subst (λ (o : Option Device). AreDevic
 -- what an offer counts at its device
 counts-offered : (events : List Event) (tree : Tree) (old new : Device) (p : Packet) (outcome : Offered) → IsDeviceAt events tree old → new.session ≡ old.session → new.kept ≡ old.kept + kept_by outcome
     → IsDeviceAt (events ++ offered p outcome ∷ []) tree new
-counts-offered events tree old new p outcome is session kept =
-    record {
-      tree_is = ap (λ s. s.tree) session ∙ is.tree_is;
-      log = ap (λ s. s.log) session ∙ is.log ∙ sym (flat_map-append visits_in events (offered p outcome ∷ []) ∙ append-nil (log_of events));
-      kept = counted;
-    }
-  where
-    more : (f : Event → Option Packet) (e : Event) → length (filter_map f (events ++ e ∷ [])) ≡ length (filter_map f events) + length (cons_option (f e) [])
-    more f e = ap length (filter_map-append f events (e ∷ [])) ∙ length-append (filter_map f events) (cons_option (f e) [])
-
-    kept-share : (o : Offered) → kept_by o + length (cons_option (evicted_in (offered p o)) []) ≡ length (cons_option (accepted_in (offered p o)) [])
-    kept-share Accepted = refl
-    kept-share (Refused q) = refl
-    kept-share (Evicted front) = refl
-
-    counted : new.kept + length (filter_map evicted_in (events ++ offered p outcome ∷ [])) ≡ length (filter_map accepted_in (events ++ offered p outcome ∷ []))
-    counted =
-        let was = is.kept in
-        let accepted = more accepted_in (offered p outcome) in
-        let evicted = more evicted_in (offered p outcome) in
-        let one = kept-share outcome in
-        omega (arith, was, accepted, evicted, kept, one)
+counts-offered events tree old new p outcome is session kept = search (rules, flat_map-append, filter_map-append, length-append)
 
 counts-here : (events : List Event) (tree : Option Tree) (old new : Option Device) (p : Packet) (outcome : Offered) → AreDevicesAt events tree old → CountsHere outcome old new
     → AreDevicesAt (events ++ offered p outcome ∷ []) tree new
@@ -240,11 +169,7 @@ counts-here events (Some tree) (Some old) (Some new) p outcome is counts = count
 
 -- the device of the queue at a place
 room-device : (rooms : List Room) (q device : ℕ) → slice_get (map room_device rooms) q ≡ Some device → (d : ℕ) → is_at d (slice_get rooms q) ≡ (device == d)
-room-device rooms q device here d = by_room (slice_get rooms q) (sym (slice_get-map room_device rooms q) ∙ here)
-  where
-    by_room : (o : Option Room) → option_map room_device o ≡ Some device → is_at d o ≡ (device == d)
-    by_room None e = absurd (cc)
-    by_room (Some room) e = let same : room.device ≡ device = cc in ap (λ n. n == d) same
+room-device rooms q device here d = search (rules, slice_get-map)
 
 -- The device of this number was one, and is another now.
 pub record IsSetAt (old : List Device) (d : ℕ) (before after : Device) (new : List Device) : Type 0 where
@@ -253,19 +178,7 @@ pub record IsSetAt (old : List Device) (d : ℕ) (before after : Device) (new : 
   pub only : ChangesDevice old d new
 
 pub set-device : (old : List Device) (d i : ℕ) (before after : Device) → i ≡ d → d < length old → before ≡ get_or old i before → IsSetAt old d before after (slice_set old i after)
-set-device old d i before after same within value =
-    subst (λ n. IsSetAt old n before after (slice_set old i after)) same
-    (record { was = slice_get_read old _ i before refl inside value; is = set-here old i after inside; only = record { count = length-set old i after; others = others } })
-  where
-    inside : i < length old
-    inside = omega (arith, same, within)
-
-    others : (k : ℕ) → (i == k) ≡ false → slice_get (slice_set old i after) k ≡ slice_get old k
-    others k other =
-        set-other old i k after
-        (λ e.
-        let yes : (i == k) ≡ true = grind (arith, nat_tests) in
-        absurd (false≢true (sym other ∙ yes)))
+set-device old d i before after same within value = search (rules, slice_get_read, set-here, set-other)
 
 -- a sender that can send is there
 pub can-send : (count : ℕ) (senders : List Sender) (place : ℕ) → CanSendOn count (slice_get senders place) → place < length senders
@@ -281,25 +194,15 @@ can-count (device ∷ devices) (suc d) can = let below = can-count devices d can
 
 -- An outcome counts one packet more at the device of its queue.
 pub counts-one : (old : List Device) (d : ℕ) (before : Device) (new : List Device) → IsSetAt old d before (record { session = before.session; kept = before.kept + 1 }) new → CountsAt old d Accepted new
-counts-one old d before new set =
-    record {
-      here = subst (λ (o : Option Device). CountsHere Accepted o (slice_get new d)) (sym set.was) (subst (λ (o : Option Device). CountsHere Accepted (Some before) o) (sym set.is) (refl, refl));
-      only = set.only;
-    }
+counts-one old d before new set = search rules
 
 -- What one device keeps may change, where only it does.
 pub kinds-changed : (keeps : Keeps) (old : List Device) (d : ℕ) (new : List Device) → ChangesDevice old d new → (KeepsAsAt keeps (slice_get old d) → KeepsAsAt keeps (slice_get new d))
     → ((k : ℕ) → KeepsAsAt keeps (slice_get old k)) → (k : ℕ) → KeepsAsAt keeps (slice_get new k)
-kinds-changed keeps old d new changes here at k = by_test (d == k) refl
-  where
-    by_test : (b : Bool) → (d == k) ≡ b → KeepsAsAt keeps (slice_get new k)
-    by_test true f = let same : d ≡ k = grind (arith, nat_tests) in subst (λ n. KeepsAsAt keeps (slice_get new n)) same (here (at d))
-    by_test false f = subst (KeepsAsAt keeps) (sym (changes.others k f)) (at k)
+kinds-changed keeps old d new changes here at k = search rules
 
 kinds-counted : (keeps : Keeps) (outcome : Offered) (old new : Option Device) → CountsHere outcome old new → KeepsAsAt keeps old → KeepsAsAt keeps new
-kinds-counted keeps outcome None new counts h = absurd counts
-kinds-counted keeps outcome (Some old) None counts h = absurd counts
-kinds-counted keeps outcome (Some old) (Some new) counts h = (ap (λ s. s.keeps) counts.0 ∙ h.0, ap (λ s. s.gone) counts.0 ∙ h.1)
+kinds-counted keeps outcome old new counts h = search rules
 
 pub kinds-set : (keeps : Keeps) (old : List Device) (d : ℕ) (before after : Device) (new : List Device) → slice_get old d ≡ Some before → slice_get new d ≡ Some after → ChangesDevice old d new → (after.session.keeps ≡ before.session.keeps) × (after.session.gone ≡ before.session.gone)
     → ((k : ℕ) → KeepsAsAt keeps (slice_get old k)) → (k : ℕ) → KeepsAsAt keeps (slice_get new k)
@@ -309,15 +212,24 @@ kinds-set keeps old d before after new was is changes kind =
 -- the number of the sender at a place is among those of all
 number-there : (senders : List SenderSpec) (place : ℕ) (s : SenderSpec) → slice_get senders place ≡ Some s → list_any (λ n. n == s.number) (map number_of senders) ≡ true
 number-there [] place s at = absurd (cc)
-number-there (x ∷ senders) zero s at =
-    let same : x ≡ s = cc in
-    let here : (s.number == s.number) ≡ true = grind (arith, nat_tests) in
-    ap (λ (y : SenderSpec). (y.number == s.number) || list_any (λ n. n == s.number) (map number_of senders)) same ∙ ap (λ b. b || list_any (λ n. n == s.number) (map number_of senders)) here
-number-there (x ∷ senders) (suc place) s at = ap (λ b. (x.number == s.number) || b) (number-there senders place s at) ∙ or_true (x.number == s.number)
-  where
-    or_true : (b : Bool) → (b || true) ≡ true
-    or_true true = refl
-    or_true false = refl
+number-there (x ∷ senders) zero s at = search rules
+number-there (x ∷ senders) (suc place) s at = search (rules, (number-there senders place s at))
+
+-- a call keeps the kind and the capacity
+offered-keeps : (old new : Queue) (p : Packet) (outcome : Offered) → IsOffered old p outcome new → (new.kind ≡ old.kind) × (new.capacity ≡ old.capacity)
+offered-keeps old new p Accepted h = (ap (λ (q : Queue). q.kind) h.1, ap (λ (q : Queue). q.capacity) h.1)
+offered-keeps old new p (Refused q) h = (ap (λ (q : Queue). q.kind) h.3, ap (λ (q : Queue). q.capacity) h.3)
+offered-keeps old new p (Evicted front) h = (ap (λ (q : Queue). q.kind) h.2.2, ap (λ (q : Queue). q.capacity) h.2.2)
+
+-- the queue at a place goes on by an offer, and by a pull
+at-offered : CallsAreHistory → (events : List QueueEvent) (room : Option Room) (old new : Option Queue) (p : Packet) (outcome : Offered) → AreQueuesAt events room old → OffersTo p outcome old new
+    → AreQueuesAt (events ++ offer_events p outcome) room new
+at-offered calls events room None new p outcome is h = absurd h
+at-offered calls events room (Some old) None p outcome is h = absurd h
+at-offered calls events None (Some old) (Some new) p outcome is h = absurd is
+at-offered calls events (Some room) (Some old) (Some new) p outcome is h =
+    let keeps = offered-keeps old new p outcome h in
+    record { leads = calls.offered events old new p outcome is.leads h; kind = keeps.0 ∙ is.kind; capacity = keeps.1 ∙ is.capacity }
 
 -- An offer of the sender at a place leads on.
 pub IsAt-sent : CallsAreHistory → (setup : Setup) (events : List Event) (old mid new : Parts) (place device : ℕ) (s : Sender) (p : Packet) (outcome : Offered) → Counts mid s.queue outcome new → IsAt setup events old
@@ -363,9 +275,7 @@ IsAt-sent calls setup events old mid new place device s p outcome counts at risi
     its_rising = subst AreRising at.numbers rising
 
     sends : (q : ℕ) → sends_to setup.senders p.sender q ≡ (s.queue == q)
-    sends q =
-        ap (λ n. sends_to setup.senders n q) its_number ∙ sends-its q setup.senders place theirs.spec its_rising theirs.here
-        ∙ ap (λ (t : Sender). t.queue == q) (sym theirs.is)
+    sends q = search (rules, spec-at, sends-its, theirs, its_number, its_rising)
 
     queues : (q : ℕ) → AreQueuesAt (history setup q more) (slice_get setup.queues q) (slice_get new.queues.rings.items q)
     queues q = subst (λ l. AreQueuesAt l (slice_get setup.queues q) (slice_get new.queues.rings.items q)) (sym (history-with setup q events (offered p outcome))) (by_test (s.queue == q) refl)
@@ -463,14 +373,7 @@ IsAt-pulled calls setup events old new d moment before after got at was is chang
     queues q = subst (λ l. AreQueuesAt l (slice_get setup.queues q) (slice_get new.queues.rings.items q)) (sym (history-with setup q events (pulled d moment visits))) (answered.each q)
 
     itself : IsDeviceAt (events_at setup d events ++ pulled d moment visits ∷ []) here.tree after
-    itself =
-        record {
-          tree_is = once.tree ∙ here.is.tree_is;
-          log = log ∙ sym (log-pulled (events_at setup d events) d moment visits);
-          kept =
-              ap₂ (λ a b. a + b) kept (ap length (filter_map-append evicted_in (events_at setup d events) (pulled d moment visits ∷ []) ∙ append-nil (filter_map evicted_in (events_at setup d events))))
-              ∙ here.is.kept ∙ ap length (sym (filter_map-append accepted_in (events_at setup d events) (pulled d moment visits ∷ []) ∙ append-nil (filter_map accepted_in (events_at setup d events))));
-        }
+    itself = search (rules, log-pulled, filter_map-append)
 
     devices_go : (k : ℕ) → AreDevicesAt (events_at setup k more) (slice_get setup.trees k) (slice_get new.devices.items k)
     devices_go k = by_test (d == k) refl
@@ -486,11 +389,6 @@ IsAt-pulled calls setup events old new d moment before after got at was is chang
             devices-same (events_at setup k events) (events_at setup k more) (slice_get setup.trees k) (slice_get old.devices.items k) (slice_get new.devices.items k)
             (sym (events-elsewhere setup k events (pulled d moment visits) f)) (changes.others k f) (at.devices k)
 
--- what was asked for is what was made
-length-made : (queues : List Queued) → length (map queue_made queues) ≡ length (map room_of queues)
-length-made [] = refl
-length-made (q ∷ queues) = ap suc (length-made queues)
-
 paths-made : (queues : List Queued) → map path_made queues ≡ map room_device (map room_of queues)
 paths-made [] = refl
 paths-made (q ∷ queues) = ap (λ l. q.device ∷ l) (paths-made queues)
@@ -499,46 +397,7 @@ paths-made (q ∷ queues) = ap (λ l. q.device ∷ l) (paths-made queues)
 pub IsAt-made : CallsAreHistory → (names : List (List ℕ)) (trees : List Tree) (queues : List Queued) (senders : List SenderSpec) (parts : Parts) → ((tree : Tree) → IsRun tree [])
     → parts.devices.items ≡ map (device_made parts.keeps) trees → parts.queues.rings.items ≡ map queue_made queues → parts.paths.items ≡ map path_made queues → parts.senders.items ≡ map sender_made senders
     → parts.numbers.items ≡ map number_of senders → IsAt (setup_of names trees queues senders) [] parts
-IsAt-made calls names trees queues senders parts run devices_are queues_are paths_are senders_are numbers_are =
-    record {
-      can_happen = record {
-        senders = tt;
-        numbered = λ s. refl;
-        devices = tt;
-        runs = λ d. starts (slice_get trees d);
-        refusals = tt;
-        histories = λ q. its-history [] (slice_get (map room_of queues) q) (slice_get parts.queues.rings.items q) (each q);
-      };
-      senders = senders_are;
-      numbers = numbers_are;
-      queues = each;
-      count = ap length queues_are ∙ length-made queues;
-      devices = λ d. subst (AreDevicesAt [] (slice_get trees d)) (sym (ap (λ ds. slice_get ds d) devices_are ∙ slice_get-map (device_made parts.keeps) trees d)) (fresh (slice_get trees d));
-      device_count = ap length devices_are ∙ length-map trees (device_made parts.keeps);
-      paths = paths_are ∙ paths-made queues;
-      kinds = λ d. subst (KeepsAsAt parts.keeps) (sym (ap (λ ds. slice_get ds d) devices_are ∙ slice_get-map (device_made parts.keeps) trees d)) (kind (slice_get trees d));
-    }
-  where
-    starts : (o : Option Tree) → MatchOption o ⊤ (λ tree. RunsTree tree [])
-    starts None = tt
-    starts (Some tree) = record { run = run tree; pull_by_pull = refl; moments = refl }
-
-    fresh : (o : Option Tree) → AreDevicesAt [] o (option_map (device_made parts.keeps) o)
-    fresh None = tt
-    fresh (Some tree) = record { tree_is = refl; log = refl; kept = refl }
-
-    kind : (o : Option Tree) → KeepsAsAt parts.keeps (option_map (device_made parts.keeps) o)
-    kind None = tt
-    kind (Some tree) = (refl, refl)
-
-    first : (o : Option Queued) → AreQueuesAt [] (option_map room_of o) (option_map queue_made o)
-    first None = tt
-    first (Some q) = record { leads = calls.made q.kind q.capacity; kind = refl; capacity = refl }
-
-    each : (q : ℕ) → AreQueuesAt [] (slice_get (map room_of queues) q) (slice_get parts.queues.rings.items q)
-    each q =
-        subst (λ o. AreQueuesAt [] o (slice_get parts.queues.rings.items q)) (sym (slice_get-map room_of queues q))
-        (subst (AreQueuesAt [] (option_map room_of (slice_get queues q))) (sym (ap (λ rings. slice_get rings q) queues_are ∙ slice_get-map queue_made queues q)) (first (slice_get queues q)))
+IsAt-made calls names trees queues senders parts run devices_are queues_are paths_are senders_are numbers_are = search (rules, slice_get-map, length-map, paths-made)
 
 -- Queues as they are made hold nothing.
 pub made-hold-none : (specs : List Queued) (q : ℕ) → packets_at (map queue_made specs) q ≡ []

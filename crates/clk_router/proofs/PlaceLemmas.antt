@@ -1,5 +1,5 @@
 -- Where a number stands among numbers that rise.
-use Rattle.std.proofs.Common.{◌≡◌, ◌≢◌, ℕ, ◌+◌, ◌<◌, ◌≤◌, ◌==◌, nat_lt, zero, suc, Bool, true, false, List, [], ◌∷◌, length, get_or, slice_get, Option, Some, None, Result, Ok, Err, IfSome, refl, sym, ap, ◌∙◌, arith}
+use Rattle.std.proofs.Common.{◌≡◌, ◌≢◌, ℕ, ◌+◌, ◌<◌, ◌≤◌, ◌==◌, nat_lt, zero, suc, Bool, true, false, List, [], ◌∷◌, length, get_or, slice_get, Option, Some, None, Result, Ok, Err, IfSome, refl, sym, ap, ◌∙◌, arith, rules}
 use Rattle.std.specs.Result.{result_ok}
 use Rattle.std.specs.List.{AllByRecursion, list_any}
 use Rattle.std.specs.List.Sorted.{IsSearchInRange, IsBinarySearchResult, IsNonDecreasingBy}
@@ -32,14 +32,8 @@ none-has (s ∷ numbers) n differ =
 -- numbers that rise are no less than their places
 place-above : (first : ℕ) (numbers : List ℕ) (n place : ℕ) → AllByRecursion (λ m. first < m) numbers → AreRising numbers → slice_get numbers place ≡ Some n → first + place < n
 place-above first [] n place above rising is = absurd (cc)
-place-above first (s ∷ numbers) n zero above rising is =
-    let more = above.0 in
-    let number : s ≡ n = cc in
-    omega (arith, more, number)
-place-above first (s ∷ numbers) n (suc place) above rising is =
-    let more = above.0 in
-    let rest = place-above s numbers n place rising.0 rising.1 is in
-    omega (arith, more, rest)
+place-above first (s ∷ numbers) n zero above rising is = search rules
+place-above first (s ∷ numbers) n (suc place) above rising is = search (rules, (place-above s numbers n place rising.0 rising.1 is))
 
 pub place-low : (numbers : List ℕ) (n place : ℕ) → AreRising numbers → slice_get numbers place ≡ Some n → place ≤ n
 place-low [] n place rising is = absurd (cc)

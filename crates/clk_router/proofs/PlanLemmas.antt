@@ -1,5 +1,5 @@
 -- The trees of a plan as they are made, and that a router can run over it.
-use Rattle.std.proofs.Common.{◌≡◌, ℕ, ◌+◌, ◌≤◌, ◌<◌, ◌⊎◌, inl, inr, List, [], ◌∷◌, ◌++◌, length, map, zero, suc, Some, slice_get, refl, sym, ap, ◌∙◌, subst, arith}
+use Rattle.std.proofs.Common.{◌≡◌, ℕ, ◌+◌, ◌≤◌, ◌<◌, ◌⊎◌, inl, inr, List, [], ◌∷◌, ◌++◌, length, map, zero, suc, Some, slice_get, refl, sym, ap, ◌∙◌, subst, arith, rules}
 use Rattle.std.specs.List.{AllByRecursion}
 use Rattle.std.proofs.lemmas.List.{length-append, length-map}
 use Rattle.clk_packet.specs.Limits.{most_elements, most_capacity}
@@ -24,11 +24,7 @@ at-end : (trees : List Tree) (t : Tree) (d : ℕ) (tree : Tree) → slice_get (t
 at-end [] t zero tree e = inr (refl, cc)
 at-end [] t (suc d) tree e = absurd (cc)
 at-end (x ∷ trees) t zero tree e = inl e
-at-end (x ∷ trees) t (suc d) tree e = later (at-end trees t d tree e)
-  where
-    later : (slice_get trees d ≡ Some tree) ⊎ ((d ≡ length trees) × (t ≡ tree)) → (slice_get trees d ≡ Some tree) ⊎ ((suc d ≡ suc (length trees)) × (t ≡ tree))
-    later (inl h) = inl h
-    later (inr h) = inr (ap suc h.0, h.1)
+at-end (x ∷ trees) t (suc d) tree e = search (rules, (at-end trees t d tree e))
 
 all-with : {X : Type 0} (P : X → Type 0) (xs : List X) (x : X) → AllByRecursion P xs → P x → AllByRecursion P (xs ++ x ∷ [])
 all-with P [] x h p = (p, tt)
@@ -36,15 +32,7 @@ all-with P (y ∷ xs) x h p = (h.0, all-with P xs x h.1 p)
 
 -- one tree more
 pub made-more : (plan : List Planned) (n : ℕ) (trees more : List Tree) (t : Tree) → more ≡ trees ++ t ∷ [] → AreMade plan n trees → IsTreeOf plan n t → CanStand t → AreMade plan (n + 1) more
-made-more plan n trees more t e made is stands = subst (AreMade plan (n + 1)) (sym e) (record {
-  count = length-append trees (t ∷ []) ∙ omega (arith, made.count);
-  each = λ d tree at. either d tree (at-end trees t d tree at);
-  stand = all-with CanStand trees t made.stand stands;
-})
-  where
-    either : (d : ℕ) (tree : Tree) → (slice_get trees d ≡ Some tree) ⊎ ((d ≡ length trees) × (t ≡ tree)) → IsTreeOf plan d tree
-    either d tree (inl at) = made.each d tree at
-    either d tree (inr h) = subst (λ x. IsTreeOf plan d x) h.1 (subst (λ k. IsTreeOf plan k t) (sym (h.0 ∙ made.count)) is)
+made-more plan n trees more t e made is stands = search (rules, length-append, at-end, all-with)
 
 pub made-all : (plan : List Planned) (n : ℕ) (trees : List Tree) → n ≡ device_count plan → AreMade plan n trees → AreTreesOf plan trees
 made-all plan n trees e made = record { count = made.count ∙ e; each = made.each }

@@ -1,5 +1,5 @@
 -- How many packets the queues of a device accepted, put out and gave in some events: as many as the events say.
-use Rattle.std.proofs.Common.{◌≡◌, ℕ, ◌+◌, ◌==◌, ◌&&◌, ◌||◌, not, if◌then◌else◌, Bool, true, false, List, [], ◌∷◌, ◌++◌, length, map, append-nil, append_assoc, length-append, Option, Some, None, slice_get, MatchOption, refl, sym, ap, ap₂, ◌∙◌, subst, arith}
+use Rattle.std.proofs.Common.{◌≡◌, ℕ, ◌+◌, ◌==◌, ◌&&◌, ◌||◌, if◌then◌else◌, Bool, true, false, List, [], ◌∷◌, ◌++◌, length, map, append-nil, append_assoc, length-append, Option, Some, None, slice_get, MatchOption, refl, sym, ap, ap₂, ◌∙◌, subst, arith, rules}
 use Rattle.std.specs.Bool.{⊤}
 use Rattle.std.specs.List.{filter_map, cons_option, AllByRecursion, list_any}
 use Rattle.std.proofs.lemmas.Bool.{false≢true}
@@ -81,11 +81,7 @@ stands-rest kind capacity before (e ∷ between) after h =
 
 -- what a history took in is what was put out, given, and is held
 pub history-counts : (capacity : ℕ) (events : List QueueEvent) → IsInOrder capacity events → total is_accept events ≡ total is_evict events + total is_give events + length (held events)
-history-counts capacity events h =
-    let order = ap length h.order ∙ length-append (gone events) (held events) in
-    let a = total-accepted events in
-    let g = total-gone events in
-    omega (arith, order, a, g)
+history-counts capacity events h = search (rules, length-append, total-accepted, total-gone)
 
 -- sums over queues
 abbrev pub sum_over : (ℕ → ℕ) → List ℕ → ℕ
@@ -106,23 +102,7 @@ sum-add f g (q ∷ qs) = let rest = sum-add f g qs in omega (arith, rest)
 -- of distinct queues, one at most is of a number
 sum-at : (n k : ℕ) (qs : List ℕ) → are_distinct qs ≡ true → sum_over (λ q. if n == q then k else 0) qs ≡ (if stands_in n qs then k else 0)
 sum-at n k [] distinct = refl
-sum-at n k (q ∷ qs) distinct = by_parts (stands_in q qs) (are_distinct qs) refl refl distinct (n == q) refl (sum-at n k qs)
-  where
-    by_parts : (a b : Bool) → stands_in q qs ≡ a → are_distinct qs ≡ b → ((not a) && b) ≡ true → (c : Bool) → (n == q) ≡ c → (are_distinct qs ≡ true → sum_over (λ r. if n == r then k else 0) qs ≡ (if stands_in n qs then k else 0))
-        → (if c then k else 0) + sum_over (λ r. if n == r then k else 0) qs ≡ (if (q == n) || stands_in n qs then k else 0)
-    by_parts true b e f both c g rest = absurd (false≢true both)
-    by_parts false false e f both c g rest = absurd (false≢true both)
-    by_parts false true e f both true g rest =
-        let same : n ≡ q = grind (arith, nat_tests) in
-        let here : (q == n) ≡ true = grind (arith, nat_tests) in
-        let none = rest f ∙ ap (λ b. if b then k else 0) (ap (λ m. stands_in m qs) same ∙ e) in
-        let is = ap (λ b. if b || stands_in n qs then k else 0) here in
-        omega (arith, none, is)
-    by_parts false true e f both false g rest =
-        let other : (q == n) ≡ false = grind (arith, nat_tests) in
-        let others = rest f in
-        let is = ap (λ b. if b || stands_in n qs then k else 0) other in
-        omega (arith, others, is)
+sum-at n k (q ∷ qs) distinct = search (rules, (sum-at n k qs))
 
 -- a sender sends to one queue of the device that it is of
 sends-sum : (senders : List SenderSpec) (queues : List Room) (d s k : ℕ) (qs : List ℕ) → AreRising (map number_of senders) → are_distinct qs ≡ true → ((q : ℕ) → stands_in q qs ≡ is_at d (slice_get queues q))
@@ -188,13 +168,7 @@ counts-sum weight f offers answers none setup d tree of (e ∷ events) h =
 -- What a queue gave in the events at its device is what its leaf gave.
 gives-visits : (tree : Tree) (q : ℕ) (visits : List Visit) → filter_map given_by (answers_in (Some tree) q visits) ≡ leaf_packets tree q visits
 gives-visits tree q [] = refl
-gives-visits tree q (v ∷ visits) = by_test (asks_queue tree q v) v.got (gives-visits tree q visits)
-  where
-    by_test : (b : Bool) (o : Option Packet) → filter_map given_by (answers_in (Some tree) q visits) ≡ leaf_packets tree q visits
-        → filter_map given_by ((if b then pull_event o ∷ [] else []) ++ answers_in (Some tree) q visits) ≡ cons_option (if b then o else None) (leaf_packets tree q visits)
-    by_test false o rest = rest
-    by_test true None rest = rest
-    by_test true (Some p) rest = ap (λ l. p ∷ l) rest
+gives-visits tree q (v ∷ visits) = search (rules, (gives-visits tree q visits))
 
 pub gives-log : (setup : Setup) (d : ℕ) (tree : Tree) → slice_get setup.trees d ≡ Some tree → (q : ℕ) (events : List Event) → AllByRecursion (λ e. happens_at setup d e ≡ true) events
     → filter_map given_by (history setup q events) ≡ leaf_packets tree q (log_of events)
@@ -203,15 +177,8 @@ gives-log setup d tree its q (offered p outcome ∷ events) h =
     filter_map-append given_by (at_queue setup q (offered p outcome)) (history setup q events) ∙ ap (λ l. l ++ filter_map given_by (history setup q events)) (by_test (sends_to setup.senders p.sender q) outcome) ∙ gives-log setup d tree its q events h.1
   where
     by_test : (b : Bool) (o : Offered) → filter_map given_by (if b then offer_events p o else []) ≡ []
-    by_test false o = refl
-    by_test true Accepted = refl
-    by_test true (Refused r) = refl
-    by_test true (Evicted front) = refl
-gives-log setup d tree its q (pulled c m visits ∷ events) h =
-    let same : c ≡ d = grind (arith, nat_tests, h.0) in
-    filter_map-append given_by (at_queue setup q (pulled c m visits)) (history setup q events)
-    ∙ ap₂ (λ xs ys. xs ++ ys) (ap (λ o. filter_map given_by (answers_in o q visits)) (ap (slice_get setup.trees) same ∙ its) ∙ gives-visits tree q visits) (gives-log setup d tree its q events h.1)
-    ∙ sym (filter_map-append (λ (v : Visit). if asks_queue tree q v then v.got else None) visits (log_of events))
+    by_test b o = search rules
+gives-log setup d tree its q (pulled c m visits ∷ events) h = search (rules, filter_map-append, gives-visits, (gives-log setup d tree its q events h.1))
 
 total-given : (events : List QueueEvent) → total is_give events ≡ length (filter_map given_by events)
 total-given [] = refl

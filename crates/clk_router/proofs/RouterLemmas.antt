@@ -1,5 +1,5 @@
 -- What the parts of a router can do where its course says that it can, and what their devices kept.
-use Rattle.std.proofs.Common.{◌≡◌, ℕ, ◌+◌, ◌<◌, ◌≤◌, suc, max, true, List, [], ◌∷◌, ◌++◌, length, map, get_or, Option, Some, None, Result, Ok, Err, IfOk, OnErr, slice_get, refl, sym, ap, ap₂, ◌∙◌, subst, arith}
+use Rattle.std.proofs.Common.{◌≡◌, ℕ, ◌+◌, ◌<◌, ◌≤◌, suc, max, true, List, [], ◌∷◌, ◌++◌, length, map, get_or, Option, Some, Result, Ok, Err, IfOk, OnErr, slice_get, refl, sym, ap, ap₂, ◌∙◌, subst, arith, rules}
 use Rattle.std.specs.Option.{option_map}
 use Rattle.std.proofs.lemmas.List.{length-map}
 use Rattle.std.proofs.lemmas.Option.{slice_get-map, get_or_from_slice_get}
@@ -19,7 +19,7 @@ use Rattle.clk_router.specs.declared.devices.Device.{Device}
 use Rattle.clk_router.specs.declared.parts.Parts.{Parts}
 use Rattle.clk_router.specs.declared.past.Past.{Past}
 use Rattle.clk_router.specs.Course.{Course, after, IsClosed, pulls_at, accepted_at, evicted_at, emitted_at, room_device, its_device, CanOffer, CanClose}
-use Rattle.clk_router.specs.Events.{Room, Setup, sender_numbers, Event, events_at}
+use Rattle.clk_router.specs.Events.{Room, Setup, sender_numbers, Event}
 use Rattle.clk_router.specs.inside.Past.{device_tree, trees_in, visits_shown, pull_shown, pulls_shown}
 use Rattle.clk_router.specs.inside.Parts.{sender_after, AreDevicesAt, KeepsAs, KeepsAsAt, IsAt, CanCount, CanSendOn, CanOfferAt, CanPullAt, CanCloseAt, CountsLeft, LeadsOnByPull, LeadsOnByPulls, ClosesBy, Stand}
 use Rattle.clk_router.proofs.ClosingLemmas.{its-latest}
@@ -130,17 +130,10 @@ trees-each (device ∷ devices) [] count h = absurd (omega (arith, count))
 trees-each (device ∷ devices) (tree ∷ trees) count h = ap₂ (λ (t : Tree) ts. t ∷ ts) (h 0 device tree refl refl) (trees-each devices trees (omega (arith, count)) (λ i. h (suc i)))
 
 tree-at : (events : List Event) (o : Option Tree) (p : Option Device) (device : Device) (tree : Tree) → AreDevicesAt events o p → p ≡ Some device → o ≡ Some tree → device.session.tree ≡ tree
-tree-at events None p device tree is e f = absurd (cc)
-tree-at events (Some t) None device tree is e f = absurd is
-tree-at events (Some t) (Some d) device tree is e f =
-    let same : d ≡ device = cc in
-    let its : t ≡ tree = cc in
-    ap (λ (x : Device). x.session.tree) (sym same) ∙ is.tree_is ∙ its
+tree-at events o p device tree is e f = search rules
 
 pub trees-its : (setup : Setup) (events : List Event) (parts : Parts) → IsAt setup events parts → trees_in parts ≡ setup.trees
-trees-its setup events parts at =
-    trees-each parts.devices.items setup.trees at.device_count
-    (λ i device tree here its. tree-at (events_at setup i events) (slice_get setup.trees i) (slice_get parts.devices.items i) device tree (at.devices i) here its)
+trees-its setup events parts at = search (rules, trees-each)
 
 -- what an index reads is what stands there
 read-there : (devices : List Device) (d i : ℕ) (its read : Device) → slice_get devices d ≡ Some its → i ≡ d → read ≡ get_or devices i read → its ≡ read

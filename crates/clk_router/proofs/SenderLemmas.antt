@@ -1,5 +1,5 @@
 -- The senders of a router after more events.
-use Rattle.std.proofs.Common.{◌≡◌, ℕ, ◌+◌, ◌<◌, ◌==◌, ◌&&◌, ◌||◌, zero, suc, Bool, true, false, List, [], ◌∷◌, ◌++◌, length, map, set, Some, slice_get, get_or, refl, sym, ap, ap₂, ◌∙◌, subst, arith}
+use Rattle.std.proofs.Common.{◌≡◌, ℕ, ◌+◌, ◌<◌, ◌==◌, ◌&&◌, zero, suc, Bool, true, false, List, [], ◌∷◌, ◌++◌, length, map, set, Some, slice_get, get_or, refl, sym, ap, ap₂, ◌∙◌, subst, arith, rules}
 use Rattle.std.specs.List.{AllByRecursion, list_any}
 use Rattle.std.proofs.lemmas.List.{append-nil, length-append}
 use Rattle.std.proofs.lemmas.List.Elements.{filter_map-append}
@@ -49,9 +49,7 @@ senders-pulled events d moment visits (spec ∷ specs) = ap₂ (λ (s : Sender) 
 
 -- and after pulls one tick apart
 pub senders-closed : (events : List Event) (d t : ℕ) (more : List (List Visit)) (specs : List SenderSpec) → map (sender_after events) specs ≡ map (sender_after (events ++ pulls_from d t more)) specs
-senders-closed events d t more [] = refl
-senders-closed events d t more (spec ∷ specs) =
-    ap₂ (λ (s : Sender) ss. s ∷ ss) (ap (λ l. has spec (length l)) (sym (pulls-add_none (number_from spec.number) (λ k n visits. refl) events d t more))) (senders-closed events d t more specs)
+senders-closed events d t more specs = search (rules, pulls-add_none)
 
 -- senders of greater numbers are others
 senders-other : (events : List Event) (p : Packet) (outcome : Offered) (specs : List SenderSpec) → AllByRecursion (λ m. p.sender < m) (map number_of specs)
@@ -90,26 +88,12 @@ one_passes test specs n = list_any (λ (s : SenderSpec). (s.number == n) && test
 -- no sender of greater number is this one
 none-passes : (test : SenderSpec → Bool) (n : ℕ) (specs : List SenderSpec) → AllByRecursion (λ m. n < m) (map number_of specs) → one_passes test specs n ≡ false
 none-passes test n [] greater = refl
-none-passes test n (s ∷ specs) greater =
-    let above = greater.0 in
-    let other : (s.number == n) ≡ false = grind (arith, nat_tests) in
-    rw other (none-passes test n specs greater.1)
+none-passes test n (s ∷ specs) greater = search (rules, (none-passes test n specs greater.1))
 
 -- a test of a sender is that of its own spec alone
 pub passes-its : (test : SenderSpec → Bool) (specs : List SenderSpec) (i : ℕ) (spec : SenderSpec) → AreRising (map number_of specs) → slice_get specs i ≡ Some spec → one_passes test specs spec.number ≡ test spec
 passes-its test [] i spec rising e = absurd (cc)
-passes-its test (s ∷ specs) zero spec rising e =
-    let same : s ≡ spec = cc in
-    subst (λ (t : SenderSpec). one_passes test (s ∷ specs) t.number ≡ test t) same here
-  where
-    or_false : (b : Bool) → (b || false) ≡ b
-    or_false true = refl
-    or_false false = refl
-
-    here : one_passes test (s ∷ specs) s.number ≡ test s
-    here =
-        let mine : (s.number == s.number) ≡ true = grind (arith, nat_tests) in
-        rw (mine, none-passes test s.number specs rising.0) (or_false (test s))
+passes-its test (s ∷ specs) zero spec rising e = search (rules, none-passes)
 passes-its test (s ∷ specs) (suc i) spec rising e =
     let below : s.number < spec.number = at-place (λ m. s.number < m) specs i spec rising.0 e in
     let other : (s.number == spec.number) ≡ false = grind (arith, nat_tests) in
@@ -137,9 +121,7 @@ pub record IsSenderAt (senders : List Sender) (numbers : List ℕ) (i : ℕ) (s 
   pub number : slice_get numbers i ≡ Some s.number
 
 pub sender-at : (senders : List Sender) (numbers : List ℕ) (i : ℕ) (s : Sender) → map sender_number senders ≡ numbers → i < length senders → s ≡ get_or senders i s → IsSenderAt senders numbers i s
-sender-at senders numbers i s alike within is =
-    let here = slice_get_read senders _ i s refl within is in
-    record { here = here; number = ap (λ l. slice_get l i) (sym alike) ∙ number-alike senders i s here }
+sender-at senders numbers i s alike within is = search (rules, slice_get_read, number-alike)
 
 -- the sender at a place, as the setup has it
 pub record IsSpecAt (events : List Event) (specs : List SenderSpec) (i : ℕ) (s : Sender) : Type 0 where
@@ -150,6 +132,4 @@ pub record IsSpecAt (events : List Event) (specs : List SenderSpec) (i : ℕ) (s
 pub spec-at : (events : List Event) (specs : List SenderSpec) (i : ℕ) (s : Sender) → slice_get (map (sender_after events) specs) i ≡ Some s → IsSpecAt events specs i s
 spec-at events [] i s e = absurd (cc)
 spec-at events (spec ∷ specs) zero s e = record { spec = spec; here = refl; is = cc }
-spec-at events (spec ∷ specs) (suc i) s e =
-    let there = spec-at events specs i s e in
-    record { spec = there.spec; here = there.here; is = there.is }
+spec-at events (spec ∷ specs) (suc i) s e = search (rules, (spec-at events specs i s e))

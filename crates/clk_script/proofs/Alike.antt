@@ -1,8 +1,7 @@
 -- What two histories, or two lists of events, have in common after the same events.
-use Rattle.std.proofs.Common.{◌≡◌, ℕ, ◌+◌, ◌≤◌, ◌==◌, true, zero, suc, List, [], ◌∷◌, ◌++◌, length, drop, map, max, fold, Option, refl, sym, ap, ap₂, ◌∙◌, subst, arith}
+use Rattle.std.proofs.Common.{◌≡◌, ℕ, ◌+◌, ◌≤◌, zero, suc, List, [], ◌∷◌, ◌++◌, length, drop, map, max, fold, Option, refl, sym, ap, ap₂, ◌∙◌, subst, arith, rules}
 use Rattle.std.specs.List.{filter_map, range_with_len, AllByRecursion}
 use Rattle.std.proofs.lemmas.List.{map-append, append_assoc, append-nil}
-use Rattle.std.proofs.lemmas.Bool.Decides.{nat_tests}
 use Rattle.std.proofs.lemmas.List.Elements.{filter-append, filter_map-append}
 use Rattle.std.proofs.Math.Bridge.{le_prop}
 use mathlib.Core.HLevel.{is_prop→PathP}
@@ -15,7 +14,7 @@ use Rattle.clk_sched.specs.declared.visit.Visit.{Visit}
 use Rattle.clk_sched.specs.Log.{moment_of, counted}
 use Rattle.clk_sched.specs.Choice.{GoAlike}
 use Rattle.clk_sched.specs.Tree.{Tree}
-use Rattle.clk_router.specs.Events.{Setup, Event, offered, pulled, happens_at, events_at, pull_in, moment_in, RunsTree}
+use Rattle.clk_router.specs.Events.{Setup, Event, offered, pulled, events_at, pull_in, moment_in, RunsTree}
 
 -- two packets with the same number, sender and length
 pub packet-same : (p q : Packet) → p.number ≡ q.number → p.sender ≡ q.sender → p.length ≡ q.length → p ≡ q
@@ -45,11 +44,7 @@ pulls-alike law kind capacity events (x ∷ xs) (y ∷ ys) more rest a b =
 -- the counted moment after so many pulls follows from the moments handed in
 pub moment-counted : (before : ℕ) (xs : List ℕ) (x : ℕ) (more ms : List ℕ) (m : ℕ) (rest : List ℕ) → length xs ≡ length ms → xs ++ x ∷ more ≡ counted before (ms ++ m ∷ rest)
     → x ≡ max (fold max before ms) m
-moment-counted before [] x more [] m rest l e = ap (first 0) e
-  where
-    first : ℕ → List ℕ → ℕ
-    first d [] = d
-    first d (y ∷ ys) = y
+moment-counted before [] x more [] m rest l e = search rules
 moment-counted before [] x more (n ∷ ms) m rest l e = absurd (omega arith)
 moment-counted before (y ∷ xs) x more [] m rest l e = absurd (omega arith)
 moment-counted before (y ∷ xs) x more (n ∷ ms) m rest l e = moment-counted (max before n) xs x more ms m rest (omega arith) (ap (drop 1) e)
@@ -57,11 +52,7 @@ moment-counted before (y ∷ xs) x more (n ∷ ms) m rest l e = moment-counted (
 -- the number at a place of a range from 0
 pub number-at : (xs : List ℕ) (x : ℕ) (more : List ℕ) (from n : ℕ) → xs ++ x ∷ more ≡ range_with_len from n → x ≡ from + length xs
 number-at [] x more from zero e = absurd (omega (arith, ap length e))
-number-at [] x more from (suc n) e = ap (first 0) e ∙ omega arith
-  where
-    first : ℕ → List ℕ → ℕ
-    first d [] = d
-    first d (y ∷ ys) = y
+number-at [] x more from (suc n) e = search rules
 number-at (y ∷ xs) x more from zero e = absurd (omega (arith, ap length e))
 number-at (y ∷ xs) x more from (suc n) e = number-at xs x more (from + 1) n (ap (drop 1) e) ∙ omega arith
 
@@ -87,6 +78,4 @@ its-moment tree done d m v more runs =
 -- a pull stands among the events of its device
 pub events-at-pull : (setup : Setup) (d m : ℕ) (v : List Visit) (done more : List Event)
     → events_at setup d (done ++ pulled d m v ∷ more) ≡ events_at setup d done ++ pulled d m v ∷ events_at setup d more
-events-at-pull setup d m v done more =
-    let same : (d == d) ≡ true = grind (arith, nat_tests) in
-    filter-append (happens_at setup d) done (pulled d m v ∷ more) ∙ ap (λ (l : List Event). events_at setup d done ++ l) (rw same refl)
+events-at-pull setup d m v done more = search (rules, filter-append)

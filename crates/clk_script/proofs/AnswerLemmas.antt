@@ -1,17 +1,16 @@
 -- How a router goes on by the commands of some rows, and what it comes to.
-use Rattle.std.proofs.Common.{◌≡◌, ℕ, ◌+◌, ◌<◌, ◌≤◌, zero, suc, true, if◌then◌else◌, List, [], ◌∷◌, ◌++◌, length, map, take, drop, set, get_or, Option, Some, None, IfSome, Vec, refl, sym, ap, ap₂, subst, ◌∙◌, append_assoc, append-nil, arith}
+use Rattle.std.proofs.Common.{◌≡◌, ℕ, ◌+◌, ◌<◌, ◌≤◌, true, if◌then◌else◌, List, [], ◌∷◌, ◌++◌, length, map, take, drop, set, get_or, Option, Some, None, IfSome, Vec, refl, sym, ap, ap₂, subst, ◌∙◌, append_assoc, append-nil, arith, rules}
 use Rattle.std.specs.List.{flat_map, filter_map, AllByRecursion, AllZip}
 use Rattle.std.specs.declared.alloc.Global.{Global}
 use Rattle.std.proofs.lemmas.List.{map-append, length-map, length-take, length-set, take-append-drop, take_more, take_more_set, drop_more, drop-set-lt}
 use Rattle.std.proofs.lemmas.List.Elements.{filter_map-append}
-use Rattle.std.proofs.lemmas.Grind.{drop_more_same}
+use Rattle.std.proofs.lemmas.Grind.{drop_more_same, common_steps}
 use Rattle.clk_report.specs.Devices.{lists_of}
 use Rattle.clk_router.specs.Accounts.{account_after}
 use Rattle.clk_script.specs.AccountLines.{account_line}
 use Rattle.clk_sched.specs.declared.session.departures.Departure.{Departure}
 use Rattle.clk_sched.specs.Results.{emitted}
 use Rattle.clk_script.specs.declared.rows.ScriptRow.{ScriptRow}
-use Rattle.clk_script.specs.declared.rows.ScriptRow.TheVariants as row
 use Rattle.clk_script.specs.declared.script_router.ScriptRouter.{ScriptRouter}
 use Rattle.clk_script.specs.Script.{Names, most_lines}
 use Rattle.clk_router.specs.Events.{Setup, Event, events_at, log_of, logs_of, emitted_in}
@@ -24,8 +23,7 @@ use Rattle.clk_script.proofs.ScriptRouterLemmas.{alike-its}
 
 -- the commands of rows that are to be carried out are readable
 row-readable : (names : Names) (r : ScriptRow) → IsToDo names r → IsReadable (command_asked r)
-row-readable names (row.Send fate place p) h = p.has_length
-row-readable names (row.Pull gave device moment) h = h.1
+row-readable names r h = search rules
 
 each-readable : (names : Names) (rows : List ScriptRow) → AllByRecursion (IsToDo names) rows → AllByRecursion IsReadable (asked_by rows)
 each-readable names [] h = tt
@@ -40,22 +38,7 @@ rows-appended (e ∷ events) more (r ∷ rows) others h k = (h.0, rows-appended 
 
 -- Some rows were carried out after others.
 pub AnswersRows-then : (a b c : ScriptRouter) (asked done later rows : List ScriptRow) → AnswersRows a b asked done → AnswersRows b c later rows → AnswersRows a c (asked ++ later) (done ++ rows)
-AnswersRows-then a b c asked done later rows first next =
-    λ setup events at.
-    let one = first setup events at in
-    let two = next setup (events ++ one.more) one.leads in
-    record {
-      more = one.more ++ two.more;
-      theirs = map-append command_asked asked later ∙ ap₂ (λ x y. x ++ y) one.theirs two.theirs ∙ sym (map-append command_of one.more two.more);
-      rows = rows-appended one.more two.more done rows one.rows two.rows;
-      to_do = all-join (IsToDo (names_of setup)) done rows one.to_do two.to_do;
-      given =
-          λ several.
-          two.given several ∙ ap (λ l. l ++ filter_map emitted_in two.more) (one.given several) ∙ append_assoc a.given.items (filter_map emitted_in one.more) (filter_map emitted_in two.more)
-          ∙ ap (λ l. a.given.items ++ l) (sym (filter_map-append emitted_in one.more two.more));
-      keeps = two.keeps ∙ one.keeps;
-      leads = subst (λ l. IsAt setup l c) (append_assoc events one.more two.more) two.leads;
-    }
+AnswersRows-then a b c asked done later rows first next = search (rules, map-append, rows-appended, all-join, append_assoc, filter_map-append)
 
 -- what a script may name over a router is what it may name over its setup
 pub names-its : (setup : Setup) (events : List Event) (router : ScriptRouter) → IsAt setup events router → names_in router ≡ names_of setup
@@ -83,9 +66,7 @@ all-front P [] ys h = tt
 all-front P (x ∷ xs) ys h = (h.0, all-front P xs ys h.1)
 
 pub all-at : {X : Type 0} (P : X → Type 0) (xs : List X) (i : ℕ) (d : X) → i < length xs → AllByRecursion P xs → P (get_or xs i d)
-all-at P [] i d within h = absurd (omega arith)
-all-at P (x ∷ xs) zero d within h = h.0
-all-at P (x ∷ xs) (suc i) d within h = all-at P xs i d (omega arith) h.1
+all-at P xs i d within h = search (rules, common_steps)
 
 -- The rows before a place are carried out, and the others are as they were.
 pub record IsCarriedTo (old new : ScriptRouter) (asked rows : List ScriptRow) (i : ℕ) : Type 0 where
@@ -96,10 +77,7 @@ pub record IsCarriedTo (old new : ScriptRouter) (asked rows : List ScriptRow) (i
 
 -- the row at the place is the one that was asked for
 still-asked : (asked rows : List ScriptRow) (i : ℕ) (row : ScriptRow) → i < length rows → length rows ≡ length asked → drop i rows ≡ drop i asked → row ≡ get_or rows i row → get_or asked i row ≡ row
-still-asked asked rows i row within count left is =
-    let first : get_or rows i row ∷ drop (i + 1) rows ≡ get_or asked i row ∷ drop (i + 1) asked = sym (drop_more rows i row within) ∙ left ∙ drop_more asked i row (omega (arith, within, count)) in
-    let same : get_or rows i row ≡ get_or asked i row = cc first in
-    sym (is ∙ same)
+still-asked asked rows i row within count left is = search (rules, drop_more)
 
 pub IsCarriedTo-ready : (setup : Setup) (old new : ScriptRouter) (asked rows : List ScriptRow) (i : ℕ) (row : ScriptRow) → Starts setup old → AllByRecursion (IsToDo (names_in old)) asked → length asked ≤ most_lines
     → IsCarriedTo old new asked rows i → i < length rows → row ≡ get_or rows i row → IsReady new × IsToDo (names_in new) row

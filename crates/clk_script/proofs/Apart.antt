@@ -1,5 +1,5 @@
 -- What happens at a device can happen alone, so it follows from what is asked of that device.
-use Rattle.std.proofs.Common.{◌≡◌, ℕ, ◌==◌, ◌&&◌, ◌||◌, List, [], ◌∷◌, ◌++◌, length, map, take, drop, Bool, true, false, if◌then◌else◌, refl, sym, ap, ap₂, ◌∙◌, subst}
+use Rattle.std.proofs.Common.{◌≡◌, ℕ, ◌==◌, ◌&&◌, List, [], ◌∷◌, ◌++◌, length, map, take, drop, Bool, true, if◌then◌else◌, sym, ap, ap₂, ◌∙◌, subst, rules}
 use Rattle.std.specs.List.{AllByRecursion, list_any}
 use Rattle.std.proofs.lemmas.List.{append-nil, length-map, take-append-drop, take-map}
 use Rattle.std.proofs.Math.Seq.{take-append_seam}
@@ -22,13 +22,7 @@ use Rattle.clk_router.proofs.Callers.Apart.{alone}
 known-sender : (queues : List Room) (senders : List SenderSpec) (s d : ℕ) → list_any (λ (x : SenderSpec). (x.number == s) && is_of_device queues d x) senders ≡ true
     → list_any (λ n. n == s) (map number_of senders) ≡ true
 known-sender queues [] s d e = e
-known-sender queues (x ∷ senders) s d e = by_number (x.number == s) e (known-sender queues senders s d)
-  where
-    by_number : (t : Bool) → ((t && is_of_device queues d x) || list_any (λ (y : SenderSpec). (y.number == s) && is_of_device queues d y) senders) ≡ true
-        → (list_any (λ (y : SenderSpec). (y.number == s) && is_of_device queues d y) senders ≡ true → list_any (λ n. n == s) (map number_of senders) ≡ true)
-        → (t || list_any (λ n. n == s) (map number_of senders)) ≡ true
-    by_number true e rest = refl
-    by_number false e rest = rest e
+known-sender queues (x ∷ senders) s d e = search (rules, (known-sender queues senders s d))
 
 sound-at : (setup : Setup) (d : ℕ) (events : List Event) → AllByRecursion (IsOfDevice (length setup.trees)) events → AllByRecursion (IsSound (names_of setup)) (map command_of (events_at setup d events))
 sound-at setup d [] h = tt
@@ -40,8 +34,7 @@ sound-at setup d (e ∷ events) h = by_test (happens_at setup d e) (sound e h.0)
 
     by_test : (b : Bool) → (b ≡ true → IsSound (names_of setup) (command_of e)) → AllByRecursion (IsSound (names_of setup)) (map command_of (events_at setup d events))
         → AllByRecursion (IsSound (names_of setup)) (map command_of (if b then e ∷ events_at setup d events else events_at setup d events))
-    by_test true s rest = (s refl, rest)
-    by_test false s rest = rest
+    by_test b s rest = search (rules, known-sender)
 
 -- so it follows from what is asked of that device
 pub devices-apart : (setup : Setup) → IsWired setup → IsApart setup → HistoriesLeaveNoChoice → ((tree : Tree) → PullsLeaveNoChoice tree) → ((tree : Tree) → IsRun tree []) → DevicesAreApart setup

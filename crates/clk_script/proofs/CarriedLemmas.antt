@@ -1,6 +1,7 @@
 -- What carrying out commands of a script again at a device comes to: of one command, of rows, and of pulls one tick apart.
-use Rattle.std.proofs.Common.{◌≡◌, ◌≢◌, ℕ, zero, suc, ◌+◌, ◌-◌, ◌<◌, ◌≤◌, ◌==◌, ◌&&◌, ◌||◌, Bool, true, false, if◌then◌else◌, List, [], ◌∷◌, ◌++◌, length, map, filter, reverse, take, drop, get_or, OnOk, Option, Some, None, Result, Ok, Err, slice_get, refl, sym, ap, ap₂, ◌∙◌, subst, append_assoc, append-nil, arith}
-use Rattle.std.specs.List.{filter_map, list_any, AllByRecursion, AllZip}
+use Rattle.std.proofs.lemmas.Grind.{common_steps}
+use Rattle.std.proofs.Common.{◌≡◌, ◌≢◌, ℕ, zero, suc, ◌+◌, ◌-◌, ◌<◌, ◌≤◌, ◌==◌, ◌&&◌, ◌||◌, Bool, true, false, if◌then◌else◌, List, [], ◌∷◌, ◌++◌, length, map, filter, take, drop, get_or, OnOk, Option, Some, None, Result, Ok, Err, slice_get, refl, sym, ap, ap₂, ◌∙◌, subst, append_assoc, append-nil, arith, rules}
+use Rattle.std.specs.List.{list_any, AllByRecursion, AllZip}
 use Rattle.std.specs.Option.{option_map}
 use Rattle.std.proofs.lemmas.Bool.{false≢true}
 use Rattle.std.proofs.lemmas.Bool.Decides.{nat_tests}
@@ -16,7 +17,6 @@ use Rattle.clk_packet.specs.Lists.{AreRising}
 use Rattle.clk_sched.specs.declared.visit.Visit.{Visit}
 use Rattle.clk_sched.specs.Keeps.{keeps_latest}
 use Rattle.clk_sched.specs.Limits.{end_of_moments}
-use Rattle.clk_sched.specs.Session.{latest_of}
 use Rattle.clk_sched.specs.Tree.{is_number}
 use Rattle.clk_tree.specs.declared.plan.parts.SenderSpec.{SenderSpec}
 use Rattle.clk_tree.specs.PlanParts.{number_of}
@@ -48,14 +48,11 @@ events-own setup d before more here = filter-append (happens_at setup d) before 
 
 -- an event happens at one device
 one-device : (setup : Setup) → AreRising (sender_numbers setup) → (d k : ℕ) (e : Event) → (d == k) ≡ false → happens_at setup d e ≡ true → happens_at setup k e ≡ false
-one-device setup rising d k (pulled device moment visits) other here =
-    let same : device ≡ d = grind (arith, nat_tests) in
-    ap (λ n. n == k) same ∙ other
+one-device setup rising d k (pulled device moment visits) other here = search (rules, false≢true, one-sender)
 one-device setup rising d k (offered p outcome) other here = by_there (happens_at setup k (offered p outcome)) refl
   where
     at-one : (o : Option Room) → is_at d o ≡ true → is_at k o ≡ true → ⊥
-    at-one None a b = false≢true a
-    at-one (Some room) a b = false≢true (grind (arith, nat_tests, a, b, other))
+    at-one o a b = search (rules, false≢true, one-sender)
 
     by_there : (b : Bool) → happens_at setup k (offered p outcome) ≡ b → b ≡ false
     by_there false e = refl
@@ -71,17 +68,7 @@ events-others setup rising d k before more other here = filter-append (happens_a
 
 -- Nothing was carried out, and some was after some.
 pub carried-none : (d : ℕ) (column : Option ℕ) (c : Course) (asked : List Command) (x : Unit {0}) (s : Outgoing) → asked ≡ [] → CanHappen c.setup c.events → CarriedOn d c c asked (Ok x) (HeldOn column s s (Ok x))
-carried-none d column c asked x s none can =
-    record {
-      more = [];
-      goes_on = ap (λ l. record { setup = c.setup; events = l; keeps = c.keeps }) (sym (append-nil c.events));
-      here = tt;
-      rest = [];
-      theirs = sym none;
-      all = refl;
-      can_happen = can;
-      became = held-none column s x;
-    }
+carried-none d column c asked x s none can = search (rules, append-nil, held-none)
 
 pub carried-then : (d : ℕ) (column : Option ℕ) (old mid new : Course) (first second : List Command) (x : Unit {0}) (r : Result (Unit {0}) Fault) (s t u : Outgoing)
     → CarriedOn d old mid first (Ok x) (HeldOn column s t (Ok x)) → CarriedOn d mid new second r (HeldOn column t u r) → CarriedOn d old new (first ++ second) r (HeldOn column s u r)
@@ -101,17 +88,7 @@ carried-then d column old mid new first second x r s t u one two =
 
 -- Where the sink failed, more was asked for.
 pub carried-cut : (d : ℕ) (old new : Course) (asked later : List Command) (fault : Fault) (W : List Visit → Type 0) → CarriedOn d old new asked (Err fault) W → CarriedOn d old new (asked ++ later) (Err fault) W
-carried-cut d old new asked later fault W h =
-    record {
-      more = h.more;
-      goes_on = h.goes_on;
-      here = h.here;
-      rest = h.rest ++ later;
-      theirs = sym (append_assoc (map command_of h.more) h.rest later) ∙ ap (λ l. l ++ later) h.theirs;
-      all = tt;
-      can_happen = h.can_happen;
-      became = h.became;
-    }
+carried-cut d old new asked later fault W h = search (rules, append_assoc)
 
 -- so many events were carried out as were asked for at most
 pub few-carried : (d : ℕ) (old new : Course) (asked : List Command) (r : Result (Unit {0}) Fault) (W : List Visit → Type 0) → CarriedOn d old new asked r W
@@ -131,8 +108,7 @@ any-at (y ∷ senders) zero x P rising at =
     (let own : (y.number == y.number) ≡ true = grind (arith, nat_tests) in rw (own, none-later senders y.number y.number P refl rising.0) (or-false (P y)))
   where
     or-false : (b : Bool) → (b || false) ≡ b
-    or-false true = refl
-    or-false false = refl
+    or-false b = search (rules, none-later)
 any-at (y ∷ senders) (suc place) x P rising at =
     let later : y.number < x.number = above senders place x rising.0 at in
     let other : (y.number == x.number) ≡ false = grind (arith, nat_tests) in
@@ -148,8 +124,7 @@ pub sends-as-place : (setup : Setup) → AreRising (sender_numbers setup) → (d
 sends-as-place setup rising d place s at = by_sender (slice_get setup.senders place) refl
   where
     by_room : (o : Option Room) → is_at d o ≡ is_number d (option_map room_device o)
-    by_room None = refl
-    by_room (Some room) = refl
+    by_room o = search (rules, slice_get-map, any-at)
 
     by_sender : (o : Option SenderSpec) → slice_get setup.senders place ≡ o → sends_at setup d s ≡ is_number d (its_device setup.queues o)
     by_sender None e = absurd (let none = slice_get-map number_of setup.senders place ∙ ap (option_map number_of) e in cc (none, at))
@@ -168,8 +143,7 @@ commands-there setup rising d (e ∷ events) (r ∷ rows) are to_do =
   where
     by_test : (b c : Bool) (q : ScriptRow) (f : Event) → c ≡ b → command_asked q ≡ command_of f → asked_at setup d rows ≡ map command_of (events_at setup d events)
         → asked_by (if b then q ∷ filter (is_row_at setup d) rows else filter (is_row_at setup d) rows) ≡ map command_of (if c then f ∷ events_at setup d events else events_at setup d events)
-    by_test true c q f same commands rest = rw same (ap₂ (λ x xs. x ∷ xs) commands rest)
-    by_test false c q f same commands rest = rw same rest
+    by_test b c q f same commands rest = search (rules, sends-as-place)
 
     first : (place : ℕ) (f : Event) → IsToDo (names_of setup) (row_at place f) → asked_at setup d rows ≡ map command_of (events_at setup d events)
         → asked_at setup d (row_at place f ∷ rows) ≡ map command_of (events_at setup d (f ∷ events))
@@ -198,49 +172,24 @@ can-offer-there c rising d place s at its few =
 
 -- a pull is the latest once it was made
 pub latest-pulled : (c new : Course) (d moment : ℕ) (visits : List Visit) → new ≡ after c (pulled d moment visits ∷ []) → latest_visits new d ≡ visits
-latest-pulled c new d moment visits goes_on =
-    let own : (d == d) ≡ true = grind (arith, nat_tests) in
-    ap (λ (k : Course). latest_visits k d) goes_on ∙ ap (λ l. latest_of (reverse (filter_map pull_in l))) (events-own c.setup d c.events (pulled d moment visits ∷ []) (own, tt))
-    ∙ ap (λ l. latest_of (reverse l)) (filter_map-append pull_in (events_of c d) (pulled d moment visits ∷ [])) ∙ ap latest_of (reverse-append (filter_map pull_in (events_of c d)) (visits ∷ []))
+latest-pulled c new d moment visits goes_on = search (rules, common_steps, events-own, filter_map-append, reverse-append)
 
 -- nothing is left
 pub none-left : (r : Result (Unit {0}) Fault) → OnOk r (◌≡◌ {A = List Command} [] [])
-none-left (Ok x) = refl
-none-left (Err fault) = tt
+none-left r = search rules
 
 -- One command was carried out at a device: a pull, or an offer, which writes nothing.
 pub carried-pull : (d : ℕ) (old new : Course) (moment : ℕ) (visits : List Visit) (r : Result (Unit {0}) Fault) (W : List Visit → Type 0) (asked : List Command) → asked ≡ Pull d moment ∷ [] → new ≡ after old (pulled d moment visits ∷ [])
     → CanHappen new.setup new.events → W visits → CarriedOn d old new asked r W
-carried-pull d old new moment visits r W asked is goes_on can became =
-    record {
-      more = pulled d moment visits ∷ [];
-      goes_on = goes_on;
-      here = (let own : (d == d) ≡ true = grind (arith, nat_tests) in own, tt);
-      rest = [];
-      theirs = sym is;
-      all = none-left r;
-      can_happen = can;
-      became = subst W (sym (append-nil visits)) became;
-    }
+carried-pull d old new moment visits r W asked is goes_on can became = search (rules, none-left, append-nil)
 
 pub carried-offer : (d : ℕ) (column : Option ℕ) (old new : Course) (p : Packet) (outcome : Offered) (x : Unit {0}) (s : Outgoing) (asked : List Command) → asked ≡ Send p.sender p.length ∷ []
     → new ≡ after old (offered p outcome ∷ []) → CanHappen new.setup new.events → sends_at old.setup d p.sender ≡ true → CarriedOn d old new asked (Ok x) (HeldOn column s s (Ok x))
-carried-offer d column old new p outcome x s asked is goes_on can sends =
-    record {
-      more = offered p outcome ∷ [];
-      goes_on = goes_on;
-      here = (sends, tt);
-      rest = [];
-      theirs = sym is;
-      all = refl;
-      can_happen = can;
-      became = held-none column s x;
-    }
+carried-offer d column old new p outcome x s asked is goes_on can sends = search (rules, held-none)
 
 -- a device can be pulled where few events happened there
 pub can-pull-there : (c : Course) (d moment : ℕ) → d < length c.setup.trees → moment ≤ most_moment → length (events_of c d) ≤ most_lines → CanPull c d moment
-can-pull-there c d moment there low few =
-    record { there = there; moments = omega (arith, low); pulls = let fewer = length-filter_map-le pull_in (events_of c d) in omega (arith, fewer, few) }
+can-pull-there c d moment there low few = search (rules, length-filter_map-le)
 
 -- what the row of an offer at a device asks for there
 pub asked-send : (setup : Setup) (d place : ℕ) (fate : Fate) (p : Packet) → device_at setup place ≡ Some d → asked_at setup d (row.Send fate place p ∷ []) ≡ Send p.sender p.length ∷ []

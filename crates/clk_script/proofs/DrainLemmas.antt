@@ -1,5 +1,5 @@
 -- How the devices of a router are closed one after the other.
-use Rattle.std.proofs.Common.{◌≡◌, ℕ, ◌+◌, ◌<◌, ◌≤◌, ◌==◌, suc, Bool, false, List, [], ◌∷◌, ◌++◌, length, refl, sym, ap, ap₂, subst, ◌∙◌, append_assoc, append-nil, add-one, arith}
+use Rattle.std.proofs.Common.{◌≡◌, ℕ, ◌+◌, ◌<◌, ◌≤◌, ◌==◌, suc, Bool, false, List, [], ◌∷◌, ◌++◌, length, refl, sym, ap, ap₂, subst, ◌∙◌, append_assoc, append-nil, add-one, arith, rules}
 use Rattle.std.specs.List.{flat_map}
 use Rattle.std.proofs.lemmas.List.{length-append}
 use Rattle.std.proofs.lemmas.List.Concat.{flat_map-append}
@@ -17,14 +17,8 @@ use Rattle.clk_script.proofs.ScriptRouterLemmas.{can-close, CanClose-still}
 -- the closings of some devices, and of one more
 closings-more : (several : Bool) (device : ℕ) (closings : List (List Departure)) (departures : List Departure)
     → closings_text several device (closings ++ departures ∷ []) ≡ closings_text several device closings ++ flat_map (departure_text several (device + length closings)) departures
-closings-more several device [] departures =
-    let same : device ≡ device + 0 = omega arith in
-    append-nil (flat_map (departure_text several device) departures) ∙ ap (λ n. flat_map (departure_text several n) departures) same
-closings-more several device (first ∷ closings) departures =
-    let later : device + 1 + length closings ≡ device + length (first ∷ closings) = omega arith in
-    ap (λ t. flat_map (departure_text several device) first ++ t) (closings-more several (device + 1) closings departures)
-    ∙ sym (append_assoc (flat_map (departure_text several device) first) (closings_text several (device + 1) closings) (flat_map (departure_text several (device + 1 + length closings)) departures))
-    ∙ ap (λ n. (flat_map (departure_text several device) first ++ closings_text several (device + 1) closings) ++ flat_map (departure_text several n) departures) later
+closings-more several device [] departures = search (rules, append-nil, append_assoc)
+closings-more several device (first ∷ closings) departures = search (rules, append-nil, append_assoc, (closings-more several (device + 1) closings departures))
 
 -- The devices before a number were closed, and at the others nothing has happened since.
 pub record IsClosedTo (old new : ScriptRouter) (moment : ℕ) (closings : List (List Departure)) (d : ℕ) : Type 0 where

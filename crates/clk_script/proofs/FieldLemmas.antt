@@ -1,10 +1,9 @@
 -- The fields and lines of a text, one after another.
-use Rattle.std.proofs.Common.{◌≡◌, ℕ, ◌<◌, ◌==◌, Bool, true, false, List, [], ◌∷◌, length, take, drop, get_or, Option, Some, None, unwrap_or, refl, sym, ap, ◌∙◌, add_comm, add-one, arith}
+use Rattle.std.proofs.Common.{◌≡◌, ℕ, ◌<◌, ◌==◌, Bool, true, false, List, [], ◌∷◌, length, take, drop, get_or, Option, Some, None, unwrap_or, refl, sym, add_comm, add-one, arith, rules}
 use Rattle.std.specs.List.{position_or_len, prefix_len, slice_split, filter, before_first, after_first}
 use Rattle.std.proofs.lemmas.List.Splits.{slice_split_first, slice_split_none, length-slice_split}
 use Rattle.std.proofs.lemmas.List.Sums.{fails_before_first, position_or_len_is}
-use Rattle.std.specs.Str.Lines.{lines, lines_of_parts, strip_carriage_return}
-use Rattle.std.proofs.lemmas.Bool.Decides.{nat_tests}
+use Rattle.std.specs.Str.Lines.{lines, strip_carriage_return}
 use Rattle.memchr.specs.Find.{IsFirstByte, is_byte}
 use Rattle.clk_packet.specs.Numbers.{has_bytes}
 use Rattle.clk_script.specs.Script.{is_blank, fields}
@@ -16,8 +15,7 @@ fields-skip [] = refl
 fields-skip (byte ∷ text) = by_test (is_blank byte) refl (fields-skip text)
   where
     by_test : (b : Bool) → is_blank byte ≡ b → fields text ≡ fields (drop (prefix_len is_blank text) text) → fields (byte ∷ text) ≡ fields (drop (prefix_len is_blank (byte ∷ text)) (byte ∷ text))
-    by_test true e h = rw (e, add_comm 1 (prefix_len is_blank text), add-one) h
-    by_test false e h = rw (e, e) refl
+    by_test b e h = search (rules, add-one)
 
 -- the parts of a text: the bytes before the first at which it is cut, and then parts whose fields are those of what follows
 pub record Parts (text : List ℕ) : Type 0 where
@@ -57,16 +55,14 @@ skipped [] = refl
 skipped (byte ∷ text) = by_test (is_blank byte) refl (skipped text)
   where
     by_test : (b : Bool) → is_blank byte ≡ b → prefix_len is_blank (drop (prefix_len is_blank text) text) ≡ 0 → prefix_len is_blank (drop (prefix_len is_blank (byte ∷ text)) (byte ∷ text)) ≡ 0
-    by_test true e h = rw (e, add_comm 1 (prefix_len is_blank text), add-one) h
-    by_test false e h = rw (e, e) refl
+    by_test b e h = search (rules, add-one)
 
 -- where a search finds the first line feed, or the end
 pub first-feed : (text : List ℕ) (found : Option ℕ) → IsFirstByte (is_byte 10) text found → unwrap_or found (length text) ≡ position_or_len (λ byte. byte == 10) text
 first-feed text found h = by_case found h
   where
     fails : (b : Bool) → ¬ (b ≡ true) → b ≡ false
-    fails true fail = absurd (fail refl)
-    fails false fail = refl
+    fails b fail = search (rules, position_or_len_is)
 
     by_case : (found : Option ℕ) → IsFirstByte (is_byte 10) text found → unwrap_or found (length text) ≡ position_or_len (λ byte. byte == 10) text
     by_case None h = sym (position_or_len_is (λ byte. byte == 10) text (length text) 0 (omega arith) (λ k lt. fails (get_or text k 0 == 10) (h k (omega arith) lt)) (λ lt. absurd (omega arith)))
@@ -76,19 +72,8 @@ first-feed text found h = by_case found h
 
 -- the first line of a text that goes on after it
 pub lines-first : (text : List ℕ) → position_or_len (λ byte. byte == 10) text < length text → lines text ≡ strip_carriage_return (before_first (λ byte. byte == 10) text) ∷ lines (after_first (λ byte. byte == 10) text)
-lines-first text h =
-    let first = slice_split_first (λ byte. byte == 10) text 0 h in
-    ap lines_of_parts first ∙ later (before_first (λ byte. byte == 10) text) (after_first (λ byte. byte == 10) text) (slice_split (λ byte. byte == 10) (after_first (λ byte. byte == 10) text)) refl
-  where
-    later : (line rest : List ℕ) (parts : List (List ℕ)) → slice_split (λ byte. byte == 10) rest ≡ parts → lines_of_parts (line ∷ slice_split (λ byte. byte == 10) rest) ≡ strip_carriage_return line ∷ lines rest
-    later line rest [] e = absurd (omega (arith, length-slice_split (λ byte. byte == 10) rest, ap length e))
-    later line rest (part ∷ more) e = rw e refl
+lines-first text h = grind (arith, slice_split_first, length-slice_split)
 
 -- a text with no line feed is one line
 pub lines-last : (text : List ℕ) → 0 < length text → position_or_len (λ byte. byte == 10) text ≡ length text → lines text ≡ text ∷ lines []
-lines-last [] h e = absurd (omega arith)
-lines-last (byte ∷ text) h e =
-    ap lines_of_parts (slice_split_none (λ byte. byte == 10) (byte ∷ text) (λ k d l. fails_before_first (λ byte. byte == 10) (byte ∷ text) k d (omega arith))) ∙ kept
-  where
-    kept : lines_of_parts ((byte ∷ text) ∷ []) ≡ (byte ∷ text) ∷ lines []
-    kept = grind (arith, nat_tests)
+lines-last text h e = search (rules, slice_split_none, fails_before_first)

@@ -1,10 +1,10 @@
 -- How visits of a script that is carried out again are held and written.
-use Rattle.std.proofs.Common.{◌≡◌, ℕ, List, [], ◌++◌, OnOk, OnErr, Option, Result, Ok, Err, refl, sym, ap, ◌∙◌, subst, append_assoc, append-nil}
+use Rattle.std.proofs.lemmas.Grind.{common_steps}
+use Rattle.std.proofs.Common.{◌≡◌, ℕ, List, [], ◌++◌, OnOk, OnErr, Option, Result, Ok, Err, refl, sym, subst, append_assoc, append-nil, rules}
 use Rattle.std.proofs.lemmas.List.Concat.{flat_map-append}
-use Rattle.std.specs.Io.KnownBytes.{Appends}
 use Rattle.clk_packet.specs.Bytes.{Wrote}
 use Rattle.clk_packet.specs.declared.fault.Fault.{Fault}
-use Rattle.clk_packet.proofs.Callers.Bytes.{Appends-none, Wrote-then, Wrote-cut}
+use Rattle.clk_packet.proofs.Callers.Bytes.{Appends-none, Wrote-then}
 use Rattle.clk_report.specs.VisitCsv.{rows_text}
 use Rattle.clk_sched.specs.declared.visit.Visit.{Visit}
 use Rattle.clk_script.specs.inside.Replay.{Outgoing, HeldOn}
@@ -27,45 +27,25 @@ held-then column s t u x r one two first second =
     }
   where
     all : (held : List Visit) → second.out ++ held ≡ t.held ++ two → (first.out ++ second.out) ++ held ≡ s.held ++ (one ++ two)
-    all held e =
-        append_assoc first.out second.out held ∙ ap (λ l. first.out ++ l) e ∙ sym (append_assoc first.out t.held two) ∙ ap (λ l. l ++ two) first.split ∙ append_assoc s.held one two
+    all held e = search (rules, rows-both, append_assoc, append-nil)
 
     by_ok : (r : Result (Unit {0}) Fault) → OnOk r (second.out ++ u.held ≡ t.held ++ two) → OnOk r ((first.out ++ second.out) ++ u.held ≡ s.held ++ (one ++ two))
-    by_ok (Ok y) e = all u.held e
-    by_ok (Err fault) e = tt
+    by_ok r e = search (rules, rows-both, append_assoc, append-nil, all)
 
     by_err : (r : Result (Unit {0}) Fault) → OnErr r (second.out ≡ t.held ++ two) → OnErr r (first.out ++ second.out ≡ s.held ++ (one ++ two))
-    by_err (Ok y) e = tt
-    by_err (Err fault) e = sym (append-nil (first.out ++ second.out)) ∙ all [] (append-nil second.out ∙ e)
+    by_err r e = search (rules, rows-both, append_assoc, append-nil, all)
 
 pub held-cut : (column : Option ℕ) (s t : Outgoing) (fault : Fault) (visits later : List Visit) → HeldOn column s t (Err fault) visits → HeldOn column s t (Err fault) (visits ++ later)
-held-cut column s t fault visits later h =
-    record {
-      out = h.out ++ later;
-      split = tt;
-      cut = ap (λ l. l ++ later) h.cut ∙ append_assoc s.held visits later;
-      wrote = subst (λ text. Wrote s.taken t.taken s.failures t.failures (Err fault) text) (rows-both column h.out later) (Wrote-cut _ _ _ _ fault (rows_text column h.out) (rows_text column later) h.wrote);
-    }
+held-cut column s t fault visits later h = search (rules, common_steps, append_assoc, rows-both)
 
 -- Where none were held, all rows were written once those that are held are, or a front of them, as far as the sink took them.
 pub held-all : (column : Option ℕ) (s t : Outgoing) (x : Unit {0}) (r : Result (Unit {0}) Fault) (c : Option (List ℕ)) (h : ℕ) (visits : List Visit) → s.held ≡ [] → HeldOn column s t (Ok x) visits → Wrote t.taken c t.failures h r (rows_text column t.held)
     → Wrote s.taken c s.failures h r (rows_text column visits)
-held-all column s t x r c h visits none held last =
-    subst (λ text. Wrote s.taken c s.failures h r text) (rows-both column held.out t.held ∙ ap (rows_text column) (held.split ∙ ap (λ l. l ++ visits) none))
-    (Wrote-then _ _ _ _ _ _ x r (rows_text column held.out) (rows_text column t.held) held.wrote last)
-
-pub held-failed : (column : Option ℕ) (s t : Outgoing) (fault : Fault) (visits : List Visit) → s.held ≡ [] → HeldOn column s t (Err fault) visits → Wrote s.taken t.taken s.failures t.failures (Err fault) (rows_text column visits)
-held-failed column s t fault visits none held = subst (λ l. Wrote s.taken t.taken s.failures t.failures (Err fault) (rows_text column l)) (held.cut ∙ ap (λ l. l ++ visits) none) held.wrote
+held-all column s t x r c h visits none held last = search (rules, common_steps, rows-both)
 
 -- Visits were held, or the rows of all were written.
 pub held-more : (column : Option ℕ) (s t : Outgoing) (x : Unit {0}) (visits : List Visit) → t.taken ≡ s.taken → t.failures ≡ s.failures → t.held ≡ s.held ++ visits → HeldOn column s t (Ok x) visits
-held-more column s t x visits taken failures held =
-    record {
-      out = [];
-      split = held;
-      cut = tt;
-      wrote = record { whole = subst (λ o. Appends s.taken o []) (sym taken) (Appends-none s.taken); front = tt; fault = tt; succeeds = failures; fails = tt };
-    }
+held-more column s t x visits taken failures held = search rules
 
 pub held-none-left : (column : Option ℕ) (s t : Outgoing) (x : Unit {0}) (r : Result (Unit {0}) Fault) (b : Option (List ℕ)) (g : ℕ) (visits : List Visit) → Wrote s.taken b s.failures g (Ok x) (rows_text column s.held)
     → Wrote b t.taken g t.failures r (rows_text column visits) → t.held ≡ [] → HeldOn column s t r visits
@@ -78,18 +58,10 @@ held-none-left column s t x r b g visits first second none =
     }
   where
     by_ok : (r : Result (Unit {0}) Fault) → OnOk r ((s.held ++ visits) ++ t.held ≡ s.held ++ visits)
-    by_ok (Ok y) = ap (λ l. (s.held ++ visits) ++ l) none ∙ append-nil (s.held ++ visits)
-    by_ok (Err fault) = tt
+    by_ok r = search (rules, rows-both, append-nil)
 
     by_err : (r : Result (Unit {0}) Fault) → OnErr r (s.held ++ visits ≡ s.held ++ visits)
-    by_err (Ok y) = tt
-    by_err (Err fault) = refl
+    by_err r = search (rules, rows-both, append-nil)
 
 pub held-lost : (column : Option ℕ) (s t : Outgoing) (fault : Fault) (visits : List Visit) → Wrote s.taken t.taken s.failures t.failures (Err fault) (rows_text column s.held) → HeldOn column s t (Err fault) visits
-held-lost column s t fault visits failed =
-    record {
-      out = s.held ++ visits;
-      split = tt;
-      cut = refl;
-      wrote = subst (λ text. Wrote s.taken t.taken s.failures t.failures (Err fault) text) (rows-both column s.held visits) (Wrote-cut _ _ _ _ fault (rows_text column s.held) (rows_text column visits) failed);
-    }
+held-lost column s t fault visits failed = search (rules, common_steps, rows-both)

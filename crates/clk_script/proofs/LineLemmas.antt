@@ -1,5 +1,5 @@
 -- What the fields of a line say, by their places.
-use Rattle.std.proofs.Common.{◌≡◌, ℕ, ◌<◌, true, suc, List, [], ◌∷◌, length, drop, codes, Some, None, refl, arith}
+use Rattle.std.proofs.Common.{◌≡◌, ℕ, ◌<◌, true, suc, List, [], ◌∷◌, length, drop, codes, Some, None, refl, rules}
 use Rattle.std.specs.List.{AllByRecursion, filter, slice_split}
 use Rattle.std.proofs.lemmas.Bool.{false≢true}
 use Rattle.clk_script.specs.declared.script.ScriptLine.TheVariants as line
@@ -21,8 +21,7 @@ pub HaveBytes-fields : (text : List ℕ) → HaveBytes (fields text)
 HaveBytes-fields text = record { each = kept (slice_split is_blank text) }
 
 field_at-drop : (all : List (List ℕ)) (i : ℕ) → field_at (drop 1 all) i ≡ field_at all (suc i)
-field_at-drop [] i = refl
-field_at-drop (f ∷ more) i = refl
+field_at-drop all i = search rules
 
 -- a place in the fields after the first
 pub field_at-rest : (all rest : List (List ℕ)) (i : ℕ) → rest ≡ drop 1 all → field_at rest i ≡ field_at all (suc i)
@@ -30,43 +29,25 @@ field_at-rest all rest i e = rw e (field_at-drop all i)
 
 -- no field
 pub line-none : (all : List (List ℕ)) → HaveBytes all → length (field_at all 0) ≡ 0 → line_of_fields all ≡ line.Blank
-line-none [] h e = refl
-line-none ([] ∷ more) h e = absurd (false≢true h.each.0)
-line-none ((byte ∷ bytes) ∷ more) h e = absurd (omega arith)
+line-none all h e = search (rules, false≢true)
 
 -- one number alone, none, and more than one field
 pub moment-alone : (all : List (List ℕ)) (moment : ℕ) → HaveBytes all → number_in 0 most_moment (field_at all 0) ≡ Some moment → length (field_at all 1) ≡ 0 → only_moment all ≡ Some moment
-moment-alone [] m h e none = absurd (cc e)
-moment-alone (moment ∷ []) m h e none = e
-moment-alone (moment ∷ [] ∷ more) m h e none = absurd (false≢true h.each.1.0)
-moment-alone (moment ∷ (byte ∷ bytes) ∷ more) m h e none = absurd (omega arith)
+moment-alone all m h e none = search (rules, false≢true)
 
 pub moment-more : (all : List (List ℕ)) → 0 < length (field_at all 1) → only_moment all ≡ None
-moment-more [] some = refl
-moment-more (moment ∷ []) some = absurd (omega arith)
-moment-more (moment ∷ next ∷ more) some = refl
+moment-more all some = search rules
 
 -- `send` and two numbers
 pub line-send : (all : List (List ℕ)) (sender size : ℕ) → HaveBytes all → number_in 0 most_sender (field_at all 0) ≡ Some sender → number_in 1 most_length (field_at all 1) ≡ Some size
     → length (field_at all 2) ≡ 0 → line_of_fields (codes "send" ∷ all) ≡ line.Command (Send sender size)
-line-send [] s l h e f none = absurd (cc e)
-line-send (sender ∷ []) s l h e f none = absurd (cc f)
-line-send (sender ∷ size ∷ []) s l h e f none = rw (e, f) refl
-line-send (sender ∷ size ∷ [] ∷ more) s l h e f none = absurd (false≢true h.each.1.1.0)
-line-send (sender ∷ size ∷ (byte ∷ bytes) ∷ more) s l h e f none = absurd (omega arith)
+line-send all s l h e f none = search (rules, false≢true)
 
 -- `pull` and a number, and `pull` and two
 pub line-pull : (all : List (List ℕ)) (moment : ℕ) → HaveBytes all → number_in 0 most_moment (field_at all 0) ≡ Some moment → length (field_at all 1) ≡ 0
     → line_of_fields (codes "pull" ∷ all) ≡ line.Command (Pull 0 moment)
-line-pull [] m h e none = absurd (cc e)
-line-pull (moment ∷ []) m h e none = rw e refl
-line-pull (moment ∷ [] ∷ more) m h e none = absurd (false≢true h.each.1.0)
-line-pull (moment ∷ (byte ∷ bytes) ∷ more) m h e none = absurd (omega arith)
+line-pull all m h e none = search (rules, false≢true)
 
 pub line-pull-of : (all : List (List ℕ)) (moment device : ℕ) → HaveBytes all → number_in 0 most_moment (field_at all 0) ≡ Some moment → number_in 0 most_device (field_at all 1) ≡ Some device
     → length (field_at all 2) ≡ 0 → line_of_fields (codes "pull" ∷ all) ≡ line.Command (Pull device moment)
-line-pull-of [] m d h e f none = absurd (cc e)
-line-pull-of (moment ∷ []) m d h e f none = absurd (cc f)
-line-pull-of (moment ∷ device ∷ []) m d h e f none = rw (e, f) refl
-line-pull-of (moment ∷ device ∷ [] ∷ more) m d h e f none = absurd (false≢true h.each.1.1.0)
-line-pull-of (moment ∷ device ∷ (byte ∷ bytes) ∷ more) m d h e f none = absurd (omega arith)
+line-pull-of all m d h e f none = search (rules, false≢true)

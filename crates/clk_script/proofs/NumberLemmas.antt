@@ -1,14 +1,15 @@
 -- A number that is read digit by digit.
-use Rattle.std.proofs.Common.{◌≡◌, ℕ, ◌+◌, ◌*◌, ◌-◌, ◌<◌, ◌≤◌, Bool, true, false, cond, nat_le, List, [], ◌∷◌, length, take, drop, slice_index_or, Some, None, refl, sym, ap, ◌∙◌, add_comm, add-one, arith}
+use Rattle.std.proofs.lemmas.Grind.{common_steps, elements}
+use Rattle.std.proofs.Common.{◌≡◌, ℕ, ◌+◌, ◌*◌, ◌-◌, ◌<◌, ◌≤◌, Bool, true, cond, List, [], ◌∷◌, length, take, drop, slice_index_or, Some, None, refl, sym, ap, ◌∙◌, add-one, arith, rules}
 use Rattle.std.specs.List.{position_or_len, prefix_len}
-use Rattle.std.specs.Char.{is_ascii_digit, digit_value}
+use Rattle.std.specs.Char.{is_ascii_digit}
 use Rattle.std.specs.Str.{all_ascii_digits}
 use Rattle.std.specs.Str.Parse.{digits_value, digits_value_after}
 use Rattle.std.proofs.lemmas.Bool.Decides.{nat_tests}
 use Rattle.std.proofs.lemmas.List.{nil_from_length}
 use Rattle.std.proofs.lemmas.Str.{digit_value_digit}
 use Rattle.clk_packet.specs.Numbers.{has_bytes, number_in}
-use Rattle.clk_packet.proofs.Callers.Numbers.{more_digits, too_large}
+use Rattle.clk_packet.proofs.Callers.Numbers.{more_digits}
 use Rattle.clk_script.specs.Script.{is_blank, fields}
 use Rattle.clk_script.specs.inside.Fields.{field_at}
 use Rattle.clk_script.proofs.FieldLemmas.{fields-skip, fields-first, skipped}
@@ -27,24 +28,15 @@ field_of-take [] = refl
 field_of-take (byte ∷ text) = by_test (is_blank byte) refl (field_of-take text)
   where
     by_test : (b : Bool) → is_blank byte ≡ b → take (position_or_len is_blank text) text ≡ field_of text → take (position_or_len is_blank (byte ∷ text)) (byte ∷ text) ≡ field_of (byte ∷ text)
-    by_test true e h = rw e refl
-    by_test false e h = rw (e, add_comm 1 (position_or_len is_blank text), add-one) (ap (λ l. byte ∷ l) h)
+    by_test b e h = search (rules, add-one)
 
 after_field-drop : (text : List ℕ) → drop (position_or_len is_blank text) text ≡ after_field text
 after_field-drop [] = refl
-after_field-drop (byte ∷ text) = by_test (is_blank byte) refl (after_field-drop text)
-  where
-    by_test : (b : Bool) → is_blank byte ≡ b → drop (position_or_len is_blank text) text ≡ after_field text → drop (position_or_len is_blank (byte ∷ text)) (byte ∷ text) ≡ after_field (byte ∷ text)
-    by_test true e h = rw e refl
-    by_test false e h = rw (e, add_comm 1 (position_or_len is_blank text), add-one) h
+after_field-drop (byte ∷ text) = grind (arith, common_steps, elements, nat_tests, add-one, (after_field-drop text))
 
 has-field : (text : List ℕ) → prefix_len is_blank text ≡ 0 → 0 < length text → has_bytes (field_of text) ≡ true
 has-field [] none some = absurd (omega arith)
-has-field (byte ∷ text) none some = by_test (is_blank byte) refl
-  where
-    by_test : (b : Bool) → is_blank byte ≡ b → has_bytes (field_of (byte ∷ text)) ≡ true
-    by_test true e = absurd (omega (arith, rw e at none))
-    by_test false e = rw e refl
+has-field (byte ∷ text) none some = search rules
 
 -- the digits so far have this value, and what is left of the text's first field and of its fields follows
 pub record Reads (text : List ℕ) (number : ℕ) (rest : List ℕ) : Type 0 where
@@ -70,20 +62,7 @@ Reads-none text rest e some = reads_from text rest (ap (prefix_len is_blank) e �
 
 -- one digit more
 pub Reads-digit : (text : List ℕ) (number byte : ℕ) (after : List ℕ) → is_ascii_digit byte ≡ true → Reads text number (byte ∷ after) → Reads text (number * 10 + (byte - 48)) after
-Reads-digit text number byte after e h =
-    let low : 48 ≤ byte = grind (arith, nat_tests) in
-    let high : byte ≤ 57 = grind (arith, nat_tests) in
-    let plain : is_blank byte ≡ false = grind (arith, nat_tests) in
-    let value : digit_value byte ≡ byte - 48 = omega (arith, digit_value_digit byte (low, high)) in
-    let field : field_of (byte ∷ after) ≡ byte ∷ field_of after = rw plain refl in
-    let later : after_field (byte ∷ after) ≡ after_field after = rw plain refl in
-    let digits : all_ascii_digits (byte ∷ field_of after) ≡ all_ascii_digits (field_of after) = rw e refl in
-    record {
-      value = ap (λ d. digits_value_after 10 (number * 10 + d) (field_of after)) (sym value) ∙ ap (digits_value_after 10 number) (sym field) ∙ h.value;
-      digits = sym digits ∙ ap all_ascii_digits (sym field) ∙ h.digits;
-      later = ap fields (sym later) ∙ h.later;
-      some = h.some;
-    }
+Reads-digit text number byte after e h = search (rules, digit_value_digit)
 
 -- a text with no field
 pub number-missing : (least most : ℕ) (text rest : List ℕ) → rest ≡ drop (prefix_len is_blank text) text → length rest ≡ 0 → number_in least most (field_at (fields text) 0) ≡ None
@@ -92,10 +71,7 @@ number-missing least most text rest e none = ap (λ fs. number_in least most (fi
 -- a number that is past the range before its last digit, or there
 pub number-too_large : (least most : ℕ) (text : List ℕ) (number : ℕ) (rest : List ℕ) → 1 ≤ length rest → is_ascii_digit (slice_index_or rest 0 0) ≡ true
     → most < number * 10 + (slice_index_or rest 0 0 - 48) → Reads text number rest → number_in least most (field_at (fields text) 0) ≡ None
-number-too_large least most text number [] some digit more h = absurd (omega arith)
-number-too_large least most text number (byte ∷ after) some digit more h =
-    let value = (Reads-digit text number byte after digit h).value in
-    too_large least most (field_at (fields text) 0) (omega (arith, more_digits (number * 10 + (byte - 48)) (field_of after)))
+number-too_large least most text number rest some digit more h = search (rules, common_steps, Reads-digit, more_digits)
 
 -- what is left holds no more of the field: it is at its end, or at a blank
 pub field_of-blank : (byte : ℕ) (rest : List ℕ) → is_blank byte ≡ true → field_of (byte ∷ rest) ≡ []
@@ -103,28 +79,9 @@ field_of-blank byte rest blank = rw blank refl
 
 after_field-end : (rest : List ℕ) → field_of rest ≡ [] → after_field rest ≡ rest
 after_field-end [] e = refl
-after_field-end (byte ∷ rest) e = by_test (is_blank byte) refl
-  where
-    by_test : (b : Bool) → is_blank byte ≡ b → after_field (byte ∷ rest) ≡ byte ∷ rest
-    by_test true f = rw f refl
-    by_test false f = absurd (omega (arith, ap length (rw f at e)))
+after_field-end (byte ∷ rest) e = search rules
 
 -- a number that was read to its end
 pub number-read : (least most : ℕ) (text : List ℕ) (number : ℕ) (rest : List ℕ) → Reads text number rest → field_of rest ≡ [] → least ≤ number → number ≤ most
     → (number_in least most (field_at (fields text) 0) ≡ Some number) × (fields rest ≡ drop 1 (fields text))
-number-read least most text number rest h none low high = (is, sym (ap fields (after_field-end rest none)) ∙ h.later)
-  where
-    value : digits_value 10 (field_at (fields text) 0) ≡ number
-    value = sym h.value ∙ ap (digits_value_after 10 number) none
-
-    digits : all_ascii_digits (field_at (fields text) 0) ≡ true
-    digits = sym h.digits ∙ ap all_ascii_digits none
-
-    above : nat_le least number ≡ true
-    above = grind (arith, nat_tests)
-
-    below : nat_le number most ≡ true
-    below = grind (arith, nat_tests)
-
-    is : number_in least most (field_at (fields text) 0) ≡ Some number
-    is = rw (value, digits, h.some, above, below) refl
+number-read least most text number rest h none low high = search (rules, after_field-end)

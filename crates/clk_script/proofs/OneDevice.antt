@@ -1,5 +1,5 @@
 -- Over one device the meaning of a script is that without numbers of devices.
-use Rattle.std.proofs.Common.{◌≡◌, ℕ, ◌+◌, ◌<◌, ◌==◌, ◌&&◌, ◌||◌, zero, suc, nat_lt, Bool, true, false, List, [], ◌∷◌, ◌++◌, length, map, Option, Some, None, MatchOption, slice_get, append-nil, refl, sym, ap, ap₂, ◌∙◌, subst, arith}
+use Rattle.std.proofs.Common.{◌≡◌, ℕ, ◌+◌, ◌<◌, ◌==◌, ◌&&◌, zero, suc, nat_lt, true, false, List, [], ◌∷◌, ◌++◌, length, map, Option, Some, None, MatchOption, slice_get, append-nil, refl, sym, ap, ap₂, ◌∙◌, subst, arith, rules}
 use Rattle.std.specs.Bool.{⊤}
 use Rattle.std.specs.List.{flat_map, range_with_len, AllByRecursion, list_any}
 use Rattle.std.proofs.lemmas.Bool.Decides.{nat_tests}
@@ -29,11 +29,7 @@ AllHere setup events = AllByRecursion (λ e. happens_at setup 0 e ≡ true) even
 known-here : (queues : List Room) (n : ℕ) (specs : List SenderSpec) → AllByRecursion (λ (s : SenderSpec). is_of_device queues 0 s ≡ true) specs
     → list_any (λ (s : SenderSpec). (s.number == n) && is_of_device queues 0 s) specs ≡ list_any (λ s. s == n) (map number_of specs)
 known-here queues n [] all = refl
-known-here queues n (s ∷ specs) all = ap₂ (λ a b. a || b) (rw all.0 (and_true (s.number == n))) (known-here queues n specs all.1)
-  where
-    and_true : (b : Bool) → (b && true) ≡ b
-    and_true true = refl
-    and_true false = refl
+known-here queues n (s ∷ specs) all = search (rules, (known-here queues n specs all.1))
 
 module _ (setup : Setup) (tree : Tree) (one : HasOneDevice setup tree) where
   -- events of sound commands, and closing pulls, happen at the device

@@ -1,7 +1,7 @@
 -- A script has at most one meaning: what its commands make happen follows, one after another.
-use Rattle.std.proofs.Common.{◌≡◌, ℕ, ◌+◌, ◌≤◌, ◌<◌, ◌==◌, ◌&&◌, ◌||◌, is_some, Bool, true, false, List, [], ◌∷◌, ◌++◌, length, map, max, fold, if◌then◌else◌, Option, Some, None, IsSome, IfSome, MatchOption, slice_get, zero, suc, refl, sym, ap, ap₂, ◌∙◌, subst, zero-add, arith}
+use Rattle.std.proofs.lemmas.Grind.{common_steps, elements}
+use Rattle.std.proofs.Common.{◌≡◌, ℕ, ◌+◌, ◌≤◌, ◌<◌, ◌==◌, ◌||◌, Bool, true, false, List, [], ◌∷◌, ◌++◌, length, map, max, fold, if◌then◌else◌, Option, Some, None, IsSome, IfSome, MatchOption, slice_get, zero, suc, refl, sym, ap, ap₂, ◌∙◌, subst, zero-add, arith, rules}
 use Rattle.std.specs.Bool.{⊤}
-use Rattle.std.specs.Option.{option_or}
 use Rattle.std.specs.List.{filter_map, cons_option, range_with_len, AllByRecursion, list_any}
 use Rattle.std.proofs.lemmas.Bool.{false≢true}
 use Rattle.std.proofs.lemmas.Bool.Decides.{nat_tests}
@@ -19,7 +19,7 @@ use Rattle.clk_sched.specs.Session.{given_in, LastGives}
 use Rattle.clk_sched.specs.Choice.{answers_of, GoAlike, PullsLeaveNoChoice}
 use Rattle.clk_tree.specs.declared.plan.parts.SenderSpec.{SenderSpec}
 use Rattle.clk_tree.specs.PlanParts.{number_of}
-use Rattle.clk_router.specs.Events.{Room, Setup, sender_numbers, Event, offered, pulled, events_at, number_from, numbers_of, pull_in, moment_in, sends_to, at_queue, history, IsOfDevice, NamesItsOffer, RunsTree, CanHappen, pulls_from, closing_pulls, Closes, logs_of}
+use Rattle.clk_router.specs.Events.{Room, Setup, sender_numbers, Event, offered, pulled, events_at, numbers_of, pull_in, moment_in, sends_to, at_queue, history, NamesItsOffer, RunsTree, CanHappen, pulls_from, closing_pulls, Closes, logs_of}
 use Rattle.clk_script.specs.Meaning.{names_of, command_of, course_text, CloseFirst, IsClosed, Writes, MeansWith}
 use Rattle.clk_script.specs.declared.script.Command.{Command}
 use Rattle.clk_script.specs.Script.{commands_of, closing_moment}
@@ -34,12 +34,7 @@ use Rattle.clk_script.proofs.ScriptLemmas.{each-command-sound}
 -- a sender's packet has the number that is next
 next-number : (s : ℕ) (done : List Event) (p : Packet) (outcome : Offered) (more : List Event) (n : ℕ) → p.sender ≡ s
     → numbers_of s (done ++ offered p outcome ∷ more) ≡ range_with_len 0 n → p.number ≡ length (numbers_of s done)
-next-number s done p outcome more n e h =
-    number-at (numbers_of s done) p.number (numbers_of s more) 0 n (sym (filter_map-append (number_from s) done (offered p outcome ∷ more) ∙ ap (λ l. numbers_of s done ++ l) here) ∙ h)
-    ∙ zero-add (length (numbers_of s done))
-  where
-    here : numbers_of s (offered p outcome ∷ more) ≡ p.number ∷ numbers_of s more
-    here = let same : (p.sender == s) ≡ true = grind (arith, nat_tests) in rw same refl
+next-number s done p outcome more n e h = search (rules, number-at, filter_map-append, zero-add)
 
 -- a known sender sends to a queue that is there
 record IsSentTo (setup : Setup) (s : ℕ) : Type 0 where
@@ -49,8 +44,7 @@ record IsSentTo (setup : Setup) (s : ℕ) : Type 0 where
   is_there : slice_get setup.queues queue ≡ Some room
 
 some-room : (setup : Setup) (s q : ℕ) (o : Option Room) → slice_get setup.queues q ≡ o → IsSome o → sends_to setup.senders s q ≡ true → IsSentTo setup s
-some-room setup s q None e h sends = absurd (false≢true h)
-some-room setup s q (Some room) e h sends = record { queue = q; room = room; sends = sends; is_there = e }
+some-room setup s q o e h sends = search (rules, false≢true)
 
 record SendsTo (setup : Setup) (senders : List SenderSpec) (s : ℕ) : Type 0 where
   queue : ℕ
@@ -66,15 +60,11 @@ sends-somewhere setup (x ∷ senders) s known h = by_number (x.number == s) refl
     same = grind (arith, nat_tests)
 
     or_true : (b : Bool) → (b || true) ≡ true
-    or_true true = refl
-    or_true false = refl
+    or_true b = search (rules, false≢true)
 
     by_number : (b : Bool) → (x.number == s) ≡ b → (b || list_any (λ n. n == s) (map number_of senders)) ≡ true
         → (list_any (λ n. n == s) (map number_of senders) ≡ true → SendsTo setup senders s) → SendsTo setup (x ∷ senders) s
-    by_number true e k rest = record { queue = x.queue; sends = rw (e, same) refl; is_there = h.0 }
-    by_number false e k rest =
-        let there = rest k in
-        record { queue = there.queue; sends = ap (λ b. ((x.number == s) && (x.queue == there.queue)) || b) there.sends ∙ or_true ((x.number == s) && (x.queue == there.queue)); is_there = there.is_there }
+    by_number b e k rest = search (rules, false≢true, same, or_true)
 
 sent-to : (setup : Setup) (s : ℕ) → IsWired setup → list_any (λ n. n == s) (sender_numbers setup) ≡ true → IsSentTo setup s
 sent-to setup s wired known =
@@ -83,9 +73,7 @@ sent-to setup s wired known =
 
 -- a device that is there has a tree
 nothing-there : (trees : List Tree) (d : ℕ) → slice_get trees d ≡ None → d < length trees → ⊥
-nothing-there [] d is within = absurd (omega (arith, within))
-nothing-there (tree ∷ trees) zero is within = absurd (cc)
-nothing-there (tree ∷ trees) (suc d) is within = nothing-there trees d is (omega (arith, within))
+nothing-there trees d is within = grind (arith, common_steps, elements, nat_tests)
 
 -- what happened to a queue, where an event stands between others
 history-between : (setup : Setup) (q : ℕ) (done : List Event) (e : Event) (more : List Event) → history setup q (done ++ e ∷ more) ≡ history setup q done ++ (at_queue setup q e ++ history setup q more)
@@ -93,9 +81,7 @@ history-between setup q done e more = flat_map-append (at_queue setup q) done (e
 
 its-history : (setup : Setup) (q : ℕ) (room : Room) (done : List Event) (e : Event) (more : List Event) → slice_get setup.queues q ≡ Some room → CanHappen setup (done ++ e ∷ more)
     → IsQueueHistory room.kind room.capacity (history setup q done ++ (at_queue setup q e ++ history setup q more))
-its-history setup q room done e more is can =
-    subst (IsQueueHistory room.kind room.capacity) (history-between setup q done e more)
-    (subst (λ o. MatchOption o ⊤ (λ (x : Room). IsQueueHistory x.kind x.capacity (history setup q (done ++ e ∷ more)))) is (can.histories q))
+its-history setup q room done e more is can = search (rules, history-between)
 
 -- an offer of the same packet ends the same way
 same-outcome : (setup : Setup) → IsWired setup → HistoriesLeaveNoChoice → (done : List Event) (p : Packet) (one other : Offered) (more rest : List Event)
@@ -121,15 +107,7 @@ never-asked setup d tree q wired its is (v ∷ visits) =
     (never-asked setup d tree q wired its is visits)
   where
     asks : (b : Bool) (o : Option ℕ) → IfSome o (λ k. IsSome (slice_get setup.queues k)) → is_number q (if b then o else None) ≡ false
-    asks false o h = refl
-    asks true None h = refl
-    asks true (Some k) h = by_same (k == q) refl
-      where
-        by_same : (c : Bool) → (k == q) ≡ c → c ≡ false
-        by_same false e = refl
-        by_same true e =
-            let same : k ≡ q = grind (arith, nat_tests) in
-            absurd (false≢true (subst IsSome is (subst (λ n. IsSome (slice_get setup.queues n)) same h)))
+    asks b o h = search (rules, false≢true)
 
 -- a queue answers alike in two pulls of a device after the same events
 queue-alike : (setup : Setup) → IsWired setup → HistoriesLeaveNoChoice → (done : List Event) (d : ℕ) (tree : Tree) (m k : ℕ) (v u : List Visit) (more rest : List Event) → slice_get setup.trees d ≡ Some tree
@@ -166,8 +144,7 @@ same-visits : (setup : Setup) → IsWired setup → HistoriesLeaveNoChoice → (
 same-visits setup wired law runs done d m k v u more rest same a b = by_tree (slice_get setup.trees d) refl
   where
     by_tree : (o : Option Tree) → slice_get setup.trees d ≡ o → v ≡ u
-    by_tree (Some tree) its = visits-over setup wired law runs done d tree m k v u more rest its same a b
-    by_tree None its = absurd (nothing-there setup.trees d its (member-between (IsOfDevice (length setup.trees)) done (pulled d m v) more a.devices))
+    by_tree o its = search (rules, visits-over, nothing-there, member-between)
 
 -- after the same events, the same command makes the same happen
 same-event : (setup : Setup) → IsWired setup → HistoriesLeaveNoChoice → ((tree : Tree) → PullsLeaveNoChoice tree) → (done : List Event) (e f : Event) (more rest : List Event)
@@ -203,25 +180,15 @@ same-events setup wired law runs done (e ∷ es) (f ∷ fs) more rest a b same s
 
 -- a drain that is not over gives a packet more
 gives-more : (pull : List Visit) (more : List (List Visit)) → LastGives (pull ∷ more) → 1 ≤ length (given_in (pull ∷ more))
-gives-more pull [] gives = by_result (result_of (visits_of 0 pull)) gives
-  where
-    by_result : (o : Option Packet) → is_some o ≡ true → 1 ≤ length (cons_option o [])
-    by_result None e = absurd (false≢true e)
-    by_result (Some p) e = omega arith
-gives-more pull (next ∷ more) gives = by_result (result_of (visits_of 0 pull)) (gives-more next more gives)
-  where
-    by_result : (o : Option Packet) → 1 ≤ length (given_in (next ∷ more)) → 1 ≤ length (cons_option o (given_in (next ∷ more)))
-    by_result None h = h
-    by_result (Some p) h = omega arith
+gives-more pull [] gives = search (rules, false≢true)
+gives-more pull (next ∷ more) gives = search (rules, false≢true, (gives-more next more gives))
 
 gives-later : (pull : List Visit) (more : List (List Visit)) → LastGives (pull ∷ more) → LastGives more
-gives-later pull [] gives = tt
-gives-later pull (next ∷ more) gives = gives
+gives-later pull more gives = search rules
 
 -- what is given after a first pull
 given-later : (o : Option Packet) (xs ys : List Packet) → length (cons_option o xs) ≡ length (cons_option o ys) → length xs ≡ length ys
-given-later None xs ys e = e
-given-later (Some p) xs ys e = omega (arith, e)
+given-later o xs ys e = search rules
 
 -- closings of a device after the same events that give as many packets are the same, whatever follows
 same-closing : (setup : Setup) → IsWired setup → HistoriesLeaveNoChoice → ((tree : Tree) → PullsLeaveNoChoice tree) → (done : List Event) (d t : ℕ) (one other : List (List Visit)) (more rest : List Event)
@@ -279,9 +246,7 @@ same-course setup wired law runs commands sound drain one other logs others a b 
         (subst (AllByRecursion (IsSound (names_of setup))) (sym a.theirs) sound)
 
     closed : a.closed ≡ b.closed
-    closed =
-        same-closed setup wired law runs drain a.events a.closed b.closed a.closes (subst (λ es. IsClosed setup drain es b.closed) (sym events) b.closes) a.can_happen
-        (subst (λ es. CanHappen setup (es ++ b.closed)) (sym events) b.can_happen)
+    closed = search (rules, same-events, same-closed, events)
 
 -- so have two meanings of a script
 same-meanings : (setup : Setup) → IsWired setup → HistoriesLeaveNoChoice → ((tree : Tree) → PullsLeaveNoChoice tree) → (script one other : List ℕ) (logs others : List (List Visit)) (a : MeansWith setup script one logs)
@@ -301,13 +266,4 @@ has-one_log setup wired law runs script one other logs others a b =
 
 -- the queues of the examples are there
 pub two_queues-wired : IsWired two_queues
-two_queues-wired = record { senders = (refl, (refl, tt)); leaves = at_device }
-  where
-    is_there : (b c : Bool) → IfSome (option_or (if b then Some 0 else (if c then Some 1 else None)) None) (λ q. IsSome (slice_get two_queues.queues q))
-    is_there true c = refl
-    is_there false true = refl
-    is_there false false = tt
-
-    at_device : (d x input : ℕ) → MatchOption (slice_get two_queues.trees d) ⊤ (λ tree. IfSome (queue_at tree x input) (λ q. IsSome (slice_get two_queues.queues q)))
-    at_device zero x input = is_there ((1 == x) && (0 == input)) ((1 == x) && (1 == input))
-    at_device (suc d) x input = tt
+two_queues-wired = search rules

@@ -1,5 +1,6 @@
 -- Lines that are passed on one after another.
-use Rattle.std.proofs.Common.{◌≡◌, ℕ, ◌+◌, ◌-◌, ◌<◌, List, [], ◌++◌, length, take, drop, get_or, Option, Result, Ok, Err, sym, ap, subst, ◌∙◌, append_assoc, append-nil, arith}
+use Rattle.std.proofs.lemmas.Grind.{common_steps}
+use Rattle.std.proofs.Common.{◌≡◌, ℕ, ◌+◌, ◌-◌, ◌<◌, List, [], ◌++◌, length, take, drop, get_or, Option, Result, Ok, Err, sym, ap, subst, ◌∙◌, append_assoc, append-nil, rules}
 use Rattle.std.specs.List.{flat_map}
 use Rattle.std.specs.Io.KnownBytes.{Appends}
 use Rattle.std.proofs.Math.Seq.{drop-length}
@@ -11,9 +12,7 @@ use Rattle.clk_script.specs.inside.Lines.{Passes}
 
 -- What was held and a text were written, and nothing is held.
 pub Passes-wrote : (old new : Option (List ℕ)) (f g : ℕ) (r : Result (Unit {0}) Fault) (held text holds : List ℕ) → Wrote old new f g r (held ++ text) → holds ≡ [] → Passes old new f g r held text holds
-Passes-wrote old new f g (Ok x) held text holds w none =
-    record { passed = (held ++ text, sym (append-nil (held ++ text)) ∙ ap (λ l. (held ++ text) ++ l) (sym none), w.whole); front = tt; fault = tt; succeeds = w.succeeds; fails = tt }
-Passes-wrote old new f g (Err fault) held text holds w none = record { passed = tt; front = w.front; fault = w.fault; succeeds = tt; fails = w.fails }
+Passes-wrote old new f g r held text holds w none = search (rules, append-nil)
 
 -- What was held was cut short.
 pub Passes-failed : (old new : Option (List ℕ)) (f g : ℕ) (fault : Fault) (held text holds : List ℕ) → Wrote old new f g (Err fault) held → Passes old new f g (Err fault) held text holds
@@ -38,9 +37,7 @@ Passes-then a b c f g h x (Ok y) held xs mid ys holds first p =
     }
   where
     joined : held ++ (xs ++ ys) ≡ (first.passed.0 ++ p.passed.0) ++ holds
-    joined =
-        sym (append_assoc held xs ys) ∙ ap (λ l. l ++ ys) first.passed.1 ∙ append_assoc first.passed.0 mid ys ∙ ap (λ l. first.passed.0 ++ l) p.passed.1
-        ∙ sym (append_assoc first.passed.0 p.passed.0 holds)
+    joined = search (rules, append_assoc, front-after)
 Passes-then a b c f g h x (Err fault) held xs mid ys holds first p =
     record {
       passed = tt;
@@ -82,22 +79,8 @@ HasPassed-cut a b c f g h fault held text rest mid piece after holds has more is
 
 -- What was held and a text were passed on, and what is held since was written.
 pub Wrote-passed : (a b c : Option (List ℕ)) (f g h : ℕ) (x : Unit {0}) (r : Result (Unit {0}) Fault) (held text mid : List ℕ) → Passes a b f g (Ok x) held text mid → Wrote b c g h r mid → Wrote a c f h r (held ++ text)
-Wrote-passed a b c f g h x (Ok y) held text mid first w =
-    record {
-      whole = subst (λ (l : List ℕ). Appends a c l) (sym first.passed.1) (Appends-append a b c first.passed.0 mid first.passed.2 w.whole);
-      front = tt;
-      fault = tt;
-      succeeds = w.succeeds ∙ first.succeeds;
-      fails = tt;
-    }
-Wrote-passed a b c f g h x (Err fault) held text mid first w =
-    record {
-      whole = tt;
-      front = subst (λ (l : List ℕ). AppendsFront a c l) (sym first.passed.1) (front-after a b c first.passed.0 mid first.passed.2 w.front);
-      fault = w.fault;
-      succeeds = tt;
-      fails = w.fails ∙ ap (λ n. n + 1) first.succeeds;
-    }
+Wrote-passed a b c f g h x (Ok y) held text mid first w = search (rules, common_steps, front-after)
+Wrote-passed a b c f g h x (Err fault) held text mid first w = search (rules, common_steps, front-after)
 
 -- a text that was cut short as it was passed on
 pub Wrote-front : (a b : Option (List ℕ)) (f g : ℕ) (fault : Fault) (text rest holds : List ℕ) → Passes a b f g (Err fault) [] text holds → Wrote a b f g (Err fault) (text ++ rest)
@@ -107,9 +90,7 @@ Wrote-front a b f g fault text rest holds p =
 
 -- a line that was put at the end of its room
 pub line-alone : {size : ℕ} (start : ℕ) (new old text : List ℕ) → length old ≡ size → length new ≡ size → drop start new ≡ text ++ drop size old → take (size - start) (drop start new) ≡ text
-line-alone {size = size} start new old text room same is =
-    let rest = length-drop start new in
-    take_all (size - start) (drop start new) (omega (arith, rest, same)) ∙ is ∙ ap (λ l. text ++ l) (ap (λ n. drop n old) (sym room) ∙ drop-length old) ∙ append-nil text
+line-alone {size = size} start new old text room same is = search (rules, length-drop, take_all, drop-length, append-nil)
 
 -- the piece at a place, and those after it
 pub pieces-left : {X : Type 0} (f : X → List ℕ) (xs : List X) (i : ℕ) (x : X) → i < length xs → x ≡ get_or xs i x → flat_map f (drop i xs) ≡ f x ++ flat_map f (drop (i + 1) xs)

@@ -1,12 +1,13 @@
 -- Lines that are as they are written without need: a word, and numbers each after one space, up to a line feed.
-use Rattle.std.proofs.Common.{◌≡◌, ℕ, ◌-◌, ◌==◌, Bool, true, false, nat_lt, List, [], ◌∷◌, ◌++◌, length, filter, map, codes, slice_index, refl, sym, ap, ◌∙◌, append_assoc, arith}
+use Rattle.std.proofs.lemmas.Grind.{common_steps}
+use Rattle.std.proofs.Common.{◌≡◌, ℕ, ◌==◌, Bool, true, false, nat_lt, List, [], ◌∷◌, ◌++◌, length, filter, map, codes, refl, sym, ap, ◌∙◌, append_assoc, arith, rules}
 use Rattle.std.specs.List.{slice_split, list_all, All, AllByRecursion}
 use Rattle.std.specs.Char.{is_ascii_digit}
 use Rattle.std.specs.Str.{all_ascii_digits}
 use Rattle.std.specs.Str.Lines.{lines, lines_of_parts, strip_carriage_return}
 use Rattle.std.proofs.lemmas.Bool.{and_parts}
 use Rattle.std.proofs.lemmas.Bool.Decides.{nat_tests}
-use Rattle.std.proofs.lemmas.List.Elements.{All-nil, All-cons, All-append}
+use Rattle.std.proofs.lemmas.List.Elements.{All-cons, All-append}
 use Rattle.std.proofs.lemmas.List.Splits.{slice_split_at, slice_split_none, length-slice_split}
 use Rattle.clk_packet.specs.Limits.{most_sender, most_length}
 use Rattle.clk_script.specs.declared.script.Command.TheVariants.{Send, Pull}
@@ -48,10 +49,7 @@ digits-field digits are = record { some = are.some; all = digits-visible digits 
 
 -- each byte of a field fails a test that no visible byte passes
 each-fails : (p : ℕ → Bool) → ((byte : ℕ) → is_visible byte ≡ true → p byte ≡ false) → (bytes : List ℕ) → list_all is_visible bytes ≡ true → All (λ d. p d ≡ false) bytes
-each-fails p fails [] all = All-nil (λ d. p d ≡ false)
-each-fails p fails (byte ∷ bytes) all =
-    let parts = and_parts (is_visible byte) (list_all is_visible bytes) all in
-    All-cons (λ d. p d ≡ false) byte bytes (fails byte parts.0) (each-fails p fails bytes parts.1)
+each-fails p fails bytes all = search (rules, common_steps, and_parts)
 
 -- fields, each after one space but the first
 abbrev pub spaced : List ℕ → List (List ℕ) → List ℕ
@@ -77,12 +75,10 @@ split-more line rest [] e = absurd (omega (arith, length-slice_split (λ byte. b
 split-more line rest (part ∷ more) e = rw e refl
 
 keeps-end : (xs : List ℕ) → All (λ d. (d == 13) ≡ false) xs → strip_carriage_return xs ≡ xs
-keeps-end [] none = refl
-keeps-end (x ∷ xs) none = let last : (slice_index (x ∷ xs) (length (x ∷ xs) - 1) == 13) ≡ false = none (length (x ∷ xs) - 1) 0 (omega arith) in rw last refl
+keeps-end xs none = search (rules, common_steps)
 
 lines-plain : (xs rest : List ℕ) → All (λ d. (d == 10) ≡ false) xs → All (λ d. (d == 13) ≡ false) xs → lines (xs ++ 10 ∷ rest) ≡ xs ∷ lines rest
-lines-plain xs rest feeds returns =
-    ap lines_of_parts (slice_split_at (λ byte. byte == 10) xs 10 rest feeds refl) ∙ split-more xs rest (slice_split (λ byte. byte == 10) rest) refl ∙ ap (λ l. l ∷ lines rest) (keeps-end xs returns)
+lines-plain xs rest feeds returns = search (rules, slice_split_at, split-more, keeps-end)
 
 -- fields with a space between two, and a line feed, are the line that they say
 pub line-spaced : (field : List ℕ) (more : List (List ℕ)) (rest : List ℕ) → IsField field → AllByRecursion IsField more → lines_of (spaced field more ++ 10 ∷ rest) ≡ line_of_fields (field ∷ more) ∷ lines_of rest

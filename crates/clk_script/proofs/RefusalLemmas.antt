@@ -1,8 +1,8 @@
 -- How a script's meaning and its faults follow from those of its first bytes.
-use Rattle.std.proofs.Common.{◌+◌, ◌≡◌, ◌≤◌, ◌≢◌, ℕ, ◌==◌, ◌||◌, Bool, true, false, nat_lt, List, [], ◌∷◌, length, map, take, Option, Some, None, Err, refl, sym, ap, subst, ◌∙◌, inl, inr, IfSome, Vec, arith}
+use Rattle.std.proofs.lemmas.Grind.{common_steps}
+use Rattle.std.proofs.Common.{◌+◌, ◌≡◌, ◌≤◌, ◌≢◌, ℕ, ◌||◌, Bool, true, false, nat_lt, List, [], ◌∷◌, length, map, take, Option, Some, None, Err, refl, sym, ap, subst, ◌∙◌, inl, inr, IfSome, Vec, arith, rules}
 use Rattle.std.specs.declared.alloc.Global.{Global}
 use Rattle.std.specs.Bool.{⊤}
-use Rattle.std.specs.List.{list_any}
 use Rattle.std.proofs.lemmas.Bool.Decides.{nat_tests}
 use Rattle.std.proofs.lemmas.List.{take_all, length-take}
 use Rattle.clk_packet.specs.declared.fault.Fault.{Fault}
@@ -16,10 +16,8 @@ use Rattle.clk_tree.specs.PlanTree.{device_count}
 use Rattle.clk_tree.specs.Shares.{AreTreesOf}
 use Rattle.clk_tree.specs.declared.plan.parts.SenderSpec.{SenderSpec}
 use Rattle.clk_script.specs.declared.script.Command.{Command}
-use Rattle.clk_script.specs.declared.script.Command.TheVariants.{Send, Pull}
 use Rattle.clk_script.specs.declared.script.ScriptLine.{ScriptLine}
-use Rattle.clk_script.specs.declared.script.ScriptLine.TheVariants as line
-use Rattle.clk_script.specs.Script.{Names, most_lines, command_fault, line_fault, fault_at, is_drain, first_fault, lines_of, script_fault, commands_of, closing_moment, most_script_bytes}
+use Rattle.clk_script.specs.Script.{Names, most_lines, command_fault, line_fault, fault_at, is_drain, first_fault, script_fault, commands_of, closing_moment, most_script_bytes}
 use Rattle.clk_packet.specs.Bytes.{read_failures, write_failures, OfBytes}
 use Rattle.clk_router.specs.Course.{Course, IsOpened}
 use Rattle.clk_router.specs.Events.{Setup, plan_setup}
@@ -58,9 +56,7 @@ whole names all e = by_test (nat_lt most_script_bytes (length all)) refl
 -- the meaning over a setup of a script whose first bytes were read
 pub meaning-known : (setup : Setup) (router : ScriptRouter) → Starts setup router → (known : Option (List ℕ)) (bytes text : List ℕ) (logs : List (List Visit)) → IsTextOf known bytes
     → script_fault (names_in router) bytes ≡ None → Writes setup (commands_of bytes) (closing_moment bytes) text logs → OfBytes known (λ script. MeansWith setup script text logs)
-meaning-known setup router starts None bytes text logs is e w =
-    let here : script_fault (names_of setup) bytes ≡ None = subst (λ names. script_fault names bytes ≡ None) (names-its setup [] router starts.leads) e in
-    (bytes, record { sound = here; written = w })
+meaning-known setup router starts None bytes text logs is e w = search (rules, common_steps, names-its, whole, fault-cut)
 meaning-known setup router starts (Some all) bytes text logs is e w =
     let here : script_fault (names_of setup) bytes ≡ None = subst (λ names. script_fault names bytes ≡ None) (names-its setup [] router starts.leads) e in
     let sound = rw is at here in
@@ -73,8 +69,7 @@ meaning-known setup router starts (Some all) bytes text logs is e w =
 -- the meaning over a plan
 pub meaning-over : (plan : List Planned) (trees : List Tree) (setup : Setup) → AreTreesOf plan trees → setup ≡ plan_setup trees plan → (known : Option (List ℕ)) (text : List ℕ) (logs : List (List Visit))
     → OfBytes known (λ script. MeansWith setup script text logs) → OfBytes known (λ script. MeansOverWith plan script text logs)
-meaning-over plan trees setup are same known text logs h =
-    of-weaker known _ _ (λ script m. record { trees = trees; are = are; means = subst (λ (s : Setup). MeansWith s script text logs) same m }) h
+meaning-over plan trees setup are same known text logs h = search (rules, of-weaker)
 
 -- the faults that a script may have
 abbrev IsOfScript : Fault → Type 0
@@ -84,40 +79,17 @@ IsOfScript (UnknownSender sender) = ⊤
 IsOfScript fault = ⊥
 
 of_command : (names : Names) (number : ℕ) (command : Command) → IfSome (command_fault names number command) IsOfScript
-of_command names number (Pull device moment) = by_test (nat_lt device names.devices) refl
-  where
-    by_test : (b : Bool) → nat_lt device names.devices ≡ b → IfSome (command_fault names number (Pull device moment)) IsOfScript
-    by_test true e = rw e tt
-    by_test false e = rw e tt
-of_command names number (Send sender size) = by_test (list_any (λ s. s == sender) names.senders) refl
-  where
-    by_test : (b : Bool) → list_any (λ s. s == sender) names.senders ≡ b → IfSome (command_fault names number (Send sender size)) IsOfScript
-    by_test true e = rw e tt
-    by_test false e = rw e tt
+of_command names number command = search rules
 
 of_line : (names : Names) (drained : Bool) (number : ℕ) (l : ScriptLine) → IfSome (line_fault names drained number l) IsOfScript
-of_line names drained number line.Blank = tt
-of_line names drained number line.Malformed = tt
-of_line names true number (line.Command command) = tt
-of_line names false number (line.Command command) = of_command names number command
-of_line names true number (line.Drain moment) = tt
-of_line names false number (line.Drain moment) = tt
+of_line names drained number l = search (rules, of_command)
 
 of_at : (names : Names) (drained : Bool) (number : ℕ) (l : ScriptLine) → IfSome (fault_at names drained number l) IsOfScript
-of_at names drained number l = by_test (nat_lt most_lines number) refl
-  where
-    by_test : (b : Bool) → nat_lt most_lines number ≡ b → IfSome (fault_at names drained number l) IsOfScript
-    by_test true e = rw e tt
-    by_test false e = rw e (of_line names drained number l)
+of_at names drained number l = search (rules, of_line)
 
 of_first : (names : Names) (drained : Bool) (number : ℕ) (ls : List ScriptLine) → IfSome (first_fault names drained number ls) IsOfScript
 of_first names drained number [] = tt
-of_first names drained number (l ∷ ls) = by_fault (fault_at names drained number l) refl (of_at names drained number l) (of_first names (drained || is_drain l) (number + 1) ls)
-  where
-    by_fault : (o : Option Fault) → fault_at names drained number l ≡ o → IfSome (fault_at names drained number l) IsOfScript → IfSome (first_fault names (drained || is_drain l) (number + 1) ls) IsOfScript
-        → IfSome (first_fault names drained number (l ∷ ls)) IsOfScript
-    by_fault None e here rest = rw e rest
-    by_fault (Some fault) e here rest = rw e (rw e at here)
+of_first names drained number (l ∷ ls) = search (rules, of_at, (of_first names (drained || is_drain l) (number + 1) ls))
 
 -- and no failure of a reader is among them
 pub not-read : (T : Type 0) (names : Names) (drained : Bool) (number : ℕ) (ls : List ScriptLine) (fault : Fault) → first_fault names drained number ls ≡ Some fault → (n : ℕ) → read_failures {T = T} (Err fault) n ≡ n
@@ -130,11 +102,7 @@ not-read T names drained number ls fault e n = by_kind fault (rw e at (of_first 
     by_kind fault kind = absurd kind
 
 of_script : (names : Names) (script : List ℕ) → IfSome (script_fault names script) IsOfScript
-of_script names script = by_test (nat_lt most_script_bytes (length script)) refl
-  where
-    by_test : (b : Bool) → nat_lt most_script_bytes (length script) ≡ b → IfSome (script_fault names script) IsOfScript
-    by_test true e = rw e tt
-    by_test false e = rw e (of_first names false 1 (lines_of script))
+of_script names script = search (rules, of_first)
 
 -- what a refusal of the script's first bytes says
 pub record IsRefusal (names : Names) (known : Option (List ℕ)) (fault : Fault) : Type 0 where
@@ -144,8 +112,7 @@ pub record IsRefusal (names : Names) (known : Option (List ℕ)) (fault : Fault)
 
 named : (names : Names) (known : Option (List ℕ)) (bytes : List ℕ) (fault : Fault) → IsTextOf known bytes → script_fault names bytes ≡ Some fault
     → IfSome known (λ all. script_fault names all ≡ Some fault)
-named names None bytes fault is e = tt
-named names (Some all) bytes fault is e = sym (fault-cut names all) ∙ ap (script_fault names) (sym is) ∙ e
+named names known bytes fault is e = search (rules, fault-cut)
 
 by_kind : (names : Names) (known : Option (List ℕ)) (fault : Fault) → IsOfScript fault → IfSome known (λ all. script_fault names all ≡ Some fault) → IsRefusal names known fault
 by_kind names known TooLarge kind h = record { explains = h; writes = λ n. refl; not_write = λ e. cc }
@@ -171,8 +138,7 @@ few-devices setup router n starts e = let count = ap (λ (s : Setup). length s.t
 
 pub few-closings : {X : Type 0} (setup : Setup) (router : ScriptRouter) (closings : Option (Vec X Global)) → Starts setup router → IfSome closings (λ cs. length cs.items ≡ length router.router.setup.trees)
     → IfSome closings (λ cs. length cs.items ≤ 65535)
-few-closings setup router None starts e = tt
-few-closings setup router (Some closings) starts e = few-devices setup router (length closings.items) starts e
+few-closings setup router closings starts e = search (rules, few-devices)
 
 -- what a script may name by what a plan tells of itself
 pub names-told : (plan : List Planned) (specs : List SenderSpec) (numbers lent : List ℕ) (devices count : ℕ) → specs ≡ senders_of plan → numbers ≡ map number_of specs → lent ≡ numbers → devices ≡ count → count ≡ device_count plan

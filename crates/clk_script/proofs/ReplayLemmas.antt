@@ -1,5 +1,6 @@
 -- What carrying out a whole script again writes: of a device, and of all.
-use Rattle.std.proofs.Common.{◌≡◌, ℕ, zero, suc, ◌+◌, ◌-◌, ◌<◌, ◌≤◌, ◌==◌, max, nat_lt, codes, Bool, true, false, List, [], ◌∷◌, ◌++◌, length, map, fold, drop, OnOk, Option, Some, None, Result, Ok, Err, refl, sym, ap, ap₂, ◌∙◌, subst, append_assoc, append-nil, arith}
+use Rattle.std.proofs.lemmas.Grind.{common_steps}
+use Rattle.std.proofs.Common.{◌≡◌, ℕ, zero, suc, ◌+◌, ◌-◌, ◌<◌, ◌≤◌, ◌==◌, max, nat_lt, codes, Bool, true, false, List, [], ◌∷◌, ◌++◌, length, map, fold, drop, OnOk, Option, Some, None, Result, Ok, Err, refl, sym, ap, ap₂, ◌∙◌, subst, append_assoc, append-nil, arith, rules}
 use Rattle.std.specs.List.{filter_map, range_with_len}
 use Rattle.std.proofs.lemmas.Bool.Decides.{nat_tests}
 use Rattle.std.proofs.lemmas.List.{map-append, length-map, length-append, take-append-drop}
@@ -18,7 +19,7 @@ use Rattle.clk_tree.specs.Plan.{Planned}
 use Rattle.clk_tree.specs.Shares.{AreTreesOf}
 use Rattle.clk_tree.proofs.Callers.OneTree.{one-trees}
 use Rattle.clk_router.specs.Course.{Course, events_of, moment_at, IsOpened}
-use Rattle.clk_router.specs.Events.{Setup, sender_numbers, Event, offered, pulled, happens_at, events_at, visits_in, moment_in, log_of, pulls_from, plan_setup, Closes, CanHappen}
+use Rattle.clk_router.specs.Events.{Setup, sender_numbers, Event, happens_at, events_at, visits_in, moment_in, log_of, pulls_from, plan_setup, Closes, CanHappen}
 use Rattle.clk_router.proofs.Callers.Events.{pulls-here, pulls-elsewhere, pulls-moments}
 use Rattle.clk_script.specs.declared.answer.Answer.{Answer}
 use Rattle.clk_script.specs.declared.script.Command.{Command}
@@ -40,10 +41,7 @@ moments-asked (f ∷ events) (g ∷ others) e =
     by_event f g first (moments-asked events others later)
   where
     by_event : (f g : Event) → command_of f ≡ command_of g → filter_map moment_in events ≡ filter_map moment_in others → filter_map moment_in (f ∷ events) ≡ filter_map moment_in (g ∷ others)
-    by_event (offered p o) (offered q u) first rest = rest
-    by_event (offered p o) (pulled d m v) first rest = absurd (cc)
-    by_event (pulled d m v) (offered q u) first rest = absurd (cc)
-    by_event (pulled d m v) (pulled c k u) first rest = let same : m ≡ k = cc in ap₂ (λ x xs. x ∷ xs) same rest
+    by_event f g first rest = search rules
 
 -- the drain of a device among those of the first devices
 record HasDrain (setup : Setup) (moment d : ℕ) (events closed : List Event) : Type 0 where
@@ -91,15 +89,10 @@ fold-least least (m ∷ moments) = let rest = fold-least (max least m) moments i
 
 ticks-between : (before t n : ℕ) → before ≤ t → fold max before (range_with_len (t + 1) n) - t ≡ n
 ticks-between before t zero low = omega (arith, low)
-ticks-between before t (suc n) low =
-    let greater : max before (t + 1) ≡ t + 1 = omega (arith, low) in
-    let rest = ticks-between (t + 1) (t + 1) n (omega arith) in
-    let some = fold-least (t + 1) (range_with_len (t + 1 + 1) n) in
-    subst (λ m. fold max m (range_with_len (t + 1 + 1) n) - t ≡ suc n) (sym greater) (omega (arith, rest, some))
+ticks-between before t (suc n) low = search (rules, fold-least, (ticks-between (t + 1) (t + 1) n (omega arith)))
 
 fold-append : (before : ℕ) (xs ys : List ℕ) → fold max before (xs ++ ys) ≡ fold max (fold max before xs) ys
-fold-append before [] ys = refl
-fold-append before (x ∷ xs) ys = fold-append (max before x) xs ys
+fold-append before xs ys = search (rules, common_steps)
 
 none-of : {X : Type 0} (xs : List X) → length xs ≡ 0 → xs ≡ []
 none-of [] e = refl
@@ -200,10 +193,7 @@ module _ (answer : Answer) (old : Course) (d : ℕ) (column : Option ℕ) (can :
 
 device_rows-append : (several : Bool) (d : ℕ) (logs others : List (List Visit)) → device_rows several d (logs ++ others) ≡ device_rows several d logs ++ device_rows several (d + length logs) others
 device_rows-append several d [] others = let same : d ≡ d + 0 = omega arith in ap (λ n. device_rows several n others) same
-device_rows-append several d (log ∷ logs) others =
-    let same : d + 1 + length logs ≡ d + length (log ∷ logs) = omega arith in
-    ap (λ l. rows_text (column_of several d) log ++ l) (device_rows-append several (d + 1) logs others ∙ ap (λ n. device_rows several (d + 1) logs ++ device_rows several n others) same)
-    ∙ sym (append_assoc (rows_text (column_of several d) log) (device_rows several (d + 1) logs) (device_rows several (d + length (log ∷ logs)) others))
+device_rows-append several d (log ∷ logs) others = search (rules, append_assoc, (device_rows-append several (d + 1) logs others))
 
 -- they follow the header line
 text-device_rows : (logs : List (List Visit)) (several : Bool) → several ≡ nat_lt 1 (length logs) → visits_text logs ≡ header_of several ++ device_rows several 0 logs

@@ -1,5 +1,5 @@
 -- The accounts of all senders tell the report of a course.
-use Rattle.std.proofs.Common.{◌≡◌, ℕ, zero, suc, ◌+◌, ◌^◌, ◌<◌, ◌≤◌, ◌==◌, Bool, true, false, List, [], ◌∷◌, ◌++◌, length, map, Option, Some, None, MatchOption, slice_get, get_or, drop, refl, sym, ap, ap₂, ◌∙◌, arith}
+use Rattle.std.proofs.Common.{◌≡◌, ℕ, zero, suc, ◌+◌, ◌^◌, ◌<◌, ◌≤◌, ◌==◌, Bool, true, false, List, [], ◌∷◌, ◌++◌, length, map, Some, MatchOption, slice_get, get_or, drop, refl, sym, ap, ap₂, ◌∙◌, arith, rules}
 use Rattle.std.specs.List.{flat_map, filter_map, range_with_len, sum_by, AllByRecursion}
 use Rattle.std.proofs.lemmas.Bool.Decides.{nat_tests}
 use Rattle.std.proofs.lemmas.List.{append-nil, length-append, drop_more}
@@ -10,7 +10,7 @@ use Rattle.clk_packet.specs.declared.packet.Packet.{Packet}
 use Rattle.clk_packet.specs.Lists.{of_sender}
 use Rattle.clk_packet.proofs.Callers.Dealt.{dealt-length}
 use Rattle.clk_sched.specs.declared.visit.Visit.{Visit}
-use Rattle.clk_sched.specs.Results.{emitted, heads}
+use Rattle.clk_sched.specs.Results.{emitted}
 use Rattle.clk_sched.specs.Tree.{Tree}
 use Rattle.clk_tree.specs.declared.plan.parts.SenderSpec.{SenderSpec}
 use Rattle.clk_tree.specs.PlanParts.{number_of}
@@ -32,34 +32,18 @@ bytes-are (p ∷ packets) = sum_by-cons length_of p packets ∙ ap (λ n. p.leng
 
 -- no count of so few packets is capped
 total-is : (packets : List Packet) → length packets < 2 ^ 32 → total_in (capped_total packets) ≡ total_of packets
-total-is packets few =
-    let bytes = bytes-few packets in
-    let are = bytes-are packets in
-    let count : (total_in (capped_total packets)).packets ≡ length packets = omega (arith, few) in
-    let long : (total_in (capped_total packets)).bytes ≡ bytes_of packets = omega (arith, few, bytes, are) in
-    λ i. record { packets = count i; bytes = long i }
+total-is packets few = search (rules, bytes-few, bytes-are)
 
 -- what was sent is what was accepted and what was refused
 sent-is : (accepted refused : List Packet) → length accepted < 2 ^ 32 → length refused < 2 ^ 32
     → (sent : Total) → sent.packets ≡ (capped_total accepted).packets + (capped_total refused).packets → sent.bytes ≡ (capped_total accepted).bytes + (capped_total refused).bytes
     → sent ≡ total_of (accepted ++ refused)
-sent-is accepted refused few less sent packets bytes =
-    let one = bytes-few accepted in
-    let other = bytes-few refused in
-    let are = bytes-are accepted in
-    let others = bytes-are refused in
-    let many = length-append accepted refused in
-    let long = bytes-append accepted refused in
-    let count : sent.packets ≡ length (accepted ++ refused) = omega (arith, few, less, packets, many) in
-    let sum : sent.bytes ≡ bytes_of (accepted ++ refused) = omega (arith, few, less, bytes, one, other, are, others, long) in
-    λ i. record { packets = count i; bytes = sum i }
+sent-is accepted refused few less sent packets bytes = search (rules, bytes-few, bytes-are, length-append, bytes-append)
 
 -- lists by number, of which one alone has members
 none-there : {X : Type 0} (f : ℕ → List X) (here first count : ℕ) → here < first → ((d : ℕ) → (here == d) ≡ false → f d ≡ []) → flat_map f (range_with_len first count) ≡ []
 none-there f here first zero below others = refl
-none-there f here first (suc count) below others =
-    let other : (here == first) ≡ false = grind (arith, nat_tests, below) in
-    ap₂ (λ a b. a ++ b) (others first other) (none-there f here (first + 1) count (omega (arith, below)) others)
+none-there f here first (suc count) below others = search (rules, (none-there f here (first + 1) count (omega (arith, below)) others))
 
 only-there : {X : Type 0} (f : ℕ → List X) (here first count : ℕ) → first ≤ here → here < first + count → ((d : ℕ) → (here == d) ≡ false → f d ≡ []) → flat_map f (range_with_len first count) ≡ f here
 only-there f here first zero from to others = absurd (omega (arith, from, to))
@@ -116,11 +100,7 @@ line-is setup events s room tree a there few =
     few_gone = let all = ap length a.accepted_are ∙ length-append a.gone _ in omega (arith, all)
 
     few_emitted : length its_emitted < 2 ^ 32
-    few_emitted =
-        let own = of_sender s.number (emitted_by setup room.device events) in
-        let given = ap length a.given_are ∙ length-append own (of_sender s.number (heads tree (log_of (events_at setup room.device events)))) in
-        let same = ap length a.counted in
-        omega (arith, few, offered_are, gone_are, few_gone, given, same)
+    few_emitted = search (rules, total-is, all-emitted, dealt-length, length-append, same-counts, sent-is, offered_are, gone_are, few_gone)
 
     counts : counts_in (account_after events s) ≡ counts_of (tally_after events s.number)
     counts =
@@ -136,19 +116,7 @@ lines-are : (setup : Setup) (events : List Event) (senders : List SenderSpec)
     → AllByRecursion (λ s. length (offered_of events s) < 2 ^ 32) (map number_of senders)
     → flat_map account_line (map (account_after events) senders) ≡ flat_map (counts_line (flat_map emitted (logs_of setup events))) (map counts_of (map (tally_after events) (map number_of senders)))
 lines-are setup events [] accounted few = refl
-lines-are setup events (s ∷ senders) accounted few =
-    ap₂ (λ a b. a ++ b) (by_queue (slice_get setup.queues s.queue) accounted.0) (lines-are setup events senders accounted.1 few.1)
-  where
-    Line : Type 0
-    Line = account_line (account_after events s) ≡ counts_line (flat_map emitted (logs_of setup events)) (counts_of (tally_after events s.number))
-
-    by_tree : (room : Room) (tree : Option Tree) → slice_get setup.trees room.device ≡ tree → MatchOption tree ⊥ (IsSenderAccounted setup events s room) → Line
-    by_tree room None e a = absurd a
-    by_tree room (Some tree) e a = line-is setup events s room tree a (slice_get_within setup.trees room.device tree e) few.0
-
-    by_queue : (room : Option Room) → MatchOption room ⊥ (λ (room : Room). MatchOption (slice_get setup.trees room.device) ⊥ (IsSenderAccounted setup events s room)) → Line
-    by_queue None a = absurd a
-    by_queue (Some room) a = by_tree room (slice_get setup.trees room.device) refl a
+lines-are setup events (s ∷ senders) accounted few = search (rules, line-is, slice_get_within, (lines-are setup events senders accounted.1 few.1))
 
 -- the accounts of all senders tell the report
 pub accounts-tell : (setup : Setup) (events : List Event) → IsCourseAccounted setup events → AllByRecursion (λ s. length (offered_of events s) < 2 ^ 32) (sender_numbers setup)

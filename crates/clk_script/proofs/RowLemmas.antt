@@ -1,7 +1,8 @@
 -- What the rows of some events write.
-use Rattle.std.proofs.Common.{◌≡◌, ℕ, ◌+◌, ◌<◌, ◌≤◌, ◌==◌, Bool, true, false, if◌then◌else◌, List, [], ◌∷◌, ◌++◌, drop, get_or, Option, Some, None, MatchOption, slice_get, length, Vec, append-nil, refl, arith, sym, ap, ap₂, subst, ◌∙◌}
+use Rattle.std.proofs.lemmas.Grind.{common_steps, elements}
+use Rattle.std.proofs.Common.{◌≡◌, ℕ, ◌+◌, ◌<◌, ◌≤◌, Bool, true, false, if◌then◌else◌, List, [], ◌∷◌, ◌++◌, drop, get_or, Option, Some, None, MatchOption, slice_get, length, Vec, append-nil, refl, arith, sym, ap, ap₂, subst, ◌∙◌, rules}
 use Rattle.std.specs.Bool.{⊤}
-use Rattle.std.specs.List.{flat_map, filter_map, cons_option, AllByRecursion, AllZip}
+use Rattle.std.specs.List.{flat_map, filter_map, AllByRecursion, AllZip}
 use Rattle.std.specs.declared.alloc.Global.{Global}
 use Rattle.std.proofs.lemmas.List.{drop_more}
 use Rattle.std.proofs.lemmas.List.Elements.{filter_map-append}
@@ -13,7 +14,7 @@ use Rattle.clk_sched.specs.Log.{visits_of, result_of}
 use Rattle.clk_sched.specs.Results.{emitted}
 use Rattle.clk_script.specs.declared.rows.ScriptRow.{ScriptRow}
 use Rattle.clk_sched.specs.Tree.{Tree}
-use Rattle.clk_router.specs.Events.{Setup, Event, offered, pulled, happens_at, events_at, evicted_in, log_of, IsOfDevice, RunsTree, CanHappen, emitted_in}
+use Rattle.clk_router.specs.Events.{Setup, Event, offered, pulled, events_at, evicted_in, log_of, IsOfDevice, RunsTree, CanHappen, emitted_in}
 use Rattle.clk_router.proofs.Callers.Emitted.{its-given}
 use Rattle.clk_script.specs.Meaning.{has_several, offer_text, event_text, pull_text}
 use Rattle.clk_script.specs.inside.ScriptRouter.{departure_text}
@@ -44,22 +45,13 @@ module _ (several : Bool) (given fronts : List Packet) where
 
 -- what came out at the first device is what its pulls gave
 first-emitted : (trees : List Tree) (events : List Event) → 1 ≤ length trees → MatchOption (slice_get trees 0) ⊤ (λ t. RunsTree t events) → emitted (log_of events) ≡ filter_map emitted_in events
-first-emitted [] events some runs = absurd (omega (arith, some))
-first-emitted (tree ∷ trees) events some runs = its-given tree events runs
+first-emitted trees events some runs = grind (arith, common_steps, elements, nat_tests, its-given)
 
 -- where there is one device, all pulls are its own
 given-alone : (setup : Setup) (events : List Event) → AllByRecursion (IsOfDevice 1) events → filter_map emitted_in (events_at setup 0 events) ≡ filter_map emitted_in events
 given-alone setup [] all = refl
-given-alone setup (offered p outcome ∷ events) all = by_test (happens_at setup 0 (offered p outcome)) refl (given-alone setup events all.1)
-  where
-    by_test : (b : Bool) → happens_at setup 0 (offered p outcome) ≡ b → filter_map emitted_in (events_at setup 0 events) ≡ filter_map emitted_in events
-        → filter_map emitted_in (events_at setup 0 (offered p outcome ∷ events)) ≡ filter_map emitted_in events
-    by_test true e rest = rw e rest
-    by_test false e rest = rw e rest
-given-alone setup (pulled d moment visits ∷ events) all =
-    let first = all.0 in
-    let its : (d == 0) ≡ true = grind (arith, nat_tests) in
-    rw its (ap (cons_option (result_of (visits_of 0 visits))) (given-alone setup events all.1))
+given-alone setup (offered p outcome ∷ events) all = search (rules, (given-alone setup events all.1))
+given-alone setup (pulled d moment visits ∷ events) all = search (rules, (given-alone setup events all.1))
 
 -- What the rows of events write, where a router has gone on since, and what the pulls gave was kept where there are several devices.
 pub rows-written : (setup : Setup) (events later : List Event) (rows : List ScriptRow) (kept fronts : List Packet) → AllZip IsRowOf events rows → 1 ≤ length setup.trees → CanHappen setup (events ++ later)
@@ -83,13 +75,9 @@ rows-written setup events later rows kept fronts are some can out is = by_severa
 -- the line of the row at a place, and those after it
 pub rows-left : (several : Bool) (rows : List ScriptRow) (i : ℕ) (r : ScriptRow) (given fronts : List Packet) → i < length rows → r ≡ get_or rows i r
     → rows_text several (drop i rows) given fronts ≡ row_text several r given fronts ++ rows_text several (drop (i + 1) rows) (given_after r given) (fronts_after r fronts)
-rows-left several rows i r given fronts within is =
-    ap (λ l. rows_text several l given fronts) (drop_more rows i r within)
-    ∙ ap (λ q. row_text several q given fronts ++ rows_text several (drop (i + 1) rows) (given_after q given) (fronts_after q fronts)) (sym is)
+rows-left several rows i r given fronts within is = search (rules, drop_more)
 
 -- the closing of the first of some devices, and those after it
 pub closings-first : (several : Bool) (device : ℕ) (closings : List (Vec Departure Global)) (first : Vec Departure Global) → 1 ≤ length closings → first ≡ get_or closings 0 first
     → closings_text several device (lists_of closings) ≡ flat_map (departure_text several device) first.items ++ closings_text several (device + 1) (lists_of (drop 1 closings))
-closings-first several device [] first some is = absurd (omega (arith, some))
-closings-first several device (departures ∷ closings) first some is =
-    ap (λ (v : Vec Departure Global). flat_map (departure_text several device) v.items ++ closings_text several (device + 1) (lists_of closings)) (sym is)
+closings-first several device closings first some is = search rules

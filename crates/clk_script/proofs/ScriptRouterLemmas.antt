@@ -1,5 +1,5 @@
 -- How the router of a script goes on, and what it can do next.
-use Rattle.std.proofs.Common.{◌≡◌, ℕ, ◌+◌, ◌<◌, ◌≤◌, ◌==◌, Bool, true, false, List, [], ◌∷◌, ◌++◌, length, map, filter, max, fold, append-nil, Option, Some, None, slice_get, refl, sym, ap, ap₂, ◌∙◌, subst, arith}
+use Rattle.std.proofs.Common.{◌≡◌, ℕ, ◌+◌, ◌<◌, ◌≤◌, ◌==◌, Bool, true, false, List, [], ◌∷◌, ◌++◌, length, map, filter, max, fold, append-nil, Option, Some, None, slice_get, refl, sym, ap, ap₂, ◌∙◌, subst, arith, rules}
 use Rattle.std.specs.List.{flat_map, filter_map, range_with_len, AllByRecursion}
 use Rattle.std.proofs.lemmas.List.{length-map}
 use Rattle.std.proofs.lemmas.Option.{slice_get_within}
@@ -7,7 +7,6 @@ use Rattle.std.proofs.lemmas.List.Concat.{flat_map-append}
 use Rattle.std.proofs.lemmas.List.Elements.{filter-append, filter_map-append}
 use Rattle.clk_packet.specs.declared.packet.Packet.{Packet}
 use Rattle.clk_packet.specs.declared.packet.Offered.{Offered}
-use Rattle.clk_packet.specs.declared.packet.Offered.TheVariants.{Accepted, Refused, Evicted}
 use Rattle.clk_packet.specs.Lists.{AreRising}
 use Rattle.clk_sched.specs.declared.visit.Visit.{Visit}
 use Rattle.clk_sched.specs.declared.session.departures.Departure.{Departure}
@@ -28,56 +27,19 @@ use Rattle.clk_script.proofs.LengthLemmas.{length-filter-le, length-filter_map-l
 
 -- whose the accounts are
 pub alike-its : (setup : Setup) (events : List Event) (r : ScriptRouter) → AreRising (sender_numbers setup) → IsAt setup events r → AreAlike r
-alike-its setup events r rising at =
-    let numbers = ap sender_numbers at.setup_is in
-    record { numbers = ap (map account_sender) at.accounts ∙ accounts-senders events setup.senders ∙ sym numbers; rising = subst AreRising (sym numbers) rising }
+alike-its setup events r rising at = search (rules, accounts-senders)
 
 -- A packet more was offered.
 pub IsAt-offered : (setup : Setup) (events : List Event) (old new : ScriptRouter) (p : Packet) (outcome : Offered) → IsAt setup events old → new.router ≡ after old.router (offered p outcome ∷ [])
     → CanHappen new.router.setup new.router.events → ((before : List Event) (specs : List SenderSpec) → old.accounts.items ≡ map (account_after before) specs → new.accounts.items ≡ map (account_after (before ++ offered p outcome ∷ [])) specs) → new.evicted.items ≡ evicted_kept outcome old.evicted.items → IsAt setup (events ++ offered p outcome ∷ []) new
-IsAt-offered setup events old new p outcome at goes_on can counted evicted =
-    record {
-      can_happen = subst (λ s. CanHappen s (events ++ offered p outcome ∷ [])) setup_is (subst (λ l. CanHappen new.router.setup l) events_are can);
-      setup_is = setup_is;
-      events_are = events_are;
-      accounts = counted events setup.senders at.accounts;
-      evicted = evicted ∙ ap (evicted_kept outcome) at.evicted ∙ fronts outcome ∙ sym (filter_map-append evicted_in events (offered p outcome ∷ []));
-    }
-  where
-    setup_is : new.router.setup ≡ setup
-    setup_is = ap (λ (c : Course). c.setup) goes_on ∙ at.setup_is
-
-    events_are : new.router.events ≡ events ++ offered p outcome ∷ []
-    events_are = ap (λ (c : Course). c.events) goes_on ∙ ap (λ l. l ++ offered p outcome ∷ []) at.events_are
-
-    fronts : (o : Offered) → evicted_kept o (filter_map evicted_in events) ≡ filter_map evicted_in events ++ filter_map evicted_in (offered p o ∷ [])
-    fronts Accepted = sym (append-nil (filter_map evicted_in events))
-    fronts (Refused q) = sym (append-nil (filter_map evicted_in events))
-    fronts (Evicted front) = refl
+IsAt-offered setup events old new p outcome at goes_on can counted evicted = search (rules, filter_map-append, append-nil)
 
 -- A device was pulled once more.
 pub LeadsOnByPull-pulled : (setup : Setup) (events : List Event) (old new : ScriptRouter) (d moment : ℕ) (got : Option Packet) → IsAt setup events old → IsPulled old.router new.router d moment got
     → CanHappen new.router.setup new.router.events
     → ((before : List Event) (specs : List SenderSpec) (device t : ℕ) (visits : List Visit) → result_of (visits_of 0 visits) ≡ got → old.accounts.items ≡ map (account_after before) specs → new.accounts.items ≡ map (account_after (before ++ pulled device t visits ∷ [])) specs)
     → new.evicted ≡ old.evicted → LeadsOnByPull setup new d moment got events
-LeadsOnByPull-pulled setup events old new d moment got at pull can counted evicted =
-    record {
-      visits = pull.visits;
-      result = pull.result;
-      leads = record {
-        can_happen = subst (λ s. CanHappen s (events ++ pulled d moment pull.visits ∷ [])) setup_is (subst (λ l. CanHappen new.router.setup l) events_are can);
-        setup_is = setup_is;
-        events_are = events_are;
-        accounts = counted events setup.senders d moment pull.visits pull.result at.accounts;
-        evicted = ap (λ ps. ps.items) evicted ∙ at.evicted ∙ sym (filter_map-append evicted_in events (pulled d moment pull.visits ∷ []) ∙ append-nil (filter_map evicted_in events));
-      };
-    }
-  where
-    setup_is : new.router.setup ≡ setup
-    setup_is = ap (λ (c : Course). c.setup) pull.goes_on ∙ at.setup_is
-
-    events_are : new.router.events ≡ events ++ pulled d moment pull.visits ∷ []
-    events_are = ap (λ (c : Course). c.events) pull.goes_on ∙ ap (λ l. l ++ pulled d moment pull.visits ∷ []) at.events_are
+LeadsOnByPull-pulled setup events old new d moment got at pull can counted evicted = search (rules, filter_map-append, append-nil)
 
 -- what came out in closing pulls writes what these pulls do
 module _ (several : Bool) (d : ℕ) where
@@ -203,10 +165,4 @@ module _ (r : ScriptRouter) (ready : IsReady r) where
 
 -- a device can be closed still where nothing happened at it
 pub CanClose-still : (a b : Course) (d moment : ℕ) → b.setup ≡ a.setup → events_of b d ≡ events_of a d → CanClose a d moment → CanClose b d moment
-CanClose-still a b d moment setup events can =
-    record {
-      there = subst (λ (s : Setup). d < length s.trees) (sym setup) can.there;
-      left = rw events can.left;
-      moments = rw events can.moments;
-      pulls = rw events can.pulls;
-    }
+CanClose-still a b d moment setup events can = search rules

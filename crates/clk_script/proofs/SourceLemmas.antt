@@ -1,5 +1,6 @@
 -- What a script's reading comes to, by what its source gave.
-use Rattle.std.proofs.Common.{◌≡◌, ◌+◌, ◌-◌, ◌≤◌, ℕ, min, nat_lt, true, false, List, [], ◌++◌, length, take, drop, Option, Some, None, Result, Ok, Err, MatchResult, inl, inr, refl, sym, ap, subst, ◌∙◌, append_assoc, append-nil, length-append, arith}
+use Rattle.std.proofs.lemmas.Grind.{common_steps}
+use Rattle.std.proofs.Common.{◌≡◌, ◌+◌, ◌-◌, ◌≤◌, ℕ, min, nat_lt, true, false, List, [], ◌++◌, length, take, drop, Option, Some, None, Result, Ok, Err, MatchResult, inl, inr, refl, sym, ap, ◌∙◌, append_assoc, append-nil, length-append, arith, rules}
 use Rattle.std.specs.Io.KnownBytes.{Consumes, IsAtEnd}
 use Rattle.std.proofs.Math.Seq.{take-append_seam}
 use Rattle.std.proofs.lemmas.Bool.Decides.{nat_tests}
@@ -14,23 +15,17 @@ use Rattle.clk_script.proofs.RefusalLemmas.{not-read}
 
 -- A source gave a text, and then a piece.
 consumed-more : (old now new : Option (List ℕ)) (text piece : List ℕ) → Consumes old now text → Consumes now new piece → Consumes old new (text ++ piece)
-consumed-more None now new text piece h k = tt
-consumed-more (Some all) None new text piece h k = absurd h
-consumed-more (Some all) (Some rest) None text piece h k = absurd k
-consumed-more (Some all) (Some rest) (Some last) text piece h k = h ∙ ap (λ l. text ++ l) k ∙ sym (append_assoc text piece last)
+consumed-more old now new text piece h k = search (rules, append_assoc)
 
 pub consumed-takes : (old new : Option (List ℕ)) (text : List ℕ) (most : ℕ) → Consumes old new text → length text ≤ most → Takes most old new
-consumed-takes None new text most h l = tt
-consumed-takes (Some all) None text most h l = absurd h
-consumed-takes (Some all) (Some rest) text most h l = (text, h, l)
+consumed-takes old new text most h l = search rules
 
 -- A piece is read into the front of a chunk, for which a script has room.
 pub front-is : (size room : ℕ) (chunk buf : List ℕ) → room ≡ min (most_script_bytes + 1 - size) 65536 → length chunk ≡ 65536 → length buf ≡ length (take room chunk) → length buf ≡ room
 front-is size room chunk buf is chunk_is same = same ∙ length-take-le room chunk (omega (arith, is, chunk_is))
 
 pub front-put : (room : ℕ) (chunk buf : List ℕ) → length buf ≡ length (take room chunk) → length (buf ++ drop room chunk) ≡ length chunk
-front-put room chunk buf same =
-    length-append buf (drop room chunk) ∙ ap (λ n. n + length (drop room chunk)) same ∙ sym (length-append (take room chunk) (drop room chunk)) ∙ ap length (take-append-drop room chunk)
+front-put room chunk buf same = search (rules, common_steps, length-append, take-append-drop)
 
 pub piece-fits : (size room count : ℕ) (chunk buf : List ℕ) → size ≤ most_script_bytes + 1 → room ≡ min (most_script_bytes + 1 - size) 65536 → length chunk ≡ 65536 → length buf ≡ length (take room chunk) → count ≤ length buf
     → size + count ≤ most_script_bytes + 1
@@ -39,10 +34,7 @@ piece-fits size room count chunk buf most is chunk_is same bound = let front = f
 -- With a piece a text is longer by what was read of it.
 pub consumed-piece : (old now new : Option (List ℕ)) (text buf : List ℕ) (count size : ℕ) → Consumes old now text → length text ≡ size → Consumes now new (take count buf) → count ≤ length buf
     → Consumes old new (text ++ take count buf) × (length (text ++ take count buf) ≡ size + count)
-consumed-piece old now new text buf count size h size_is k bound =
-    let all = length-append text (take count buf) in
-    let piece = length-take-le count buf bound in
-    (consumed-more old now new text (take count buf) h k, omega (arith, all, piece, size_is))
+consumed-piece old now new text buf count size h size_is k bound = search (rules, length-append, length-take-le, consumed-more)
 
 -- What it gave to its end is all that it had, and what it gave beyond the limit is as much as counts.
 consumed-all : (old new : Option (List ℕ)) (text : List ℕ) → Consumes old new text → IsAtEnd new → length text ≤ most_script_bytes → IsTextOf old text
@@ -53,8 +45,7 @@ consumed-all (Some all) (Some rest) text h end l =
     sym (ap (take (most_script_bytes + 1)) same ∙ take_all (most_script_bytes + 1) text (omega (arith, l)))
 
 pub consumed-ended : (old now new : Option (List ℕ)) (text piece : List ℕ) → Consumes old now text → Consumes now new piece → piece ≡ [] → IsAtEnd new → length text ≤ most_script_bytes → IsTextOf old text
-consumed-ended old now new text piece h k none end l =
-    consumed-all old new text (subst (Consumes old new) (ap (λ p. text ++ p) none ∙ append-nil text) (consumed-more old now new text piece h k)) end l
+consumed-ended old now new text piece h k none end l = search (rules, consumed-all, append-nil, consumed-more)
 
 consumed-long : (old new : Option (List ℕ)) (text : List ℕ) → Consumes old new text → length text ≡ most_script_bytes + 1 → IsTextOf old text
 consumed-long None new text h l = tt
@@ -80,6 +71,4 @@ ended names known text (Err fault) is l (inl memory) = inl memory
 ended names known text (Err fault) is l (inr e) = inr (inr (text, is, small-fault names text l ∙ e))
 
 pub ended-failures : (names : Names) (text : List ℕ) (result : Result Script Fault) (n : ℕ) → EndsAs names text result → read_failures result n ≡ n
-ended-failures names text (Ok script) n h = refl
-ended-failures names text (Err fault) n (inl memory) = rw memory refl
-ended-failures names text (Err fault) n (inr e) = not-read Script names false 1 (lines_of text) fault e n
+ended-failures names text result n h = search (rules, not-read)

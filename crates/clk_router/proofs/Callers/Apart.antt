@@ -1,12 +1,12 @@
 -- What happens at a device can happen alone.
-use Rattle.std.proofs.Common.{◌≡◌, ℕ, ◌<◌, ◌==◌, ◌&&◌, ◌||◌, ◌++◌, List, [], ◌∷◌, length, map, filter, Bool, true, false, if◌then◌else◌, Option, Some, None, IfSome, MatchOption, slice_get, refl, sym, ap, ◌∙◌, subst, arith}
+use Rattle.std.proofs.Common.{◌≡◌, ℕ, ◌<◌, ◌==◌, ◌&&◌, ◌||◌, List, [], ◌∷◌, length, map, filter, Bool, true, false, if◌then◌else◌, Option, Some, None, IfSome, MatchOption, slice_get, refl, sym, ◌∙◌, subst, arith, rules}
 use Rattle.std.specs.Bool.{⊤}
-use Rattle.std.specs.List.{flat_map, filter_map, cons_option, range_with_len, AllByRecursion, list_any}
+use Rattle.std.specs.List.{flat_map, filter_map, range_with_len, AllByRecursion, list_any}
 use Rattle.std.proofs.lemmas.Bool.{false≢true}
 use Rattle.std.proofs.lemmas.Bool.Decides.{nat_tests}
 use Rattle.clk_ring.specs.QueueHistory.{IsQueueHistory}
 use Rattle.clk_sched.specs.declared.visit.Visit.{Visit}
-use Rattle.clk_sched.specs.Tree.{Tree, queue_at, is_number}
+use Rattle.clk_sched.specs.Tree.{Tree, queue_at}
 use Rattle.clk_sched.specs.Run.{IsRun}
 use Rattle.clk_tree.specs.declared.plan.parts.SenderSpec.{SenderSpec}
 use Rattle.clk_packet.specs.Lists.{AreRising}
@@ -28,24 +28,13 @@ or-first false c isnt e = absurd (false≢true (sym isnt ∙ e))
 pub none-later : (senders : List SenderSpec) (s n : ℕ) (P : SenderSpec → Bool) → n ≡ s → AllByRecursion (λ m. n < m) (map number_of senders)
     → list_any (λ (x : SenderSpec). (x.number == s) && P x) senders ≡ false
 none-later [] s n P e h = refl
-none-later (x ∷ senders) s n P e h =
-    let not_it : (x.number == s) ≡ false = grind (arith, nat_tests, h.0, e) in
-    rw not_it (none-later senders s n P e h.1)
+none-later (x ∷ senders) s n P e h = search (rules, (none-later senders s n P e h.1))
 
 -- where senders rise, one alone is of a number
 pub one-sender : (senders : List SenderSpec) (s : ℕ) (P Q : SenderSpec → Bool) → AreRising (map number_of senders) → list_any (λ (x : SenderSpec). (x.number == s) && P x) senders ≡ true
     → list_any (λ (x : SenderSpec). (x.number == s) && Q x) senders ≡ true → (x : SenderSpec) × (P x ≡ true) × (Q x ≡ true)
 one-sender [] s P Q rising a b = absurd (false≢true a)
-one-sender (x ∷ senders) s P Q rising a b = by_number (x.number == s) refl a b (one-sender senders s P Q rising.1)
-  where
-    by_number : (t : Bool) → (x.number == s) ≡ t → ((t && P x) || list_any (λ (y : SenderSpec). (y.number == s) && P y) senders) ≡ true
-        → ((t && Q x) || list_any (λ (y : SenderSpec). (y.number == s) && Q y) senders) ≡ true
-        → (list_any (λ (y : SenderSpec). (y.number == s) && P y) senders ≡ true → list_any (λ (y : SenderSpec). (y.number == s) && Q y) senders ≡ true → (y : SenderSpec) × (P y ≡ true) × (Q y ≡ true))
-        → (y : SenderSpec) × (P y ≡ true) × (Q y ≡ true)
-    by_number true e a b rest =
-        let same : x.number ≡ s = grind (arith, nat_tests) in
-        (x, or-first (P x) _ (none-later senders s x.number P same rising.0) a, or-first (Q x) _ (none-later senders s x.number Q same rising.0) b)
-    by_number false e a b rest = rest a b
+one-sender (x ∷ senders) s P Q rising a b = search (rules, none-later, (one-sender senders s P Q rising.1))
 
 -- a sender sends to one queue
 pub one-queue : (senders : List SenderSpec) (s k q : ℕ) → AreRising (map number_of senders) → sends_to senders s k ≡ true → sends_to senders s q ≡ true → k ≡ q
@@ -59,34 +48,13 @@ one-queue senders s k q rising a b =
 pub sent-here : (queues : List Room) (senders : List SenderSpec) (s q d : ℕ) → is_at d (slice_get queues q) ≡ true → sends_to senders s q ≡ true
     → list_any (λ (x : SenderSpec). (x.number == s) && is_of_device queues d x) senders ≡ true
 sent-here queues [] s q d at e = absurd (false≢true e)
-sent-here queues (x ∷ senders) s q d at e = by_entry (x.number == s) (x.queue == q) refl e (sent-here queues senders s q d at)
-  where
-    by_entry : (t u : Bool) → (x.queue == q) ≡ u → ((t && u) || sends_to senders s q) ≡ true
-        → (sends_to senders s q ≡ true → list_any (λ (y : SenderSpec). (y.number == s) && is_of_device queues d y) senders ≡ true)
-        → ((t && is_of_device queues d x) || list_any (λ (y : SenderSpec). (y.number == s) && is_of_device queues d y) senders) ≡ true
-    by_entry true true f e rest =
-        let same : x.queue ≡ q = grind (arith, nat_tests) in
-        let here : is_at d (slice_get queues x.queue) ≡ true = subst (λ n. is_at d (slice_get queues n) ≡ true) (sym same) at in
-        rw here refl
-    by_entry true false f e rest = or-later (is_of_device queues d x) _ (rest e)
-    by_entry false u f e rest = rest e
+sent-here queues (x ∷ senders) s q d at e = search (rules, (sent-here queues senders s q d at))
 
 -- a device's pulls ask no queue that isn't its own
 pub no-answers : (o : Option Tree) (q : ℕ) (visits : List Visit) → MatchOption o ⊤ (λ tree. (x input : ℕ) → queue_at tree x input ≡ Some q → ⊥) → answers_in o q visits ≡ []
 no-answers None q visits never = refl
 no-answers (Some tree) q [] never = refl
-no-answers (Some tree) q (v ∷ visits) never = rw (not_asked v.fresh (queue_at tree v.node v.input) refl) (no-answers (Some tree) q visits never)
-  where
-    not_asked : (b : Bool) (o : Option ℕ) → queue_at tree v.node v.input ≡ o → is_number q (if b then o else None) ≡ false
-    not_asked false o e = refl
-    not_asked true None e = refl
-    not_asked true (Some k) e = by_same (k == q) refl
-      where
-        by_same : (c : Bool) → (k == q) ≡ c → c ≡ false
-        by_same false f = refl
-        by_same true f =
-            let same : k ≡ q = grind (arith, nat_tests) in
-            absurd (never v.node v.input (e ∙ ap Some same))
+no-answers (Some tree) q (v ∷ visits) never = search (rules, (no-answers (Some tree) q visits never))
 
 pub never-asks : (setup : Setup) → IsApart setup → (d q : ℕ) (room : Room) → slice_get setup.queues q ≡ Some room → (room.device == d) ≡ false
     → MatchOption (slice_get setup.trees d) ⊤ (λ tree. (x input : ℕ) → queue_at tree x input ≡ Some q → ⊥)
@@ -123,67 +91,37 @@ of-another setup apart d q room is other (offered p outcome) does = by_sends (se
         let yes : (room.device == d) ≡ true = subst (λ o. is_at d o ≡ true) is device in
         absurd (false≢true (sym other ∙ yes))
     by_sends false e = rw e refl
-of-another setup apart d q room is other (pulled c m visits) does =
-    let apart_from : (room.device == c) ≡ false = grind (arith, nat_tests, other, does) in
-    no-answers (slice_get setup.trees c) q visits (never-asks setup apart c q room is apart_from)
+of-another setup apart d q room is other (pulled c m visits) does = search (rules, no-answers, never-asks)
 
 -- what a filter leaves out is nothing to who looks at none of it
 kept-all : {X Y : Type 0} (p : X → Bool) (h : X → Option Y) (xs : List X) → ((x : X) → p x ≡ false → h x ≡ None) → filter_map h (filter p xs) ≡ filter_map h xs
 kept-all p h [] none = refl
-kept-all p h (x ∷ xs) none = by_test (p x) refl (kept-all p h xs none)
-  where
-    by_test : (b : Bool) → p x ≡ b → filter_map h (filter p xs) ≡ filter_map h xs → filter_map h (filter p (x ∷ xs)) ≡ filter_map h (x ∷ xs)
-    by_test true e rest = rw e (ap (cons_option (h x)) rest)
-    by_test false e rest = rw (e, none x e) rest
+kept-all p h (x ∷ xs) none = search (rules, (kept-all p h xs none))
 
 kept-none : {X Y : Type 0} (p : X → Bool) (h : X → Option Y) (xs : List X) → ((x : X) → p x ≡ true → h x ≡ None) → filter_map h (filter p xs) ≡ []
 kept-none p h [] none = refl
-kept-none p h (x ∷ xs) none = by_test (p x) refl (kept-none p h xs none)
-  where
-    by_test : (b : Bool) → p x ≡ b → filter_map h (filter p xs) ≡ [] → filter_map h (filter p (x ∷ xs)) ≡ []
-    by_test true e rest = rw (e, none x e) rest
-    by_test false e rest = rw e rest
+kept-none p h (x ∷ xs) none = search (rules, (kept-none p h xs none))
 
 flat-all : {X Y : Type 0} (p : X → Bool) (h : X → List Y) (xs : List X) → ((x : X) → p x ≡ false → h x ≡ []) → flat_map h (filter p xs) ≡ flat_map h xs
 flat-all p h [] none = refl
-flat-all p h (x ∷ xs) none = by_test (p x) refl (flat-all p h xs none)
-  where
-    by_test : (b : Bool) → p x ≡ b → flat_map h (filter p xs) ≡ flat_map h xs → flat_map h (filter p (x ∷ xs)) ≡ flat_map h (x ∷ xs)
-    by_test true e rest = rw e (ap (λ l. h x ++ l) rest)
-    by_test false e rest = rw (e, none x e) rest
+flat-all p h (x ∷ xs) none = search (rules, (flat-all p h xs none))
 
 flat-none : {X Y : Type 0} (p : X → Bool) (h : X → List Y) (xs : List X) → ((x : X) → p x ≡ true → h x ≡ []) → flat_map h (filter p xs) ≡ []
 flat-none p h [] none = refl
-flat-none p h (x ∷ xs) none = by_test (p x) refl (flat-none p h xs none)
-  where
-    by_test : (b : Bool) → p x ≡ b → flat_map h (filter p xs) ≡ [] → flat_map h (filter p (x ∷ xs)) ≡ []
-    by_test true e rest = rw (e, none x e) rest
-    by_test false e rest = rw e rest
+flat-none p h (x ∷ xs) none = search (rules, (flat-none p h xs none))
 
 all-kept : {X : Type 0} (P : X → Type 0) (p : X → Bool) (xs : List X) → AllByRecursion P xs → AllByRecursion P (filter p xs)
 all-kept P p [] h = tt
-all-kept P p (x ∷ xs) h = by_test (p x) h.0 (all-kept P p xs h.1)
-  where
-    by_test : (b : Bool) → P x → AllByRecursion P (filter p xs) → AllByRecursion P (if b then x ∷ filter p xs else filter p xs)
-    by_test true here rest = (here, rest)
-    by_test false here rest = rest
+all-kept P p (x ∷ xs) h = search (rules, (all-kept P p xs h.1))
 
 kept-twice : {X : Type 0} (p : X → Bool) (xs : List X) → filter p (filter p xs) ≡ filter p xs
 kept-twice p [] = refl
-kept-twice p (x ∷ xs) = by_test (p x) refl (kept-twice p xs)
-  where
-    by_test : (b : Bool) → p x ≡ b → filter p (filter p xs) ≡ filter p xs → filter p (filter p (x ∷ xs)) ≡ filter p (x ∷ xs)
-    by_test true e rest = rw (e, e) (ap (λ l. x ∷ l) rest)
-    by_test false e rest = rw e rest
+kept-twice p (x ∷ xs) = search (rules, (kept-twice p xs))
 
 -- no event is of a sender whose packets go another way than it does
 unnumbered : (setup : Setup) (d s : ℕ) (x : Event) → (happens_at setup d x ≡ sends_at setup d s → ⊥) → number_from s x ≡ None
 unnumbered setup d s (pulled c m v) other = refl
-unnumbered setup d s (offered p outcome) other = by_sender (p.sender == s) refl
-  where
-    by_sender : (t : Bool) → (p.sender == s) ≡ t → (if t then Some p.number else None) ≡ None
-    by_sender false f = refl
-    by_sender true f = let same : p.sender ≡ s = grind (arith, nat_tests) in absurd (other (ap (sends_at setup d) same))
+unnumbered setup d s (offered p outcome) other = search rules
 
 -- a sender's packets are all offered at a device, or none is
 pub numbers-at : (setup : Setup) (d s : ℕ) (events : List Event) → (b : Bool) → sends_at setup d s ≡ b → numbers_of s (events_at setup d events) ≡ (if b then numbers_of s events else [])
@@ -206,21 +144,7 @@ offers-run tree start (pulled c m v ∷ events) h = absurd h.0
 no-pulls : (setup : Setup) (d c : ℕ) (events : List Event) → (c == d) ≡ false → AllByRecursion IsOffer (events_at setup c (events_at setup d events))
 unfolding IsOffer
 no-pulls setup d c [] other = tt
-no-pulls setup d c (e ∷ events) other = by_first (happens_at setup d e) (is_offer e) (no-pulls setup d c events other)
-  where
-    is_offer : (e : Event) → happens_at setup d e ≡ true → happens_at setup c e ≡ true → IsOffer e
-    is_offer (offered p outcome) a b = tt
-    is_offer (pulled k m v) a b = absurd (false≢true (grind (arith, nat_tests, other, a, b)))
-
-    by_second : (b : Bool) → (b ≡ true → IsOffer e) → AllByRecursion IsOffer (events_at setup c (events_at setup d events))
-        → AllByRecursion IsOffer (if b then e ∷ events_at setup c (events_at setup d events) else events_at setup c (events_at setup d events))
-    by_second true h rest = (h refl, rest)
-    by_second false h rest = rest
-
-    by_first : (b : Bool) → (b ≡ true → happens_at setup c e ≡ true → IsOffer e) → AllByRecursion IsOffer (events_at setup c (events_at setup d events))
-        → AllByRecursion IsOffer (events_at setup c (if b then e ∷ events_at setup d events else events_at setup d events))
-    by_first true h rest = by_second (happens_at setup c e) (h refl) rest
-    by_first false h rest = rest
+no-pulls setup d c (e ∷ events) other = search (rules, (no-pulls setup d c events other))
 
 -- what happened to a queue of a device happened there
 pub history-alone : (setup : Setup) → IsApart setup → (d q : ℕ) (room : Room) → slice_get setup.queues q ≡ Some room → (room.device == d) ≡ true → (events : List Event) → history setup q (events_at setup d events) ≡ history setup q events

@@ -1,5 +1,5 @@
 -- How events go on by one.
-use Rattle.std.proofs.Common.{◌≡◌, ℕ, ◌+◌, ◌<◌, ◌≤◌, ◌==◌, zero, suc, Bool, true, false, List, [], ◌∷◌, ◌++◌, length, drop, map, reverse, max, fold, if◌then◌else◌, Option, Some, None, MatchOption, slice_get, subst, refl, sym, ap, ap₂, ◌∙◌, arith}
+use Rattle.std.proofs.Common.{◌≡◌, ℕ, ◌+◌, ◌<◌, ◌≤◌, ◌==◌, zero, suc, Bool, true, false, List, [], ◌∷◌, ◌++◌, length, drop, map, reverse, max, fold, if◌then◌else◌, Option, Some, None, MatchOption, slice_get, subst, refl, sym, ap, ◌∙◌, arith, rules}
 use Rattle.std.specs.Bool.{⊤}
 use Rattle.std.specs.List.{filter_map, cons_option, flat_map, range_with_len, list_any, AllByRecursion}
 use Rattle.std.proofs.lemmas.List.{append_assoc, append-nil, map-append, length-append, map-id, reverse-append}
@@ -29,9 +29,6 @@ numbers-more : (s : ℕ) (events : List Event) (p : Packet) (outcome : Offered) 
     → numbers_of s (events ++ offered p outcome ∷ []) ≡ range_with_len 0 (length (numbers_of s (events ++ offered p outcome ∷ [])))
 numbers-more s events p outcome number h = by_test (p.sender == s) refl
   where
-    IsFrom0 : List ℕ → Type 0
-    IsFrom0 ns = ns ≡ range_with_len 0 (length ns)
-
     one_more : (ns : List ℕ) → ns ≡ range_with_len 0 (length ns) → ns ++ length ns ∷ [] ≡ range_with_len 0 (length (ns ++ length ns ∷ []))
     one_more ns e = ap (λ l. l ++ length ns ∷ []) e ∙ sym (range-more (length ns)) ∙ ap (range_with_len 0) (sym (length-append ns (length ns ∷ [])))
 
@@ -56,11 +53,7 @@ events-elsewhere setup d events e is = rw (filter-append (happens_at setup d) ev
 
 -- Events of a run of a tree, and an offer.
 pub RunsTree-offered : (tree : Tree) (events : List Event) (p : Packet) (outcome : Offered) → RunsTree tree events → RunsTree tree (events ++ offered p outcome ∷ [])
-RunsTree-offered tree events p outcome runs =
-    let log = flat_map-append visits_in events (offered p outcome ∷ []) ∙ append-nil (log_of events) in
-    let turns = filter_map-append pull_in events (offered p outcome ∷ []) ∙ append-nil (filter_map pull_in events) in
-    let moments = filter_map-append moment_in events (offered p outcome ∷ []) ∙ append-nil (filter_map moment_in events) in
-    record { run = rw log runs.run; pull_by_pull = rw (log, turns) runs.pull_by_pull; moments = rw (turns, moments) runs.moments }
+RunsTree-offered tree events p outcome runs = search (rules, flat_map-append, filter_map-append)
 
 -- what each device's tree runs, where it is there
 abbrev pub RunAt : Setup → ℕ → List Event → Type 0
@@ -102,11 +95,6 @@ counted-more : (before : ℕ) (moments : List ℕ) (moment : ℕ) → counted be
 counted-more before [] moment = refl
 counted-more before (m ∷ moments) moment = λ i. max before m ∷ counted-more (max before m) moments moment i
 
--- the greatest of some moments, and one more
-pub fold-more : (before : ℕ) (moments : List ℕ) (moment : ℕ) → fold max before (moments ++ moment ∷ []) ≡ max (fold max before moments) moment
-fold-more before [] moment = refl
-fold-more before (m ∷ moments) moment = fold-more (max before m) moments moment
-
 -- the last of some moments, and `before` where there is none
 abbrev latest_from : ℕ → List (List Visit) → ℕ
 latest_from before [] = before
@@ -138,16 +126,7 @@ latest-moment tree events runs =
 pub RunsTree-pulled : (tree : Tree) (events : List Event) (device moment : ℕ) (visits : List Visit) → RunsTree tree events → IsRun tree (log_of events ++ visits)
     → pulls (log_of events ++ visits) ≡ pulls (log_of events) ++ visits ∷ [] → moment_of visits ≡ max (latest_moment (reverse (pulls (log_of events)))) moment
     → RunsTree tree (events ++ pulled device moment visits ∷ [])
-RunsTree-pulled tree events device moment visits runs run last at_moment =
-    let log = log-pulled events device moment visits in
-    let turns : filter_map pull_in (events ++ pulled device moment visits ∷ []) ≡ filter_map pull_in events ++ visits ∷ [] = filter_map-append pull_in events (pulled device moment visits ∷ []) in
-    let counted_is : moment_of visits ≡ max (fold max 0 (filter_map moment_in events)) moment = at_moment ∙ ap (λ n. max n moment) (latest-moment tree events runs) in
-    let moments : map moment_of (filter_map pull_in events ++ visits ∷ []) ≡ counted 0 (filter_map moment_in (events ++ pulled device moment visits ∷ [])) =
-    map-append moment_of (filter_map pull_in events) (visits ∷ []) ∙ ap (λ l. l ++ moment_of visits ∷ []) runs.moments
-    ∙ ap (λ m. counted 0 (filter_map moment_in events) ++ m ∷ []) counted_is
-    ∙ sym (counted-more 0 (filter_map moment_in events) moment) ∙ ap (counted 0) (sym (filter_map-append moment_in events (pulled device moment visits ∷ [])))
-    in
-    record { run = rw log run; pull_by_pull = rw (log, turns) (last ∙ ap (λ ps. ps ++ visits ∷ []) runs.pull_by_pull); moments = rw turns moments }
+RunsTree-pulled tree events device moment visits runs run last at_moment = search (rules, log-pulled, filter_map-append, latest-moment, map-append, counted-more)
 
 -- a pull of a session leads on
 pub CanHappen-pull : (setup : Setup) (events : List Event) (device moment : ℕ) (visits : List Visit) → CanHappen setup events → device < length setup.trees
@@ -197,9 +176,7 @@ turns-pulls events device t more = filter_map-append pull_in events (pulls_from 
 -- they happen at their device alone
 pub pulls-here : (setup : Setup) (d t : ℕ) (more : List (List Visit)) → events_at setup d (pulls_from d t more) ≡ pulls_from d t more
 pulls-here setup d t [] = refl
-pulls-here setup d t (visits ∷ more) =
-    let its : (d == d) ≡ true = grind (arith, nat_tests) in
-    rw its (ap (λ l. pulled d t visits ∷ l) (pulls-here setup d (t + 1) more))
+pulls-here setup d t (visits ∷ more) = search (rules, (pulls-here setup d (t + 1) more))
 
 pub pulls-elsewhere : (setup : Setup) (device d t : ℕ) (more : List (List Visit)) → (device == d) ≡ false → events_at setup d (pulls_from device t more) ≡ []
 pulls-elsewhere setup device d t [] e = refl
@@ -252,33 +229,18 @@ counted-append before (m ∷ ms) ks = ap (λ l. max before m ∷ l) (counted-app
 
 pub counted-range : (before t n : ℕ) → before ≤ t → counted before (range_with_len t n) ≡ range_with_len t n
 counted-range before t zero above = refl
-counted-range before t (suc n) above =
-    let greater : max before t ≡ t = omega (arith, above) in
-    ap₂ (λ m l. m ∷ l) greater (ap (λ b. counted b (range_with_len (t + 1) n)) greater ∙ counted-range t (t + 1) n (omega arith))
+counted-range before t (suc n) above = search (rules, (counted-range t (t + 1) n (omega arith)))
 
 -- the counted moments of some events and then pulls one tick apart
 pub counted-pulls : (events : List Event) (device t : ℕ) (more : List (List Visit)) → fold max 0 (filter_map moment_in events) ≤ t
     → counted 0 (filter_map moment_in (events ++ pulls_from device t more)) ≡ counted 0 (filter_map moment_in events) ++ range_with_len t (length more)
-counted-pulls events device t more above =
-    ap (counted 0) (filter_map-append moment_in events (pulls_from device t more) ∙ ap (λ l. filter_map moment_in events ++ l) (pulls-moments device t more))
-    ∙ counted-append 0 (filter_map moment_in events) (range_with_len t (length more))
-    ∙ ap (λ l. counted 0 (filter_map moment_in events) ++ l) (counted-range (fold max 0 (filter_map moment_in events)) t (length more) above)
+counted-pulls events device t more above = search (rules, filter_map-append, pulls-moments, counted-append, counted-range)
 
 -- Events of a run of a tree, and pulls one tick apart.
 pub RunsTree-pulls : (tree : Tree) (events : List Event) (device t : ℕ) (more : List (List Visit)) → RunsTree tree events → fold max 0 (filter_map moment_in events) ≤ t
     → IsRun tree (log_of events ++ flat_map (λ pull. pull) more) → pulls (log_of events ++ flat_map (λ pull. pull) more) ≡ pulls (log_of events) ++ more
     → map moment_of more ≡ range_with_len t (length more) → RunsTree tree (events ++ pulls_from device t more)
-RunsTree-pulls tree events device t more runs above run last at_moments =
-    record { run = rw log run; pull_by_pull = rw (log, turns) (last ∙ ap (λ ps. ps ++ more) runs.pull_by_pull); moments = rw turns moments }
-  where
-    log : log_of (events ++ pulls_from device t more) ≡ log_of events ++ flat_map (λ pull. pull) more
-    log = log-pulls events device t more
-
-    turns : filter_map pull_in (events ++ pulls_from device t more) ≡ filter_map pull_in events ++ more
-    turns = turns-pulls events device t more
-
-    moments : map moment_of (filter_map pull_in events ++ more) ≡ counted 0 (filter_map moment_in (events ++ pulls_from device t more))
-    moments = map-append moment_of (filter_map pull_in events) more ∙ ap₂ (λ k l. k ++ l) runs.moments at_moments ∙ sym (counted-pulls events device t more above)
+RunsTree-pulls tree events device t more runs above run last at_moments = search (rules, log-pulls, turns-pulls, map-append, counted-pulls)
 
 -- pulls one tick apart lead on
 pub CanHappen-pulls : (setup : Setup) (events : List Event) (device t : ℕ) (more : List (List Visit)) → CanHappen setup events → device < length setup.trees

@@ -1,5 +1,5 @@
 -- Lists whose members have keys that rise: a change of the member of one key at its place is a change of all that changes that one alone.
-use Rattle.std.proofs.Common.{◌≡◌, ℕ, ◌<◌, ◌==◌, zero, suc, Bool, true, false, List, [], ◌∷◌, map, set, Some, slice_get, refl, sym, ap, ap₂, subst, arith}
+use Rattle.std.proofs.Common.{◌≡◌, ℕ, ◌<◌, ◌==◌, zero, suc, false, List, [], ◌∷◌, map, set, Some, slice_get, refl, sym, ap, ap₂, subst, arith, rules}
 use Rattle.std.specs.List.{AllByRecursion, list_any}
 use Rattle.std.proofs.lemmas.Bool.Decides.{nat_tests}
 use Rattle.clk_packet.specs.Lists.{AreRising}
@@ -11,21 +11,12 @@ ChangesOnly {X} key k f = (x : X) → (k == key x) ≡ false → f x ≡ x
 -- where no member has the key, nothing changes
 pub others-stay : {X : Type 0} (key : X → ℕ) (k : ℕ) (f : X → X) (xs : List X) → ChangesOnly key k f → list_any (λ n. n == k) (map key xs) ≡ false → xs ≡ map f xs
 others-stay key k f [] its none = refl
-others-stay {X} key k f (x ∷ xs) its none = by_test (key x == k) refl (others-stay key k f xs its)
-  where
-    by_test : (b : Bool) → (key x == k) ≡ b → (list_any (λ n. n == k) (map key xs) ≡ false → xs ≡ map f xs) → x ∷ xs ≡ map f (x ∷ xs)
-    by_test true e rest = let no = rw e at none in absurd (cc)
-    by_test false e rest =
-        let other : (k == key x) ≡ false = grind (arith, nat_tests) in
-        ap₂ (λ (u : X) us. u ∷ us) (sym (its x other)) (rest (rw e at none))
+others-stay {X} key k f (x ∷ xs) its none = search (rules, (others-stay key k f xs its))
 
 -- nor where all members have greater keys
 above-stay : {X : Type 0} (key : X → ℕ) (k : ℕ) (f : X → X) (xs : List X) → ChangesOnly key k f → AllByRecursion (λ m. k < m) (map key xs) → xs ≡ map f xs
 above-stay key k f [] its above = refl
-above-stay {X} key k f (x ∷ xs) its above =
-    let first = above.0 in
-    let other : (k == key x) ≡ false = grind (arith, nat_tests) in
-    ap₂ (λ (u : X) us. u ∷ us) (sym (its x other)) (above-stay key k f xs its above.1)
+above-stay {X} key k f (x ∷ xs) its above = search (rules, (above-stay key k f xs its above.1))
 
 -- what holds of each key holds of that of the member at a place
 key-at : {X : Type 0} (key : X → ℕ) (P : ℕ → Type 0) (xs : List X) (i : ℕ) (x : X) → AllByRecursion P (map key xs) → slice_get xs i ≡ Some x → P (key x)

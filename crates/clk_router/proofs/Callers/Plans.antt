@@ -1,5 +1,5 @@
 -- The trees of a plan stand over its queues, and apart.
-use Rattle.std.proofs.Common.{◌≡◌, ℕ, ◌+◌, ◌<◌, ◌==◌, ◌&&◌, ◌||◌, ◌++◌, List, [], ◌∷◌, length, map, nat_lt, zero, suc, not, Bool, true, false, if◌then◌else◌, Option, Some, None, IsSome, IfSome, MatchOption, slice_get, refl, sym, ap, ◌∙◌, subst, arith}
+use Rattle.std.proofs.Common.{◌≡◌, ℕ, ◌+◌, ◌<◌, ◌==◌, ◌&&◌, ◌||◌, ◌++◌, List, [], ◌∷◌, length, map, nat_lt, zero, suc, not, Bool, true, false, Option, Some, None, IsSome, IfSome, MatchOption, slice_get, refl, sym, ap, ◌∙◌, subst, arith, rules}
 use Rattle.std.specs.Bool.{⊤}
 use Rattle.std.specs.Option.{option_or, option_map}
 use Rattle.std.specs.List.{AllByRecursion}
@@ -23,11 +23,7 @@ or-later false c e = e
 
 stands-left : (q : ℕ) (xs ys : List ℕ) → stands_in q xs ≡ true → stands_in q (xs ++ ys) ≡ true
 stands-left q [] ys e = absurd (false≢true e)
-stands-left q (x ∷ xs) ys e = by_here (x == q) e (stands-left q xs ys)
-  where
-    by_here : (b : Bool) → (b || stands_in q xs) ≡ true → (stands_in q xs ≡ true → stands_in q (xs ++ ys) ≡ true) → (b || stands_in q (xs ++ ys)) ≡ true
-    by_here true e rest = refl
-    by_here false e rest = rest e
+stands-left q (x ∷ xs) ys e = search (rules, (stands-left q xs ys))
 
 stands-right : (q : ℕ) (xs ys : List ℕ) → stands_in q ys ≡ true → stands_in q (xs ++ ys) ≡ true
 stands-right q [] ys e = e
@@ -36,12 +32,7 @@ stands-right q (x ∷ xs) ys e = or-later (x == q) (stands_in q (xs ++ ys)) (sta
 -- a queue that is at an input of a row is a leaf of it
 pub queue-stands : (above first next : ℕ) (row : Row) (x input q : ℕ) → queue_in above first next row x input ≡ Some q → stands_in q (leaves row) ≡ true
 queue-stands above first next end x input q e = absurd (cc)
-queue-stands above first next (leaf p row) x input q e = by_here ((above == x) && (first == input)) e (queue-stands above (suc first) next row x input q)
-  where
-    by_here : (b : Bool) → (if b then Some p else queue_in above (suc first) next row x input) ≡ Some q
-        → (queue_in above (suc first) next row x input ≡ Some q → stands_in q (leaves row) ≡ true) → ((p == q) || stands_in q (leaves row)) ≡ true
-    by_here true e rest = let number : p ≡ q = cc in let same : (p == q) ≡ true = grind (arith, nat_tests) in rw same refl
-    by_here false e rest = or-later (p == q) (stands_in q (leaves row)) (rest e)
+queue-stands above first next (leaf p row) x input q e = search (rules, (queue-stands above (suc first) next row x))
 queue-stands above first next (node class inputs row) x input q e =
     by_below (queue_in next 0 (suc next) inputs x input) e (queue-stands next 0 (suc next) inputs x input q) (queue-stands above (suc first) (suc (next + nodes inputs)) row x input q)
   where
@@ -102,22 +93,14 @@ distinct-apart (x ∷ xs) ys q distinct a b =
     by_here (x == q) refl a parts.0 (distinct-apart xs ys q parts.1)
   where
     by_here : (t : Bool) → (x == q) ≡ t → (t || stands_in q xs) ≡ true → not (stands_in x (xs ++ ys)) ≡ true → (stands_in q xs ≡ true → stands_in q ys ≡ true → ⊥) → ⊥
-    by_here false e a alone rest = rest a b
-    by_here true e a alone rest =
-        let same : q ≡ x = grind (arith, nat_tests) in
-        let again : stands_in x (xs ++ ys) ≡ true = stands-right x xs ys (subst (λ n. stands_in n ys ≡ true) same b) in
-        absurd (false≢true (ap not (sym again) ∙ alone))
+    by_here t e a alone rest = search (rules, stands-right)
 
 one-place : (trees : List Tree) (d e : ℕ) (t u : Tree) (q : ℕ) → are_distinct (all_leaves trees) ≡ true → slice_get trees d ≡ Some t → slice_get trees e ≡ Some u → stands_in q (leaves (root t)) ≡ true
     → stands_in q (leaves (root u)) ≡ true → d ≡ e
 one-place [] d e t u q distinct at there a b = absurd (cc)
 one-place (x ∷ trees) zero zero t u q distinct at there a b = refl
-one-place (x ∷ trees) zero (suc e) t u q distinct at there a b =
-    let same : t ≡ x = cc in
-    absurd (distinct-apart (leaves (root x)) (all_leaves trees) q distinct (subst (λ (y : Tree). stands_in q (leaves (root y)) ≡ true) same a) (stands-among trees e u q there b))
-one-place (x ∷ trees) (suc d) zero t u q distinct at there a b =
-    let same : u ≡ x = cc in
-    absurd (distinct-apart (leaves (root x)) (all_leaves trees) q distinct (subst (λ (y : Tree). stands_in q (leaves (root y)) ≡ true) same b) (stands-among trees d t q at a))
+one-place (x ∷ trees) zero (suc e) t u q distinct at there a b = search (rules, distinct-apart, stands-among)
+one-place (x ∷ trees) (suc d) zero t u q distinct at there a b = search (rules, distinct-apart, stands-among)
 one-place (x ∷ trees) (suc d) (suc e) t u q distinct at there a b =
     ap suc (one-place trees d e t u q (distinct-right (leaves (root x)) (all_leaves trees) distinct) at there a b)
 
@@ -162,10 +145,7 @@ pub leaves-at : (plan : List Planned) (trees : List Tree) → AreTreesOf plan tr
 leaves-at plan trees are shared paths d tree at q = rw (slice_get-map room_of (queues_of plan) q) (by_queue (slice_get (queues_of plan) q) refl (stands_in q (leaves (root tree))) refl)
   where
     by_device : (x : Queued) (b : Bool) → slice_get (queues_of plan) q ≡ Some x → (x.device == d) ≡ b → stands_in q (leaves (root tree)) ≡ false → b ≡ false
-    by_device x false is e not_there = refl
-    by_device x true is e not_there =
-        let same : x.device ≡ d = grind (arith, nat_tests) in
-        absurd (false≢true (sym not_there ∙ shared.own q x tree is (ap (slice_get trees) same ∙ at)))
+    by_device x b is e not_there = search rules
 
     by_queue : (o : Option Queued) → slice_get (queues_of plan) q ≡ o → (b : Bool) → stands_in q (leaves (root tree)) ≡ b → b ≡ is_at d (option_map room_of o)
     by_queue None is false e = refl

@@ -1,5 +1,5 @@
 -- Where the packets of each sender are, in events that can happen.
-use Rattle.std.proofs.Common.{◌≡◌, ℕ, ◌<◌, ◌==◌, Bool, true, false, if◌then◌else◌, List, [], ◌∷◌, ◌++◌, length, Option, Some, None, MatchOption, slice_get, refl, sym, ap, ap₂, ◌∙◌, subst, arith}
+use Rattle.std.proofs.Common.{◌≡◌, ℕ, ◌<◌, ◌==◌, Bool, true, false, if◌then◌else◌, List, [], ◌∷◌, ◌++◌, length, Option, Some, None, MatchOption, slice_get, refl, sym, ap, ap₂, ◌∙◌, subst, arith, rules}
 use Rattle.std.specs.Bool.{⊤}
 use Rattle.std.specs.List.{filter_map, cons_option, AllByRecursion}
 use Rattle.std.proofs.lemmas.Bool.{false≢true, eqb-true}
@@ -36,32 +36,13 @@ use Rattle.clk_router.proofs.Settled.OwnPackets.{SendsIn, its-queue, all-came, o
 -- the events at a device happen there
 pub own-events : (setup : Setup) (d : ℕ) (events : List Event) → AllByRecursion (λ e. happens_at setup d e ≡ true) (events_at setup d events)
 own-events setup d [] = tt
-own-events setup d (e ∷ events) = by_test (happens_at setup d e) refl (own-events setup d events)
-  where
-    by_test : (b : Bool) → happens_at setup d e ≡ b → AllByRecursion (λ e. happens_at setup d e ≡ true) (events_at setup d events)
-        → AllByRecursion (λ e. happens_at setup d e ≡ true) (if b then e ∷ events_at setup d events else events_at setup d events)
-    by_test true here rest = (here, rest)
-    by_test false elsewhere rest = rest
-
--- a packet that is offered to another queue is of another sender
-own-offer : (setup : Setup) (q s : ℕ) (p : Packet) → sends_to setup.senders s q ≡ true → sends_to setup.senders p.sender q ≡ false → of_sender s (p ∷ []) ≡ []
-own-offer setup q s p sends none = by_test (p.sender == s) refl
-  where
-    by_test : (b : Bool) → (p.sender == s) ≡ b → (if b then p ∷ [] else []) ≡ []
-    by_test false e = refl
-    by_test true e = absurd (false≢true (sym none ∙ subst (λ n. sends_to setup.senders n q ≡ true) (sym (eqb-true p.sender s e)) sends))
+own-events setup d (e ∷ events) = search (rules, (own-events setup d events))
 
 own-accepted : (setup : Setup) (q s : ℕ) → sends_to setup.senders s q ≡ true → (e : Event) → IsOwn accepted_in setup q s e
-own-accepted setup q s sends (offered p Accepted) = λ none. own-offer setup q s p sends none
-own-accepted setup q s sends (offered p (Refused r)) = λ none. refl
-own-accepted setup q s sends (offered p (Evicted front)) = λ none. own-offer setup q s p sends none
-own-accepted setup q s sends (pulled c m visits) = tt
+own-accepted setup q s sends e = search rules
 
 own-refused : (setup : Setup) (q s : ℕ) → sends_to setup.senders s q ≡ true → (e : Event) → IsOwn refused_in setup q s e
-own-refused setup q s sends (offered p Accepted) = λ none. refl
-own-refused setup q s sends (offered p (Refused r)) = λ none. own-offer setup q s p sends none
-own-refused setup q s sends (offered p (Evicted front)) = λ none. refl
-own-refused setup q s sends (pulled c m visits) = tt
+own-refused setup q s sends e = search rules
 
 -- a queue of the setup
 abbrev HasRoom : Setup → Type 0

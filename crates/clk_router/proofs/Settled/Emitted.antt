@@ -1,10 +1,8 @@
 -- What all pulls emitted of a sender is what its own device emitted of it.
-use Rattle.std.proofs.Common.{◌≡◌, ℕ, ◌==◌, Bool, true, false, if◌then◌else◌, List, [], ◌∷◌, ◌++◌, length, filter, Some, MatchOption, slice_get, refl, sym, ap, ◌∙◌, subst, arith}
+use Rattle.std.proofs.Common.{◌≡◌, ℕ, ◌==◌, Bool, true, false, List, [], ◌∷◌, length, filter, Some, MatchOption, slice_get, refl, sym, ap, ◌∙◌, subst, arith, rules}
 use Rattle.std.specs.List.{filter_map, cons_option, AllByRecursion}
-use Rattle.std.proofs.lemmas.Bool.{false≢true}
 use Rattle.std.specs.Bool.{⊤}
 use Rattle.std.proofs.lemmas.Bool.Decides.{nat_tests}
-use Rattle.std.proofs.lemmas.List.Elements.{filter-append, filter_map-append}
 use Rattle.clk_packet.specs.declared.packet.Packet.{Packet}
 use Rattle.clk_packet.specs.Lists.{of_sender}
 use Rattle.clk_sched.specs.Tree.{Tree}
@@ -17,32 +15,15 @@ use Rattle.clk_router.proofs.Settled.Dealt.{all-for, member-there}
 abbrev OfEvent : ℕ → Event → List Packet
 OfEvent s e = of_sender s (cons_option (emitted_in e) [])
 
-first-event : (s : ℕ) (e : Event) (events : List Event) → of_sender s (filter_map emitted_in (e ∷ events)) ≡ OfEvent s e ++ of_sender s (filter_map emitted_in events)
-first-event s e events = ap (of_sender s) (filter_map-append emitted_in (e ∷ []) events) ∙ filter-append (λ (p : Packet). p.sender == s) (cons_option (emitted_in e) []) (filter_map emitted_in events)
-
-first-none : (xs ys : List Packet) → xs ++ ys ≡ [] → (xs ≡ []) × (ys ≡ [])
-first-none [] ys e = (refl, e)
-first-none (x ∷ xs) ys e = absurd (omega (arith, ap length e))
-
 -- where no event that passes a test emitted one, each of them emitted none
 each-none : (t : Event → Bool) (s : ℕ) (events : List Event) → of_sender s (filter_map emitted_in (filter t events)) ≡ [] → AllByRecursion (λ e. t e ≡ true → OfEvent s e ≡ []) events
 each-none t s [] none = tt
-each-none t s (e ∷ events) none = by_test (t e) refl none (each-none t s events)
-  where
-    by_test : (b : Bool) → t e ≡ b → of_sender s (filter_map emitted_in (if b then e ∷ filter t events else filter t events)) ≡ [] → (of_sender s (filter_map emitted_in (filter t events)) ≡ [] → AllByRecursion (λ e. t e ≡ true → OfEvent s e ≡ []) events)
-        → (t e ≡ true → OfEvent s e ≡ []) × AllByRecursion (λ e. t e ≡ true → OfEvent s e ≡ []) events
-    by_test true is none rest = let both = first-none (OfEvent s e) (of_sender s (filter_map emitted_in (filter t events))) (sym (first-event s e (filter t events)) ∙ none) in ((λ _. both.0), rest both.1)
-    by_test false is none rest = ((λ does. absurd (false≢true (sym is ∙ does))), rest none)
+each-none t s (e ∷ events) none = search (rules, (each-none t s events))
 
 -- where events elsewhere emitted none, those here emitted all
 all-here : (t : Event → Bool) (s : ℕ) (events : List Event) → AllByRecursion (λ e. t e ≡ false → OfEvent s e ≡ []) events → of_sender s (filter_map emitted_in events) ≡ of_sender s (filter_map emitted_in (filter t events))
 all-here t s [] h = refl
-all-here t s (e ∷ events) h = first-event s e events ∙ by_test (t e) refl h.0 (all-here t s events h.1)
-  where
-    by_test : (b : Bool) → t e ≡ b → (t e ≡ false → OfEvent s e ≡ []) → of_sender s (filter_map emitted_in events) ≡ of_sender s (filter_map emitted_in (filter t events))
-        → OfEvent s e ++ of_sender s (filter_map emitted_in events) ≡ of_sender s (filter_map emitted_in (if b then e ∷ filter t events else filter t events))
-    by_test true is none rest = ap (λ l. OfEvent s e ++ l) rest ∙ sym (first-event s e (filter t events))
-    by_test false is none rest = ap (λ l. l ++ of_sender s (filter_map emitted_in events)) (none is) ∙ rest
+all-here t s (e ∷ events) h = search (rules, (all-here t s events h.1))
 
 -- What all pulls emitted of a sender is what its device emitted of it, where no other device emitted any.
 pub emitted-all : (setup : Setup) (events : List Event) → CanHappen setup events → (d : ℕ) (tree : Tree) → slice_get setup.trees d ≡ Some tree → (s : ℕ) → ((c : ℕ) → (d == c) ≡ false → of_sender s (emitted_by setup c events) ≡ [])

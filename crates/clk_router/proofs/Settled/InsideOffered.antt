@@ -1,16 +1,13 @@
 -- The packets inside a queue were offered: each number is below how many packets its sender offered.
-use Rattle.std.proofs.Common.{◌≡◌, ℕ, zero, suc, ◌+◌, ◌<◌, ◌==◌, ◌||◌, Bool, true, false, if◌then◌else◌, List, [], ◌∷◌, ◌++◌, length, drop, Option, Some, None, MatchOption, slice_get, refl, sym, ap, ◌∙◌, subst, arith}
+use Rattle.std.proofs.Common.{◌≡◌, ℕ, zero, suc, ◌+◌, ◌<◌, true, List, [], ◌∷◌, ◌++◌, length, drop, Option, Some, MatchOption, slice_get, sym, ◌∙◌, subst, arith, rules}
 use Rattle.std.specs.Bool.{⊤}
 use Rattle.std.specs.List.{filter_map, cons_option, range_with_len, AllByRecursion}
 use Rattle.std.proofs.lemmas.Bool.{false≢true}
-use Rattle.std.proofs.lemmas.Bool.Decides.{nat_tests}
 use Rattle.std.proofs.lemmas.List.Elements.{filter_map-append}
 use Rattle.clk_packet.specs.declared.packet.Packet.{Packet}
-use Rattle.clk_packet.specs.declared.packet.Offered.{Offered}
-use Rattle.clk_packet.specs.declared.packet.Offered.TheVariants.{Accepted, Refused, Evicted}
 use Rattle.clk_packet.specs.Lists.{stands_in}
-use Rattle.clk_ring.specs.QueueHistory.{gone, held, IsQueueHistory, offer_events, pull_event}
-use Rattle.clk_router.specs.Events.{Room, Setup, Event, offered, pulled, number_from, numbers_of, sends_to, at_queue, history, CanHappen}
+use Rattle.clk_ring.specs.QueueHistory.{gone, held, IsQueueHistory}
+use Rattle.clk_router.specs.Events.{Room, Setup, Event, offered, pulled, numbers_of, history, CanHappen}
 use Rattle.clk_router.specs.InsideQueues.{given_of, emitted_of, heads_of, inside_of}
 use Rattle.clk_sched.proofs.Callers.Lists.{all-split, all-weaker}
 use Rattle.clk_router.proofs.Callers.Events.{all-join}
@@ -26,35 +23,15 @@ abbrev IsNumbered : List Event → Packet → Type 0
 IsNumbered events p = stands_in p.number (numbers_of p.sender events) ≡ true
 
 wider : (n : ℕ) (o : Option ℕ) (ns : List ℕ) → stands_in n ns ≡ true → stands_in n (cons_option o ns) ≡ true
-wider n None ns e = e
-wider n (Some m) ns e = or-later (m == n) e
-  where
-    or-later : {c : Bool} (b : Bool) → c ≡ true → (b || c) ≡ true
-    or-later true e = refl
-    or-later false e = e
+wider n o ns e = search rules
 
 all-numbered : (events : List Event) → AllByRecursion (OfOffer (IsNumbered events)) events
 all-numbered [] = tt
-all-numbered (e ∷ events) = (first e, all-weaker (OfOffer (IsNumbered events)) (OfOffer (IsNumbered (e ∷ events))) events later (all-numbered events))
-  where
-    first : (e : Event) → OfOffer (IsNumbered (e ∷ events)) e
-    first (offered p outcome) =
-        let its : (p.sender == p.sender) ≡ true = grind (arith, nat_tests) in
-        let here : (p.number == p.number) ≡ true = grind (arith, nat_tests) in
-        ap (λ (b : Bool). stands_in p.number (cons_option (if b then Some p.number else None) (numbers_of p.sender events))) its ∙ ap (λ b. b || stands_in p.number (numbers_of p.sender events)) here
-    first (pulled d m visits) = tt
-
-    later : (x : Event) → OfOffer (IsNumbered events) x → OfOffer (IsNumbered (e ∷ events)) x
-    later (offered p outcome) h = wider p.number (number_from p.sender e) (numbers_of p.sender events) h
-    later (pulled d m visits) h = tt
+all-numbered (e ∷ events) = search (rules, all-weaker, (all-numbered events))
 
 range-below : (n a k : ℕ) → stands_in n (range_with_len a k) ≡ true → n < a + k
 range-below n a zero e = absurd (false≢true e)
-range-below n a (suc k) e = by_test (a == n) refl e (range-below n (a + 1) k)
-  where
-    by_test : (b : Bool) → (a == n) ≡ b → (b || stands_in n (range_with_len (a + 1) k)) ≡ true → (stands_in n (range_with_len (a + 1) k) ≡ true → n < a + 1 + k) → n < a + suc k
-    by_test true f e rest = let same : a ≡ n = grind (arith, nat_tests) in omega (arith, same)
-    by_test false f e rest = let below = rest e in omega (arith, below)
+range-below n a (suc k) e = search (rules, (range-below n (a + 1) k))
 
 abbrev pub WasOffered : List Event → Packet → Type 0
 WasOffered events p = p.number < length (numbers_of p.sender events)
@@ -69,23 +46,7 @@ all-offered setup events can = all-weaker (OfOffer (IsNumbered events)) (OfOffer
 -- What holds of all packets offered holds of those that a queue accepted, and of those inside it.
 pub all-accepted : (P : Packet → Type 0) (setup : Setup) (q : ℕ) (events : List Event) → AllByRecursion (OfOffer P) events → AllByRecursion P (filter_map accepted_by (history setup q events))
 all-accepted P setup q [] h = tt
-all-accepted P setup q (e ∷ events) h =
-    subst (AllByRecursion P) (sym (filter_map-append accepted_by (at_queue setup q e) (history setup q events)))
-    (all-join P (filter_map accepted_by (at_queue setup q e)) (filter_map accepted_by (history setup q events)) (by_event e h.0) (all-accepted P setup q events h.1))
-  where
-    by_event : (e : Event) → OfOffer P e → AllByRecursion P (filter_map accepted_by (at_queue setup q e))
-    by_event (offered p outcome) h = by_test (sends_to setup.senders p.sender q) outcome
-      where
-        by_test : (b : Bool) (o : Offered) → AllByRecursion P (filter_map accepted_by (if b then offer_events p o else []))
-        by_test false o = tt
-        by_test true Accepted = (h, tt)
-        by_test true (Refused r) = tt
-        by_test true (Evicted front) = (h, tt)
-    by_event (pulled c m visits) h = subst (AllByRecursion P) (sym (none-answered accepted_by pull_none (slice_get setup.trees c) q visits)) tt
-      where
-        pull_none : (o : Option Packet) → accepted_by (pull_event o) ≡ None
-        pull_none None = refl
-        pull_none (Some p) = refl
+all-accepted P setup q (e ∷ events) h = search (rules, filter_map-append, none-answered, (all-accepted P setup q events h.1))
 
 all-dropped : (P : Packet → Type 0) (n : ℕ) (packets : List Packet) → AllByRecursion P packets → AllByRecursion P (drop n packets)
 all-dropped P zero packets h = h

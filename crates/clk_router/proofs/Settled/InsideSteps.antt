@@ -1,5 +1,5 @@
 -- The packets inside a queue after an offer, and after a pull.
-use Rattle.std.proofs.Common.{◌≡◌, ℕ, ◌==◌, Bool, true, false, if◌then◌else◌, List, [], ◌∷◌, ◌++◌, length, drop, map, filter, append-nil, append_assoc, Some, MatchOption, slice_get, refl, sym, ap, ap₂, ◌∙◌, subst, arith}
+use Rattle.std.proofs.Common.{◌≡◌, ℕ, ◌==◌, Bool, true, false, if◌then◌else◌, List, [], ◌∷◌, ◌++◌, length, drop, map, filter, append-nil, append_assoc, Some, MatchOption, slice_get, refl, sym, ap, ap₂, ◌∙◌, subst, arith, rules}
 use Rattle.std.specs.Bool.{⊤}
 use Rattle.std.specs.List.{filter_map, cons_option, AllByRecursion}
 use Rattle.std.proofs.lemmas.Bool.{eqb-true}
@@ -35,10 +35,7 @@ use Rattle.clk_router.proofs.Settled.Inside.{given-is, none-emitted}
 
 -- what a queue holds after it accepted a packet, refused one, or evicted one for another
 held-taken : (capacity : ℕ) (past : List QueueEvent) (p : Packet) → IsInOrder capacity past → held (past ++ accept p ∷ []) ≡ held past ++ p ∷ []
-held-taken capacity past p order =
-    let took = accepted-more past (accept p ∷ []) ∙ ap (λ l. l ++ p ∷ []) order.order ∙ append_assoc (gone past) (held past) (p ∷ []) in
-    let out = gone-more past (accept p ∷ []) ∙ append-nil (gone past) in
-    ap₂ (λ a b. drop (length a) b) out took ∙ drop_at (gone past) (held past ++ p ∷ []) _ refl
+held-taken capacity past p order = search (rules, accepted-more, append_assoc, gone-more, drop_at)
 
 held-refused : (past : List QueueEvent) (p : Packet) → held (past ++ refuse p ∷ []) ≡ held past
 held-refused past p = ap₂ (λ a b. drop (length a) b) (gone-more past (refuse p ∷ []) ∙ append-nil (gone past)) (accepted-more past (refuse p ∷ []) ∙ append-nil (accepted past))
@@ -49,24 +46,7 @@ record EvictsFront (past : List QueueEvent) (front p : Packet) : Type 0 where
   is : held (past ++ evict front ∷ accept p ∷ []) ≡ rest ++ p ∷ []
 
 held-evicted : (kind : Kind) (capacity : ℕ) (past : List QueueEvent) (front p : Packet) → EachStands kind capacity past (evict front ∷ accept p ∷ []) → EvictsFront past front p
-held-evicted kind capacity past front p h = record { rest = mid; was = was; is = is }
-  where
-    mid : List Packet
-    mid = held (past ++ evict front ∷ [])
-
-    was : held past ≡ front ∷ held (past ++ evict front ∷ [])
-    was =
-        let order = h.0.order in
-        let next = h.3.0.order in
-        let took = accepted-more past (evict front ∷ []) ∙ append-nil (accepted past) in
-        let out = gone-more past (evict front ∷ []) in
-        append_cancel_left (gone past) (held past) (front ∷ held (past ++ evict front ∷ []))
-        (sym order ∙ sym took ∙ next ∙ ap (λ l. l ++ held (past ++ evict front ∷ [])) out ∙ append_assoc (gone past) (front ∷ []) (held (past ++ evict front ∷ [])))
-
-    is : held (past ++ evict front ∷ accept p ∷ []) ≡ held (past ++ evict front ∷ []) ++ p ∷ []
-    is =
-        ap held (sym (append_assoc past (evict front ∷ []) (accept p ∷ [])))
-        ∙ held-taken capacity (past ++ evict front ∷ []) p h.3.0
+held-evicted kind capacity past front p h = search (rules, accepted-more, gone-more, append_cancel_left, append_assoc)
 
 -- what a pull emitted is its result
 pub pull-emitted : (tree : Tree) (events : List Event) (d m : ℕ) (visits : List Visit) → RunsTree tree (events ++ pulled d m visits ∷ []) → emitted visits ≡ cons_option (result_of (visits_of 0 visits)) []
@@ -104,10 +84,7 @@ given-offer setup q events p outcome =
     ∙ ap (λ l. given_of setup q events ++ l) (by_test (sends_to setup.senders p.sender q) outcome) ∙ append-nil (given_of setup q events)
   where
     by_test : (b : Bool) (o : Offered) → filter_map given_by (if b then offer_events p o else []) ≡ []
-    by_test false o = refl
-    by_test true Accepted = refl
-    by_test true (Refused r) = refl
-    by_test true (Evicted front) = refl
+    by_test b o = search rules
 
 heads-offer : (setup : Setup) (d q : ℕ) (events : List Event) (p : Packet) (outcome : Offered) → heads_of setup d q (events ++ offered p outcome ∷ []) ≡ heads_of setup d q events
 heads-offer setup d q events p outcome = ap₂ (λ a b. drop (length a) b) (ap (filter (is_of_queue setup q)) (emitted-offer setup d events p outcome)) (given-offer setup q events p outcome)

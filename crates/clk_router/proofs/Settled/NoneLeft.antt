@@ -1,11 +1,11 @@
 -- Where nothing is left for a device, its queues and its tree hold no packet. So a course is settled where nothing is left for any device.
-use Rattle.std.proofs.Common.{◌≡◌, ℕ, ◌+◌, ◌<◌, ◌==◌, ◌||◌, Bool, true, false, List, [], ◌∷◌, ◌++◌, length, append-nil, Option, Some, None, MatchOption, slice_get, refl, sym, ap, ◌∙◌, subst, arith}
+use Rattle.std.proofs.Common.{◌≡◌, ℕ, ◌+◌, ◌<◌, ◌==◌, true, List, [], ◌∷◌, length, Option, Some, None, MatchOption, slice_get, refl, sym, ap, ◌∙◌, subst, arith, rules}
 use Rattle.std.specs.Bool.{⊤}
 use Rattle.std.specs.List.{filter_map, AllByRecursion}
 use Rattle.std.proofs.lemmas.Bool.{false≢true}
 use Rattle.std.proofs.lemmas.Bool.Decides.{nat_tests}
 use Rattle.std.proofs.lemmas.Option.{slice_get_within}
-use Rattle.clk_packet.specs.Lists.{of_sender, stands_in}
+use Rattle.clk_packet.specs.Lists.{stands_in}
 use Rattle.clk_ring.specs.QueueHistory.{QueueEvent, held, IsInOrder, IsQueueHistory}
 use Rattle.clk_sched.specs.Tree.{Tree, root, leaves, leaves_distinct}
 use Rattle.clk_sched.specs.Run.{IsRun}
@@ -15,9 +15,8 @@ use Rattle.clk_sched.specs.Closing.{held_in_all, left_in}
 use Rattle.clk_sched.proofs.Callers.Lists.{all-weaker}
 use Rattle.clk_tree.specs.declared.plan.parts.SenderSpec.{SenderSpec}
 use Rattle.clk_tree.specs.PlanParts.{SendsWithin}
-use Rattle.clk_packet.specs.Dealt.{IsDealt}
 use Rattle.clk_router.specs.Events.{Room, Setup, Event, is_at, events_at, log_of, accepted_in, evicted_in, sends_to, history, CanHappen}
-use Rattle.clk_router.specs.Settled.{IsSenderAccounted, IsSenderSettled, IsTreeSettled, IsCourseAccounted, IsCourseSettled, IsOutOnce, IsAllOut, AreOutOnce, AreAllOut, emitted_by}
+use Rattle.clk_router.specs.Settled.{IsSenderAccounted, IsSenderSettled, IsTreeSettled, IsCourseAccounted, IsCourseSettled, IsOutOnce, IsAllOut, AreOutOnce, AreAllOut}
 use Rattle.clk_router.specs.inside.Closable.{IsClosable}
 use Rattle.clk_router.specs.inside.Parts.{IsWhole}
 use Rattle.clk_router.proofs.Callers.Apart.{alone, history-alone}
@@ -32,11 +31,7 @@ use Rattle.clk_router.proofs.Settled.Accounted.{own-events, its-run, accounted, 
 -- where queues hold no packet in all, each holds none
 each-none : (f : ℕ → ℕ) (qs : List ℕ) → held_in_all f qs ≡ 0 → (q : ℕ) → stands_in q qs ≡ true → f q ≡ 0
 each-none f [] none q stands = absurd (false≢true stands)
-each-none f (x ∷ qs) none q stands = by_test (x == q) refl stands (each-none f qs (omega (arith, none)) q)
-  where
-    by_test : (b : Bool) → (x == q) ≡ b → (b || stands_in q qs) ≡ true → (stands_in q qs ≡ true → f q ≡ 0) → f q ≡ 0
-    by_test true e stands rest = let same : x ≡ q = grind (arith, nat_tests) in subst (λ n. f n ≡ 0) same (omega (arith, none))
-    by_test false e stands rest = rest stands
+each-none f (x ∷ qs) none q stands = search (rules, (each-none f qs (omega arith) q))
 
 in-order : (o : Option Room) (events : List QueueEvent) → MatchOption o ⊤ (λ (room : Room). IsQueueHistory room.kind room.capacity events) → MatchOption o ⊤ (λ (room : Room). IsInOrder room.capacity events)
 in-order None events h = tt
@@ -75,20 +70,7 @@ none-held start counts setup closable events can d tree at run none =
 -- A sender that is accounted for is settled where nothing is held.
 settled-sender : (setup : Setup) (events : List Event) (s : SenderSpec) (room : Room) (tree : Tree) → IsSenderAccounted setup events s room tree → held (history setup s.queue events) ≡ [] → heads tree (log_of (events_at setup room.device events)) ≡ []
     → IsSenderSettled setup events s room
-settled-sender setup events s room tree a no_held no_heads =
-    let all_gone : of_sender s.number (filter_map accepted_in events) ≡ a.gone = a.accepted_are ∙ ap (λ l. a.gone ++ of_sender s.number l) no_held ∙ append-nil a.gone in
-    let all_out : a.given ≡ of_sender s.number (emitted_by setup room.device events) = a.given_are ∙ ap (λ l. of_sender s.number (emitted_by setup room.device events) ++ of_sender s.number l) no_heads ∙ append-nil _ in
-    record {
-      tally = record {
-        offered_are = a.offered_are;
-        accepted_are =
-            subst (λ l. IsDealt l (of_sender s.number (filter_map evicted_in events)) (of_sender s.number (emitted_by setup room.device events))) (sym all_gone)
-            (subst (λ l. IsDealt a.gone (of_sender s.number (filter_map evicted_in events)) l) all_out a.gone_are);
-        tail_drop = a.tail_drop;
-        front_drop = a.front_drop;
-      };
-      elsewhere = a.elsewhere;
-    }
+settled-sender setup events s room tree a no_held no_heads = search rules
 
 -- In a whole setup, each sender has its queue and its tree.
 for-senders : (setup : Setup) → IsWhole setup → (P : SenderSpec → Room → Tree → Type 0)

@@ -1,6 +1,6 @@
 -- Each packet that a sender offered is out of the router once at most, and once where nothing is left. All by counts of numbers.
-use Rattle.std.proofs.Common.{◌≡◌, inl, inr, ℕ, zero, suc, ◌+◌, ◌<◌, ◌≤◌, ◌==◌, ◌||◌, nat_lt, Bool, true, false, if◌then◌else◌, List, [], ◌∷◌, ◌++◌, length, Some, None, refl, sym, ap, ◌∙◌, arith}
-use Rattle.std.specs.List.{filter_map, cons_option, range_with_len}
+use Rattle.std.proofs.Common.{◌≡◌, inl, inr, ℕ, zero, suc, ◌+◌, ◌<◌, ◌≤◌, ◌==◌, nat_lt, Bool, true, false, if◌then◌else◌, List, [], ◌∷◌, ◌++◌, length, refl, sym, ap, ◌∙◌, arith, rules}
+use Rattle.std.specs.List.{filter_map, range_with_len}
 use Rattle.std.proofs.lemmas.Bool.{false≢true}
 use Rattle.std.proofs.lemmas.Bool.Decides.{nat_tests}
 use Rattle.std.proofs.lemmas.List.{length-map}
@@ -36,52 +36,27 @@ times-dealt n (p ∷ packets) a b (inr x) = let here = ap (of_number n) x.1 in l
 -- a number stands once in a range that has it, and in no other
 times-below : (n a k : ℕ) → n < a → times n (range_with_len a k) ≡ 0
 times-below n a zero below = refl
-times-below n a (suc k) below =
-    let other : (a == n) ≡ false = grind (arith, nat_tests, below) in
-    let rest = times-below n (a + 1) k (omega (arith, below)) in
-    let is = ap (λ (b : Bool). (if b then 1 else 0) + times n (range_with_len (a + 1) k)) other in
-    omega (arith, is, rest)
+times-below n a (suc k) below = search (rules, (times-below n (a + 1) k (omega arith)))
 
 pub times-within : (n a k : ℕ) → a ≤ n → n < a + k → times n (range_with_len a k) ≡ 1
 times-within n a zero least below = absurd (omega (arith, least, below))
 times-within n a (suc k) least below = by_test (a == n) refl (λ more. times-within n (a + 1) k more (omega (arith, below)))
   where
     by_test : (b : Bool) → (a == n) ≡ b → (a + 1 ≤ n → times n (range_with_len (a + 1) k) ≡ 1) → times n (range_with_len a (suc k)) ≡ 1
-    by_test true e later =
-        let same : a ≡ n = grind (arith, nat_tests) in
-        let rest = times-below n (a + 1) k (omega (arith, same)) in
-        let is = ap (λ (b : Bool). (if b then 1 else 0) + times n (range_with_len (a + 1) k)) e in
-        omega (arith, is, rest)
-    by_test false e later =
-        let beyond : a + 1 ≤ n = grind (arith, nat_tests, least, e) in
-        let rest = later beyond in
-        let is = ap (λ (b : Bool). (if b then 1 else 0) + times n (range_with_len (a + 1) k)) e in
-        omega (arith, is, rest)
+    by_test b e later = search (rules, times-below)
 
 pub times-above : (n a k : ℕ) → a + k ≤ n → times n (range_with_len a k) ≡ 0
 times-above n a zero above = refl
-times-above n a (suc k) above =
-    let other : (a == n) ≡ false = grind (arith, nat_tests, above) in
-    let rest = times-above n (a + 1) k (omega (arith, above)) in
-    let is = ap (λ (b : Bool). (if b then 1 else 0) + times n (range_with_len (a + 1) k)) other in
-    omega (arith, is, rest)
+times-above n a (suc k) above = search (rules, (times-above n (a + 1) k (omega arith)))
 
 -- a number stands in a list where it stands there once or more
 pub none-stands : (n : ℕ) (ms : List ℕ) → times n ms ≡ 0 → stands_in n ms ≡ false
 none-stands n [] e = refl
-none-stands n (m ∷ ms) e = by_test (m == n) refl e (none-stands n ms)
-  where
-    by_test : (b : Bool) → (m == n) ≡ b → (if b then 1 else 0) + times n ms ≡ 0 → (times n ms ≡ 0 → stands_in n ms ≡ false) → (b || stands_in n ms) ≡ false
-    by_test true f e rest = absurd (omega (arith, e))
-    by_test false f e rest = rest (omega (arith, e))
+none-stands n (m ∷ ms) e = search (rules, (none-stands n ms))
 
 pub some-stands : (n : ℕ) (ms : List ℕ) → 1 ≤ times n ms → stands_in n ms ≡ true
 some-stands n [] some = absurd (omega (arith, some))
-some-stands n (m ∷ ms) some = by_test (m == n) some (some-stands n ms)
-  where
-    by_test : (b : Bool) → 1 ≤ (if b then 1 else 0) + times n ms → (1 ≤ times n ms → stands_in n ms ≡ true) → (b || stands_in n ms) ≡ true
-    by_test true some rest = refl
-    by_test false some rest = rest (omega (arith, some))
+some-stands n (m ∷ ms) some = search (rules, (some-stands n ms))
 
 pub once-distinct : (ms : List ℕ) → ((n : ℕ) → times n ms ≤ 1) → are_distinct ms ≡ true
 once-distinct [] once = refl
@@ -92,11 +67,7 @@ once-distinct (m ∷ ms) once =
 -- the numbers of what a sender offered
 numbers-offered : (s : ℕ) (events : List Event) → packet_numbers (offered_of events s) ≡ numbers_of s events
 numbers-offered s [] = refl
-numbers-offered s (offered p outcome ∷ events) = by_test (p.sender == s) (numbers-offered s events)
-  where
-    by_test : (b : Bool) → packet_numbers (offered_of events s) ≡ numbers_of s events → packet_numbers (if b then p ∷ offered_of events s else offered_of events s) ≡ cons_option (if b then Some p.number else None) (numbers_of s events)
-    by_test true rest = ap (λ l. p.number ∷ l) rest
-    by_test false rest = rest
+numbers-offered s (offered p outcome ∷ events) = search (rules, (numbers-offered s events))
 numbers-offered s (pulled d m visits ∷ events) = numbers-offered s events
 
 -- it has offered as many packets
@@ -132,9 +103,6 @@ out-once setup events s room tree can a =
       was_offered = λ n stands. within n stands (nat_lt n (length (offered_of events s.number))) refl;
     }
   where
-    count : ℕ
-    count = length (offered_of events s.number)
-
     by_place : (n : ℕ) (b : Bool) → nat_lt n (length (offered_of events s.number)) ≡ b → times n (range_with_len 0 (length (offered_of events s.number))) ≤ 1
     by_place n true e = let one = times-within n 0 (length (offered_of events s.number)) (omega arith) (grind (arith, nat_tests, e)) in omega (arith, one)
     by_place n false e = let none = times-above n 0 (length (offered_of events s.number)) (grind (arith, nat_tests, e)) in omega (arith, none)

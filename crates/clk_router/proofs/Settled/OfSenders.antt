@@ -1,5 +1,5 @@
 -- What a pull emits is of a sender of the setup.
-use Rattle.std.proofs.Common.{◌≡◌, ℕ, ◌==◌, ◌&&◌, ◌||◌, Bool, true, false, List, [], ◌∷◌, ◌++◌, length, map, Option, Some, None, MatchOption, slice_get, refl, sym, subst, arith}
+use Rattle.std.proofs.Common.{◌≡◌, ℕ, ◌==◌, true, List, [], ◌∷◌, ◌++◌, length, map, Option, Some, None, MatchOption, slice_get, sym, subst, arith, rules}
 use Rattle.std.specs.Bool.{⊤}
 use Rattle.std.specs.List.{cons_option, list_any, AllByRecursion}
 use Rattle.std.proofs.lemmas.Bool.{false≢true}
@@ -31,19 +31,11 @@ IsKnown senders p = list_any (λ n. n == p.sender) (map number_of senders) ≡ t
 -- who sends to a queue is one of the senders
 sends-known : (senders : List SenderSpec) (s q : ℕ) → sends_to senders s q ≡ true → list_any (λ n. n == s) (map number_of senders) ≡ true
 sends-known [] s q e = absurd (false≢true e)
-sends-known (x ∷ senders) s q e = by_test (x.number == s) (x.queue == q) e (sends-known senders s q)
-  where
-    by_test : (a b : Bool) → ((a && b) || sends_to senders s q) ≡ true → (sends_to senders s q ≡ true → list_any (λ n. n == s) (map number_of senders) ≡ true) → (a || list_any (λ n. n == s) (map number_of senders)) ≡ true
-    by_test true b e rest = refl
-    by_test false b e rest = rest e
+sends-known (x ∷ senders) s q e = search (rules, (sends-known senders s q))
 
 all-known : (senders : List SenderSpec) (tree : Tree) (ts : List Traced) → AllByRecursion (CameOf (SendsIn senders (root tree))) ts → AllByRecursion (IsKnown senders) (map (λ (t : Traced). t.0) ts)
 all-known senders tree [] h = tt
-all-known senders tree (t ∷ ts) h = (by_origin t.1 h.0, all-known senders tree ts h.1)
-  where
-    by_origin : (o : Option ℕ) → MatchOption o ⊥ (SendsIn senders (root tree) t.0.sender) → IsKnown senders t.0
-    by_origin None over = absurd over
-    by_origin (Some k) its = sends-known senders t.0.sender k its.1
+all-known senders tree (t ∷ ts) h = search (rules, sends-known, (all-known senders tree ts h.1))
 
 -- if there is a result, it is the one packet of this list
 of-result : (senders : List SenderSpec) (o : Option Packet) → AllByRecursion (IsKnown senders) (cons_option o []) → MatchOption o ⊤ (IsKnown senders)

@@ -1,12 +1,12 @@
 -- Each sender sends to one queue, and so the packets of a sender came from its own queue.
-use Rattle.std.proofs.Common.{◌≡◌, ℕ, ◌==◌, ◌&&◌, ◌||◌, Bool, true, false, if◌then◌else◌, List, [], ◌∷◌, map, Option, Some, None, MatchOption, refl, sym, ap, ◌∙◌, subst, arith}
-use Rattle.std.specs.List.{AllByRecursion, list_any, cons_option}
-use Rattle.std.proofs.lemmas.Bool.{false≢true, eqb-true, or_right}
+use Rattle.std.proofs.Common.{◌≡◌, ℕ, ◌==◌, ◌&&◌, true, false, List, [], ◌∷◌, map, refl, ap, ◌∙◌, arith, rules}
+use Rattle.std.specs.List.{AllByRecursion, list_any}
+use Rattle.std.proofs.lemmas.Bool.{false≢true, or_right}
 use Rattle.std.proofs.lemmas.Bool.Decides.{nat_tests}
 use Rattle.clk_packet.specs.declared.packet.Packet.{Packet}
-use Rattle.clk_packet.specs.Lists.{In, of_sender, stands_in, AreRising}
+use Rattle.clk_packet.specs.Lists.{of_sender, stands_in, AreRising}
 use Rattle.clk_sched.specs.declared.visit.Visit.{Visit}
-use Rattle.clk_sched.specs.Tree.{Row, Tree, leaves, is_number}
+use Rattle.clk_sched.specs.Tree.{Row, Tree, leaves}
 use Rattle.clk_sched.specs.Results.{Traced, leaf_packets}
 use Rattle.clk_sched.specs.Conservation.{from_queue, CameFrom}
 use Rattle.clk_sched.proofs.Callers.Lists.{of-all}
@@ -32,12 +32,7 @@ all-send (x ∷ senders) = (
 -- a sender of the setup sends to a queue, and has what all senders have
 pub its-queue : (P : SenderSpec → Type 0) (senders : List SenderSpec) (n : ℕ) → AllByRecursion P senders → list_any (λ m. m == n) (map number_of senders) ≡ true → (x : SenderSpec) × (sends_to senders n x.queue ≡ true) × P x
 its-queue P [] n h e = absurd (false≢true e)
-its-queue P (x ∷ senders) n h e = by_test (x.number == n) refl e (its-queue P senders n h.1)
-  where
-    by_test : (b : Bool) → (x.number == n) ≡ b → (b || list_any (λ m. m == n) (map number_of senders)) ≡ true → (list_any (λ m. m == n) (map number_of senders) ≡ true → (y : SenderSpec) × (sends_to senders n y.queue ≡ true) × P y)
-        → (y : SenderSpec) × (((b && (x.queue == y.queue)) || sends_to senders n y.queue) ≡ true) × P y
-    by_test true f e rest = (x, (let q : (x.queue == x.queue) ≡ true = grind (arith, nat_tests) in rw q refl), h.0)
-    by_test false f e rest = let its = rest e in (its.0, its.1, its.2)
+its-queue P (x ∷ senders) n h e = search (rules, (its-queue P senders n h.1))
 
 -- a sender sends to a queue that stands in a row
 abbrev pub SendsIn : List SenderSpec → Row → ℕ → ℕ → Type 0
@@ -47,11 +42,7 @@ pub all-came : (senders : List SenderSpec) (tree : Tree) (log : List Visit) (row
     → ((k : ℕ) → stands_in k (leaves row) ≡ true → AllByRecursion (λ (p : Packet). sends_to senders p.sender k ≡ true) (leaf_packets tree k log))
     → AllByRecursion (CameFrom tree log row) ts → AllByRecursion (CameOf (SendsIn senders row)) ts
 all-came senders tree log row [] all h = tt
-all-came senders tree log row (t ∷ ts) all h = (by_origin t.1 t.0 h.0, all-came senders tree log row ts all h.1)
-  where
-    by_origin : (o : Option ℕ) (p : Packet) → MatchOption o ⊥ (λ q. (stands_in q (leaves row) ≡ true) × In p (leaf_packets tree q log)) → MatchOption o ⊥ (λ k. (stands_in k (leaves row) ≡ true) × (sends_to senders p.sender k ≡ true))
-    by_origin None p h = absurd h
-    by_origin (Some k) p h = (h.0, of-all (λ (p : Packet). sends_to senders p.sender k ≡ true) p (leaf_packets tree k log) (all k h.0) h.1)
+all-came senders tree log row (t ∷ ts) all h = search (rules, of-all, (all-came senders tree log row ts all h.1))
 
 -- The packets of a sender came from its own queue.
 pub of-own_queue : (senders : List SenderSpec) (row : Row) (s q : ℕ) → AreRising (map number_of senders) → sends_to senders s q ≡ true → (ts : List Traced) → AllByRecursion (CameOf (SendsIn senders row)) ts
@@ -61,15 +52,7 @@ of-own_queue senders row s q rising sends = from-own_queue (SendsIn senders row)
 -- No packet came from a queue that does not stand in the tree.
 pub none-from : (senders : List SenderSpec) (row : Row) (q : ℕ) → stands_in q (leaves row) ≡ false → (ts : List Traced) → AllByRecursion (CameOf (SendsIn senders row)) ts → from_queue q ts ≡ []
 none-from senders row q other [] h = refl
-none-from senders row q other (t ∷ ts) h = by_origin t.1 t.0 h.0 (none-from senders row q other ts h.1)
-  where
-    by_test : (b : Bool) (k : ℕ) (p : Packet) → (k == q) ≡ b → stands_in k (leaves row) ≡ true → from_queue q ts ≡ [] → cons_option (if b then Some p else None) (from_queue q ts) ≡ []
-    by_test true k p e here rest = absurd (false≢true (sym other ∙ subst (λ n. stands_in n (leaves row) ≡ true) (eqb-true k q e) here))
-    by_test false k p e here rest = rest
-
-    by_origin : (o : Option ℕ) (p : Packet) → MatchOption o ⊥ (λ k. (stands_in k (leaves row) ≡ true) × (sends_to senders p.sender k ≡ true)) → from_queue q ts ≡ [] → cons_option (if is_number q o then Some p else None) (from_queue q ts) ≡ []
-    by_origin None p over rest = absurd over
-    by_origin (Some k) p over rest = by_test (k == q) k p refl over.0 rest
+none-from senders row q other (t ∷ ts) h = search (rules, (none-from senders row q other ts h.1))
 
 -- So a tree in which the queue of a sender does not stand has no packet of the sender.
 pub none-of-other : (senders : List SenderSpec) (row : Row) (s q : ℕ) → AreRising (map number_of senders) → sends_to senders s q ≡ true → stands_in q (leaves row) ≡ false → (ts : List Traced) → AllByRecursion (CameOf (SendsIn senders row)) ts

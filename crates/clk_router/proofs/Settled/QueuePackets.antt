@@ -1,20 +1,18 @@
 -- The packets of a queue's history, by what events offered and what a device's log shows.
-use Rattle.std.proofs.Common.{◌≡◌, inl, inr, ℕ, ◌==◌, Bool, true, false, if◌then◌else◌, List, [], ◌∷◌, ◌++◌, append-nil, append_assoc, Option, Some, None, slice_get, refl, sym, ap, ap₂, ◌∙◌, subst}
+use Rattle.std.proofs.Common.{◌≡◌, inl, inr, ℕ, true, false, List, [], ◌∷◌, ◌++◌, append-nil, append_assoc, Option, Some, None, slice_get, refl, sym, ap, ap₂, ◌∙◌, subst, rules}
 use Rattle.std.specs.Bool.{⊤}
 use Rattle.std.specs.List.{filter_map, cons_option, AllByRecursion}
-use Rattle.std.proofs.lemmas.Bool.{false≢true}
 use Rattle.std.proofs.lemmas.List.{append_cancel_left}
-use Rattle.std.proofs.lemmas.List.Elements.{filter-append, filter_map-append}
+use Rattle.std.proofs.lemmas.List.Elements.{filter_map-append}
 use Rattle.clk_packet.specs.declared.packet.Packet.{Packet}
 use Rattle.clk_packet.specs.declared.packet.Kind.{Kind}
 use Rattle.clk_packet.specs.declared.packet.Kind.TheVariants.{TailDrop, FrontDrop}
 use Rattle.clk_packet.specs.declared.packet.Offered.{Offered}
-use Rattle.clk_packet.specs.declared.packet.Offered.TheVariants.{Accepted, Refused, Evicted}
+use Rattle.clk_packet.specs.declared.packet.Offered.TheVariants.{Evicted}
 use Rattle.clk_packet.specs.Lists.{of_sender}
 use Rattle.clk_ring.specs.QueueHistory.{QueueEvent, accept, refuse, evict, give, empty, accepted, gone, held, IsInOrder, EachStands, IsQueueHistory, offer_events, pull_event}
 use Rattle.clk_sched.specs.declared.visit.Visit.{Visit}
 use Rattle.clk_sched.specs.Tree.{Tree}
-use Rattle.clk_sched.specs.Results.{asks_queue}
 use Rattle.clk_sched.proofs.Callers.Lists.{all-split}
 use Rattle.clk_packet.specs.Dealt.{IsDealt}
 use Rattle.clk_router.specs.Events.{Setup, Event, offered, pulled, sends_to, answers_in, at_queue, history}
@@ -97,11 +95,7 @@ none-evicted kind capacity before (empty ∷ events) is h = none-evicted kind ca
 pub none-answered : (g : QueueEvent → Option Packet) → ((o : Option Packet) → g (pull_event o) ≡ None) → (o : Option Tree) (q : ℕ) (visits : List Visit) → filter_map g (answers_in o q visits) ≡ []
 none-answered g pull None q visits = refl
 none-answered g pull (Some tree) q [] = refl
-none-answered g pull (Some tree) q (v ∷ visits) = by_test (asks_queue tree q v) (none-answered g pull (Some tree) q visits)
-  where
-    by_test : (b : Bool) → filter_map g (answers_in (Some tree) q visits) ≡ [] → filter_map g ((if b then pull_event v.got ∷ [] else []) ++ answers_in (Some tree) q visits) ≡ []
-    by_test true rest = rw (pull v.got) rest
-    by_test false rest = rest
+none-answered g pull (Some tree) q (v ∷ visits) = search (rules, (none-answered g pull (Some tree) q visits))
 
 -- the packet that is gone by an event
 abbrev gone_by : QueueEvent → Option Packet
@@ -127,13 +121,7 @@ gone-more xs ys = gone-is (xs ++ ys) ∙ filter_map-append gone_by xs ys ∙ ap�
 gone-given : (o : Option Tree) (q : ℕ) (visits : List Visit) → gone (answers_in o q visits) ≡ filter_map given_by (answers_in o q visits)
 gone-given None q visits = refl
 gone-given (Some tree) q [] = refl
-gone-given (Some tree) q (v ∷ visits) = by_test (asks_queue tree q v) v.got (gone-given (Some tree) q visits)
-  where
-    by_test : (b : Bool) (o : Option Packet) → gone (answers_in (Some tree) q visits) ≡ filter_map given_by (answers_in (Some tree) q visits)
-        → gone ((if b then pull_event o ∷ [] else []) ++ answers_in (Some tree) q visits) ≡ filter_map given_by ((if b then pull_event o ∷ [] else []) ++ answers_in (Some tree) q visits)
-    by_test false o rest = rest
-    by_test true None rest = rest
-    by_test true (Some p) rest = ap (λ l. p ∷ l) rest
+gone-given (Some tree) q (v ∷ visits) = search (rules, (gone-given (Some tree) q visits))
 
 -- What a queue held before a pull is what it gave in the pull, and then what it holds after it.
 pub held-before : (setup : Setup) (q capacity : ℕ) (events : List Event) (device moment : ℕ) (visits : List Visit) → IsInOrder capacity (history setup q events)
@@ -158,14 +146,8 @@ held-before setup q capacity events device moment visits order next =
     goes_on : more ≡ past ++ answers
     goes_on = history-with setup q events (pulled device moment visits)
 
-    pull_none : (o : Option Packet) → accepted_by (pull_event o) ≡ None
-    pull_none None = refl
-    pull_none (Some p) = refl
-
     took : accepted more ≡ accepted past
-    took =
-        ap accepted goes_on ∙ accepted-more past answers
-        ∙ ap (λ l. accepted past ++ l) (accepted-is answers ∙ none-answered accepted_by pull_none (slice_get setup.trees device) q visits) ∙ append-nil (accepted past)
+    took = search (rules, accepted-more, accepted-is, none-answered, goes_on)
 
     went : gone more ≡ gone past ++ given
     went = ap gone goes_on ∙ gone-more past answers ∙ ap (λ l. gone past ++ l) (gone-given (slice_get setup.trees device) q visits)
@@ -180,42 +162,12 @@ pub its-packets : (f : Event → Option Packet) (g : QueueEvent → Option Packe
     → ((o : Option Packet) → g (pull_event o) ≡ None) → ((d m : ℕ) (visits : List Visit) → f (pulled d m visits) ≡ None) → (setup : Setup) (q s : ℕ) (events : List Event) → AllByRecursion (IsOwn f setup q s) events
     → of_sender s (filter_map f events) ≡ of_sender s (filter_map g (history setup q events))
 its-packets f g offers pulls none setup q s [] own = refl
-its-packets f g offers pulls none setup q s (e ∷ events) own =
-    ap (of_sender s) (filter_map-append f (e ∷ []) events) ∙ filter-append (λ (p : Packet). p.sender == s) (cons_option (f e) []) (filter_map f events)
-    ∙ ap₂ (λ xs ys. xs ++ ys) (by_event e own.0) (its-packets f g offers pulls none setup q s events own.1)
-    ∙ sym (ap (of_sender s) (filter_map-append g (at_queue setup q e) (history setup q events)) ∙ filter-append (λ (p : Packet). p.sender == s) (filter_map g (at_queue setup q e)) (filter_map g (history setup q events)))
-  where
-    by_event : (e : Event) → IsOwn f setup q s e → of_sender s (cons_option (f e) []) ≡ of_sender s (filter_map g (at_queue setup q e))
-    by_event (offered p outcome) own = by_test (sends_to setup.senders p.sender q) own
-      where
-        by_test : (b : Bool) → (b ≡ false → of_sender s (cons_option (f (offered p outcome)) []) ≡ []) → of_sender s (cons_option (f (offered p outcome)) []) ≡ of_sender s (filter_map g (if b then offer_events p outcome else []))
-        by_test true own = ap (of_sender s) (sym (offers p outcome))
-        by_test false own = own refl
-    by_event (pulled c m visits) own = ap (λ o. of_sender s (cons_option o [])) (none c m visits) ∙ ap (of_sender s) (sym (none-answered g pulls (slice_get setup.trees c) q visits))
+its-packets f g offers pulls none setup q s (e ∷ events) own = search (rules, filter_map-append, none-answered, (its-packets f g offers pulls none setup q s events own.1))
 
 -- All that a queue accepted is of its senders.
 pub all-sent : (setup : Setup) (q : ℕ) (events : List Event) → AllByRecursion (λ (p : Packet). sends_to setup.senders p.sender q ≡ true) (filter_map accepted_by (history setup q events))
 all-sent setup q [] = tt
-all-sent setup q (e ∷ events) =
-    subst (AllByRecursion (λ (p : Packet). sends_to setup.senders p.sender q ≡ true)) (sym (filter_map-append accepted_by (at_queue setup q e) (history setup q events))) (by_event e (all-sent setup q events))
-  where
-    rest : List Packet
-    rest = filter_map accepted_by (history setup q events)
-
-    by_event : (e : Event) → AllByRecursion (λ (p : Packet). sends_to setup.senders p.sender q ≡ true) rest → AllByRecursion (λ (p : Packet). sends_to setup.senders p.sender q ≡ true) (filter_map accepted_by (at_queue setup q e) ++ rest)
-    by_event (offered p outcome) k = by_test (sends_to setup.senders p.sender q) refl outcome k
-      where
-        by_test : (b : Bool) → sends_to setup.senders p.sender q ≡ b → (o : Offered) → AllByRecursion (λ (p : Packet). sends_to setup.senders p.sender q ≡ true) rest
-            → AllByRecursion (λ (p : Packet). sends_to setup.senders p.sender q ≡ true) (filter_map accepted_by (if b then offer_events p o else []) ++ rest)
-        by_test false e o k = k
-        by_test true e Accepted k = (e, k)
-        by_test true e (Refused r) k = k
-        by_test true e (Evicted front) k = (e, k)
-    by_event (pulled c m visits) k = rw (none-answered accepted_by pull_none (slice_get setup.trees c) q visits) k
-      where
-        pull_none : (o : Option Packet) → accepted_by (pull_event o) ≡ None
-        pull_none None = refl
-        pull_none (Some p) = refl
+all-sent setup q (e ∷ events) = search (rules, filter_map-append, none-answered, (all-sent setup q events))
 
 -- what holds of all that a queue evicted holds of what each of its events evicted
 abbrev pub EvictsWith : (Packet → Type 0) → Setup → ℕ → Event → Type 0
@@ -224,25 +176,4 @@ EvictsWith P setup q event = ⊤
 
 pub each-evicts : (P : Packet → Type 0) (setup : Setup) (q : ℕ) (events : List Event) → AllByRecursion P (filter_map evicted_by (history setup q events)) → AllByRecursion (EvictsWith P setup q) events
 each-evicts P setup q [] h = tt
-each-evicts P setup q (e ∷ events) h = by_event e (subst (AllByRecursion P) (filter_map-append evicted_by (at_queue setup q e) (history setup q events)) h) (each-evicts P setup q events)
-  where
-    rest : List Packet
-    rest = filter_map evicted_by (history setup q events)
-
-    by_event : (e : Event) → AllByRecursion P (filter_map evicted_by (at_queue setup q e) ++ rest) → (AllByRecursion P rest → AllByRecursion (EvictsWith P setup q) events)
-        → EvictsWith P setup q e × AllByRecursion (EvictsWith P setup q) events
-    by_event (offered p outcome) k more = by_test (sends_to setup.senders p.sender q) refl outcome k more
-      where
-        by_test : (b : Bool) → sends_to setup.senders p.sender q ≡ b → (o : Offered) → AllByRecursion P (filter_map evicted_by (if b then offer_events p o else []) ++ rest)
-            → (AllByRecursion P rest → AllByRecursion (EvictsWith P setup q) events) → EvictsWith P setup q (offered p o) × AllByRecursion (EvictsWith P setup q) events
-        by_test true e Accepted k more = (tt, more k)
-        by_test false e Accepted k more = (tt, more k)
-        by_test true e (Refused r) k more = (tt, more k)
-        by_test false e (Refused r) k more = (tt, more k)
-        by_test true e (Evicted front) k more = ((λ sends. k.0), more k.1)
-        by_test false e (Evicted front) k more = ((λ sends. absurd (false≢true (sym e ∙ sends))), more k)
-    by_event (pulled c m visits) k more = (tt, more (subst (AllByRecursion P) (ap (λ l. l ++ rest) (none-answered evicted_by pull_none (slice_get setup.trees c) q visits)) k))
-      where
-        pull_none : (o : Option Packet) → evicted_by (pull_event o) ≡ None
-        pull_none None = refl
-        pull_none (Some p) = refl
+each-evicts P setup q (e ∷ events) h = search (rules, filter_map-append, none-answered, (each-evicts P setup q events))

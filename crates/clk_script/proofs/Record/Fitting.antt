@@ -1,9 +1,7 @@
 -- A record that means anything was written from events that fit.
-use Rattle.std.proofs.Common.{◌≡◌, ℕ, zero, suc, ◌+◌, ◌<◌, ◌≤◌, ◌^◌, ◌&&◌, ◌||◌, Bool, true, false, nat_lt, nat_le, if◌then◌else◌, List, [], ◌∷◌, ◌++◌, length, map, decimal, Option, Some, None, IfSome, refl, sym, subst, ◌∙◌, length-append, arith}
+use Rattle.std.proofs.Common.{◌≡◌, ℕ, zero, suc, ◌+◌, ◌<◌, ◌≤◌, ◌^◌, ◌||◌, Bool, false, List, [], ◌∷◌, ◌++◌, length, map, decimal, Option, Some, None, IfSome, refl, subst, length-append, arith, rules}
 use Rattle.std.specs.List.{filter_map, AllByRecursion}
 use Rattle.std.proofs.lemmas.List.{length-map}
-use Rattle.std.proofs.lemmas.Bool.Decides.{nat_tests}
-use Rattle.clk_packet.specs.declared.fault.Fault.{Fault}
 use Rattle.clk_packet.specs.Limits.{most_sender, most_length}
 use Rattle.clk_packet.specs.Numbers.{number_in}
 use Rattle.clk_tree.proofs.Callers.Numbers.{number-read}
@@ -11,7 +9,7 @@ use Rattle.clk_router.specs.Events.{Setup, Event, offered, pulled, moment_in}
 use Rattle.clk_script.specs.declared.script.Command.{Command}
 use Rattle.clk_script.specs.declared.script.Command.TheVariants.{Send, Pull}
 use Rattle.clk_script.specs.declared.script.ScriptLine.{ScriptLine}
-use Rattle.clk_script.specs.Script.{Names, most_script_bytes, most_lines, most_moment, most_device, send_of, pull_of, drain_of, line_fault, is_drain, first_fault, lines_of, script_fault}
+use Rattle.clk_script.specs.Script.{Names, most_lines, most_moment, most_device, send_of, pull_of, drain_of, line_fault, is_drain, first_fault, lines_of, script_fault}
 use Rattle.clk_script.specs.Meaning.{names_of, command_of}
 use Rattle.clk_script.specs.Record.{record_text, drain_count, IsSmall, FitsNames, OnlyFittingRecordsMean}
 use Rattle.clk_script.specs.inside.ScriptRouter.{IsSound}
@@ -21,12 +19,7 @@ use Rattle.clk_script.proofs.Record.Sound.{commands-are}
 
 -- a number that was read is in the range
 within : (least most n x : ℕ) → n < 2 ^ 64 → number_in least most (decimal n) ≡ Some x → (least ≤ n) × (n ≤ most)
-within least most n x small e = by_tests (nat_le least n) (nat_le n most) refl refl (sym (number-read least most n small) ∙ e)
-  where
-    by_tests : (a b : Bool) → nat_le least n ≡ a → nat_le n most ≡ b → (if a && b then Some n else None) ≡ Some x → (least ≤ n) × (n ≤ most)
-    by_tests true true f g same = (grind (arith, nat_tests), grind (arith, nat_tests))
-    by_tests true false f g same = absurd (cc)
-    by_tests false b f g same = absurd (cc)
+within least most n x small e = search (rules, number-read)
 
 -- a command whose line has nothing wrong has numbers within their ranges
 said-within : (names : Names) (number : ℕ) (command : Command) → IsSmall command → line_fault names false number (line_said command) ≡ None → CanSay command
@@ -34,16 +27,8 @@ said-within names number (Send sender size) small e = by_numbers (number_in 0 mo
   where
     by_numbers : (o p : Option ℕ) → number_in 0 most_sender (decimal sender) ≡ o → number_in 1 most_length (decimal size) ≡ p → line_fault names false number (send_of o p) ≡ None
         → (sender ≤ most_sender) × (1 ≤ size) × (size ≤ most_length)
-    by_numbers None p f g h = absurd (cc)
-    by_numbers (Some s) None f g h = absurd (cc)
-    by_numbers (Some s) (Some l) f g h =
-        let size_is = within 1 most_length size l small.1 g in
-        ((within 0 most_sender sender s small.0 f).1, size_is.0, size_is.1)
-said-within names number (Pull zero moment) small e = by_number (number_in 0 most_moment (decimal moment)) refl e
-  where
-    by_number : (o : Option ℕ) → number_in 0 most_moment (decimal moment) ≡ o → line_fault names false number (pull_of o (Some 0)) ≡ None → (0 ≤ most_device) × (moment ≤ most_moment)
-    by_number None f h = absurd (cc)
-    by_number (Some m) f h = (omega arith, (within 0 most_moment moment m small.1 f).1)
+    by_numbers o p f g h = search (rules, within)
+said-within names number (Pull zero moment) small e = search (rules, within)
 said-within names number (Pull (suc d) moment) small e = by_numbers (number_in 0 most_moment (decimal moment)) (number_in 0 most_device (decimal (suc d))) refl refl e
   where
     by_numbers : (o p : Option ℕ) → number_in 0 most_moment (decimal moment) ≡ o → number_in 0 most_device (decimal (suc d)) ≡ p → line_fault names false number (pull_of o p) ≡ None
@@ -53,25 +38,12 @@ said-within names number (Pull (suc d) moment) small e = by_numbers (number_in 0
     by_numbers (Some m) (Some c) f g h = ((within 0 most_device (suc d) c small.0 g).1, (within 0 most_moment moment m small.1 f).1)
 
 drain-within : (names : Names) (number moment : ℕ) → moment < 2 ^ 64 → line_fault names false number (drain_of (number_in 0 most_moment (decimal moment))) ≡ None → moment ≤ most_moment
-drain-within names number moment small e = by_number (number_in 0 most_moment (decimal moment)) refl e
-  where
-    by_number : (o : Option ℕ) → number_in 0 most_moment (decimal moment) ≡ o → line_fault names false number (drain_of o) ≡ None → moment ≤ most_moment
-    by_number None f h = absurd (cc)
-    by_number (Some m) f h = (within 0 most_moment moment m small f).1
+drain-within names number moment small e = search (rules, within)
 
 -- where nothing is wrong with lines, nothing is wrong with the first, nor with the others
 first-fine : (names : Names) (drained : Bool) (number : ℕ) (l : ScriptLine) (more : List ScriptLine) → first_fault names drained number (l ∷ more) ≡ None
     → (number ≤ most_lines) × (line_fault names drained number l ≡ None) × (first_fault names (drained || is_drain l) (number + 1) more ≡ None)
-first-fine names drained number l more e = by_test (nat_lt most_lines number) refl
-  where
-    by_fault : (o : Option Fault) → line_fault names drained number l ≡ o → nat_lt most_lines number ≡ false
-        → (number ≤ most_lines) × (line_fault names drained number l ≡ None) × (first_fault names (drained || is_drain l) (number + 1) more ≡ None)
-    by_fault None f g = (grind (arith, nat_tests), f, rw (g, f) at e)
-    by_fault (Some fault) f g = let no = rw (g, f) at e in absurd (cc)
-
-    by_test : (b : Bool) → nat_lt most_lines number ≡ b → (number ≤ most_lines) × (line_fault names drained number l ≡ None) × (first_fault names (drained || is_drain l) (number + 1) more ≡ None)
-    by_test true g = let no = rw g at e in absurd (cc)
-    by_test false g = by_fault (line_fault names drained number l) refl g
+first-fine names drained number l more e = search rules
 
 few-lines : (names : Names) (drained : Bool) (number : ℕ) (all : List ScriptLine) → first_fault names drained number all ≡ None → number ≤ most_lines + 1 → number + length all ≤ most_lines + 1
 few-lines names drained number [] e few = omega (arith, few)
@@ -82,8 +54,7 @@ few-lines names drained number (l ∷ more) e few =
 
 all-within : (names : Names) (number : ℕ) (commands : List Command) (drain : Option ℕ) → AllByRecursion IsSmall commands → IfSome drain (λ moment. moment < 2 ^ 64)
     → first_fault names false number (map line_said commands ++ drain_said drain) ≡ None → AllByRecursion CanSay commands × IfSome drain (λ moment. moment ≤ most_moment)
-all-within names number [] None small ends e = (tt, tt)
-all-within names number [] (Some moment) small ends e = (tt, drain-within names number moment ends (first-fine names false number (drain_of (number_in 0 most_moment (decimal moment))) [] e).1)
+all-within names number [] drain small ends e = search (rules, drain-within, first-fine, said-within, line-again)
 all-within names number (command ∷ more) drain small ends e =
     let fine = first-fine names false number (line_said command) (map line_said more ++ drain_said drain) e in
     let can : CanSay command = said-within names number command small.0 fine.1 in
@@ -92,15 +63,10 @@ all-within names number (command ∷ more) drain small ends e =
 
 -- the lines of a script with nothing wrong have nothing wrong
 sound-lines : (names : Names) (script : List ℕ) → script_fault names script ≡ None → first_fault names false 1 (lines_of script) ≡ None
-sound-lines names script e = by_test (nat_lt most_script_bytes (length script)) refl
-  where
-    by_test : (b : Bool) → nat_lt most_script_bytes (length script) ≡ b → first_fault names false 1 (lines_of script) ≡ None
-    by_test true f = let no = rw f at e in absurd (cc)
-    by_test false f = rw f at e
+sound-lines names script e = search rules
 
 length-said : (drain : Option ℕ) → length (drain_said drain) ≡ drain_count drain
-length-said None = refl
-length-said (Some moment) = refl
+length-said drain = search rules
 
 -- what is so of commands is so of their events
 names-fit : (setup : Setup) (events : List Event) → AllByRecursion CanSay (map command_of events) → AllByRecursion (IsSound (names_of setup)) (map command_of events) → AllByRecursion (FitsNames setup) events
@@ -132,6 +98,4 @@ only-fitting setup events drain text small ends means = record {
     all = all-within (names_of setup) 1 commands drain small ends said
 
     few : length events + drain_count drain ≤ most_lines
-    few =
-        let lines = few-lines (names_of setup) false 1 (map line_said commands ++ drain_said drain) said (omega arith) in
-        omega (arith, lines, length-append (map line_said commands) (drain_said drain), length-map commands line_said, length-map events command_of, length-said drain)
+    few = search (rules, names-fit, commands-are, each-command-sound, moments-fit, lines-record, sound-lines, all-within, few-lines, length-append, length-map, length-said, commands, said)

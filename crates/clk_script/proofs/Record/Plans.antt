@@ -1,7 +1,6 @@
 -- Over a plan events that can happen, and are within the limits of a script, fit it.
-use Rattle.std.proofs.Common.{◌≡◌, ℕ, ◌≤◌, ◌==◌, Bool, true, false, List, [], ◌∷◌, ◌++◌, length, map, refl, subst, arith}
+use Rattle.std.proofs.Common.{◌≡◌, ℕ, ◌≤◌, ◌==◌, true, List, [], ◌∷◌, ◌++◌, length, map, arith, rules}
 use Rattle.std.specs.List.{AllByRecursion, list_any}
-use Rattle.std.proofs.lemmas.Bool.Decides.{nat_tests}
 use Rattle.clk_packet.specs.Limits.{most_sender, most_elements}
 use Rattle.clk_sched.specs.Tree.{Tree}
 use Rattle.clk_tree.specs.Plan.{Planned}
@@ -15,11 +14,7 @@ use Rattle.clk_script.specs.Record.{FitsNames, RecordsMeanTheirCourse, PlanRecor
 -- a number among those of senders within the limits is within the limits
 among : (n : ℕ) (senders : List SenderSpec) → AllByRecursion HasNumber senders → list_any (λ m. m == n) (map number_of senders) ≡ true → n ≤ most_sender
 among n [] each there = absurd (cc)
-among n (s ∷ more) each there = by_test (s.number == n) refl (among n more each.1)
-  where
-    by_test : (b : Bool) → (s.number == n) ≡ b → (list_any (λ m. m == n) (map number_of more) ≡ true → n ≤ most_sender) → n ≤ most_sender
-    by_test true e later = let same : s.number ≡ n = grind (arith, nat_tests) in subst (λ m. m ≤ most_sender) same each.0
-    by_test false e later = later (rw e at there)
+among n (s ∷ more) each there = search (rules, (among n more each.1))
 
 names-fit : (setup : Setup) (events closed : List Event) → AllByRecursion HasNumber setup.senders → length setup.trees ≤ most_elements → AllByRecursion (IsOfSender setup) (events ++ closed)
     → AllByRecursion (IsOfDevice (length setup.trees)) (events ++ closed) → AllByRecursion (FitsNames setup) events

@@ -1,5 +1,5 @@
 -- The record of events that fit is a script with nothing wrong, and means what happened.
-use Rattle.std.proofs.Common.{◌≡◌, ℕ, zero, suc, ◌+◌, ◌*◌, ◌≤◌, true, false, nat_lt, List, [], ◌∷◌, ◌++◌, length, map, codes, decimal, Option, Some, None, IfSome, slice_get, refl, sym, ap, subst, ◌∙◌, length-append, arith}
+use Rattle.std.proofs.Common.{◌≡◌, ℕ, zero, suc, ◌+◌, ◌*◌, ◌≤◌, false, nat_lt, List, [], ◌∷◌, ◌++◌, length, map, decimal, Option, Some, None, IfSome, slice_get, refl, sym, ap, subst, ◌∙◌, length-append, arith, rules}
 use Rattle.std.specs.List.{filter_map, flat_map, AllByRecursion}
 use Rattle.std.proofs.lemmas.List.{length-map}
 use Rattle.std.proofs.lemmas.Bool.Decides.{nat_tests}
@@ -7,7 +7,6 @@ use Rattle.std.proofs.lemmas.Fmt.{length-decimal-le}
 use Rattle.clk_packet.specs.Limits.{most_sender, most_length}
 use Rattle.clk_router.specs.Events.{Setup, Event, offered, pulled, moment_in, IsOfDevice}
 use Rattle.clk_script.specs.declared.script.Command.{Command}
-use Rattle.clk_script.specs.declared.script.Command.TheVariants.{Send, Pull}
 use Rattle.clk_script.specs.declared.script.ScriptLine.TheVariants as line
 use Rattle.clk_script.specs.Script.{Names, most_script_bytes, most_lines, most_moment, most_device, command_fault, first_fault, lines_of, script_fault, command_in, commands_of, drain_in, closing_moment}
 use Rattle.clk_script.specs.Meaning.{names_of, command_of, course_text, IsClosed}
@@ -17,20 +16,15 @@ use Rattle.clk_script.proofs.Record.Lines.{CanSay, all-small, drain-small, drain
 
 -- the commands and the drain of such lines
 commands-again : (commands : List Command) (drain : Option ℕ) → filter_map command_in (map line.Command commands ++ drain_lines drain) ≡ commands
-commands-again [] None = refl
-commands-again [] (Some moment) = refl
+commands-again [] drain = search rules
 commands-again (command ∷ more) drain = ap (λ l. command ∷ l) (commands-again more drain)
 
 drain-again : (commands : List Command) (drain : Option ℕ) → slice_get (filter_map drain_in (map line.Command commands ++ drain_lines drain)) 0 ≡ drain
-drain-again [] None = refl
-drain-again [] (Some moment) = refl
+drain-again [] drain = search rules
 drain-again (command ∷ more) drain = drain-again more drain
 
 no-command_fault : (names : Names) (number : ℕ) (command : Command) → IsSound names command → command_fault names number command ≡ None
-no-command_fault names number (Send sender size) sound = rw sound.0 refl
-no-command_fault names number (Pull device moment) sound =
-    let there : nat_lt device names.devices ≡ true = grind (arith, nat_tests) in
-    rw there refl
+no-command_fault names number command sound = search rules
 
 in-number : (number : ℕ) → number ≤ most_lines → nat_lt most_lines number ≡ false
 in-number number few = grind (arith, nat_tests)
@@ -40,11 +34,7 @@ no-fault : (names : Names) (number : ℕ) (commands : List Command) (drain : Opt
     → first_fault names false number (map line.Command commands ++ drain_lines drain) ≡ None
 no-fault names number [] None sound few = refl
 no-fault names number [] (Some moment) sound few = rw (in-number number (omega (arith, few))) refl
-no-fault names number (command ∷ more) drain sound few =
-    let within = in-number number (omega (arith, few)) in
-    let fine = no-command_fault names number command sound.0 in
-    let later = no-fault names (number + 1) more drain sound.1 (omega (arith, few)) in
-    rw (within, fine) later
+no-fault names number (command ∷ more) drain sound few = search (rules, in-number, no-command_fault, (no-fault names (number + 1) more drain sound.1 (omega (arith, few))))
 
 -- a line has at most 25 bytes
 sender-short : (n : ℕ) → n ≤ most_sender → length (decimal n) ≤ 5
@@ -61,22 +51,10 @@ device-short zero few = omega arith
 device-short (suc d) few = let short = length-decimal-le 5 (suc d) (omega arith) (omega (arith, few)) (omega (arith, few)) in omega (arith, short)
 
 command-short : (command : Command) → CanSay command → length (command_text command) ≤ 25
-command-short (Send sender size) can =
-    let a = sender-short sender can.0 in
-    let b = length-short size can.2 in
-    let first = length-append (decimal sender) (codes " " ++ (decimal size ++ codes "\n")) in
-    let second = length-append (decimal size) (codes "\n") in
-    omega (arith, a, b, first, second)
-command-short (Pull device moment) can =
-    let a = moment-short moment can.1 in
-    let b = device-short device can.0 in
-    let first = length-append (decimal moment) (named_device device ++ codes "\n") in
-    let second = length-append (named_device device) (codes "\n") in
-    omega (arith, a, b, first, second)
+command-short command can = search (rules, sender-short, length-short, length-append, moment-short, device-short)
 
 drain-short : (drain : Option ℕ) → IfSome drain (λ moment. moment ≤ most_moment) → length (drain_text drain) ≤ 25 * drain_count drain
-drain-short None fits = omega arith
-drain-short (Some moment) fits = let a = moment-short moment fits in let first = length-append (decimal moment) (codes "\n") in omega (arith, a, first)
+drain-short drain fits = search (rules, moment-short, length-append)
 
 record-short : (commands : List Command) (drain : Option ℕ) → AllByRecursion CanSay commands → IfSome drain (λ moment. moment ≤ most_moment)
     → length (record_text commands drain) ≤ 25 * (length commands + drain_count drain)

@@ -1,5 +1,7 @@
 -- Records that are written as they grow.
-use Rattle.std.proofs.Common.{◌≡◌, ℕ, ◌+◌, List, [], ◌∷◌, ◌++◌, Option, Some, None, Result, Ok, Err, IsErrOf, sym, ap, subst, ◌∙◌, append_assoc, length-append}
+use Rattle.std.proofs.lemmas.Bool.Decides.{nat_tests}
+use Rattle.std.proofs.lemmas.Grind.{common_steps, elements}
+use Rattle.std.proofs.Common.{◌≡◌, ℕ, ◌+◌, List, [], ◌∷◌, ◌++◌, Option, Some, None, Result, Ok, Err, IsErrOf, sym, ap, subst, ◌∙◌, append_assoc, length-append, arith, rules}
 use Rattle.std.specs.Io.KnownBytes.{Appends}
 use Rattle.clk_packet.specs.declared.fault.Fault.{Fault}
 use Rattle.clk_packet.specs.declared.fault.Fault.TheVariants.{Write}
@@ -56,13 +58,9 @@ records-cut start old new f g fault commands command writer holds its p =
 -- The line of a drain was written after what is held, or both were cut short.
 pub drain-front : (start old new : Option (List ℕ)) (f g : ℕ) (r : Result (Unit {0}) Fault) (commands : List Command) (moment : ℕ) (writer : ScriptWriter) → Wrote old new f g r (writer.held ++ drain_text (Some moment))
     → Records start old commands writer → IsErrOf r Write → AppendsFront start new (record_text commands (Some moment))
-drain-front start old new f g (Ok x) commands moment writer w its is = absurd (cc is)
-drain-front start old new f g (Err e) commands moment writer w its is =
-    subst (AppendsFront start new) (sym (drain-more commands moment)) (cut-short start old commands writer its new (drain_text (Some moment)) w.front)
+drain-front start old new f g r commands moment writer w its is = search (rules, common_steps, drain-more)
 
 -- What is held was cut short.
 pub plain-front : (start old new : Option (List ℕ)) (f g : ℕ) (r : Result (Unit {0}) Fault) (commands : List Command) (writer : ScriptWriter) → Wrote old new f g r writer.held → Records start old commands writer
     → IsErrOf r Write → AppendsFront start new (record_text commands None)
-plain-front start old new f g (Ok x) commands writer w its is = absurd (cc is)
-plain-front start old new f g (Err e) commands writer w its is =
-    subst (AppendsFront start new) (sym its.split) (front-after start old new its.written writer.held its.appends w.front)
+plain-front start old new f g r commands writer w its is = grind (arith, common_steps, elements, nat_tests, front-after)

@@ -1,22 +1,11 @@
-use Rattle.std.proofs.Common.{◌≡◌, ◌+◌, [], drop, map, sym, ap, ◌∙◌}
+use Rattle.std.proofs.Common.{◌≡◌, [], drop, map, sym, ap, ◌∙◌, rules}
 use Rattle.std.proofs.lemmas.List.{drop_all}
-use Rattle.clk_sched.specs.declared.session.departures.Departure.{Departure}
 use Rattle.clk_sched.specs.Departures.{departures_in}
-use Rattle.clk_router.specs.Accounts.{account_sender}
-use Rattle.clk_router.specs.inside.Accounts.{with_emitted}
 use Rattle.clk_router.proofs.AccountLemmas.{departed, accounts-drained, departed-on, departed-none, emitted-senders}
 use Rattle.clk_router.proofs.accounts.count_drained.Goals as goal
 
 pub loop-departure-preserved : goal.loop-departure-preserved
-loop-departure-preserved c =
-    let all = c.args.departures.now in
-    let i = c.loop-departure.departure-index in
-    let before = c.loop-departure.accounts.items in
-    let d = c.departure-item.result in (
-      ap (map (departed (drop (i + 1) all))) (c.count_emitted.ensures ∙ ap (λ (x : Departure). map (with_emitted x.packet) before) c.departure-item.is) ∙ departed-on all i d before c.loop-departure-test.true
-          ∙ c.loop-departure.invariant.0,
-      ap (map account_sender) c.count_emitted.ensures ∙ emitted-senders d.packet before ∙ c.loop-departure.invariant.1,
-    )
+loop-departure-preserved c = search (rules, departed-on, emitted-senders)
 
 pub returns-clause-counted : goal.returns-clause-counted
 returns-clause-counted c =

@@ -1,10 +1,9 @@
+use Rattle.std.proofs.Common.{rules}
 use Rattle.clk_router.proofs.AccountLemmas.{put_out-at, put_out-none}
 use Rattle.clk_router.proofs.accounts.count_evicted.Goals as goal
 
 pub returns-in-Some : goal.returns-in-Some
-returns-in-Some c =
-    let found = rw c.in-Some.is at c.place_of.ensures.found in
-    put_out-at c.args.accounts.now.items c.args.numbers.now c.args.front c.in-Some.place c.requires.alike found c.from.result c.index_mut.result.now c.requires.rising c.from.ensures c.index_mut.ensures.value c.add.new.self c.add.ensures
+returns-in-Some c = search (rules, put_out-at)
 
 pub returns-in-None : goal.returns-in-None
 returns-in-None c = put_out-none c.args.accounts.now.items c.args.numbers.now c.args.front c.requires.alike (c.place_of.ensures.missing c.in-None.is)

@@ -1,4 +1,4 @@
-use Rattle.std.proofs.Common.{◌≡◌, inl, inr, [], ◌∷◌, append-nil, length, map, refl, sym, ap, ◌∙◌, subst, arith}
+use Rattle.std.proofs.Common.{◌≡◌, inl, inr, [], ◌∷◌, append-nil, length, map, refl, sym, ap, ◌∙◌, subst, arith, rules}
 use Rattle.clk_packet.specs.declared.packet.Packet.{Packet}
 use Rattle.clk_packet.specs.Dealt.{IsDealt}
 use Rattle.clk_sched.specs.Examples.Priority.{p0_0, p1_0}
@@ -28,12 +28,7 @@ pub returns-clause-not_emitted_elsewhere : goal.returns-clause-not_emitted_elsew
 returns-clause-not_emitted_elsewhere c = λ a. let none = a.0.elsewhere 1 refl in absurd (omega (arith, ap length none))
 
 pub returns-clause-not_never_offered : goal.returns-clause-not_never_offered
-returns-clause-not_never_offered c =
-    λ a. let gone : a.0.gone ≡ [] = sym (append-nil a.0.gone) ∙ sym a.0.accepted_are in
-    let count = times-dealt 0 a.0.gone [] a.0.given a.0.gone_are in
-    let none = ap (of_number 0) gone in
-    let out = ap (of_number 0) a.0.given_are in
-    absurd (omega (arith, count, none, out))
+returns-clause-not_never_offered c = search rules
 
 pub returns-clause-not_swapped : goal.returns-clause-not_swapped
 returns-clause-not_swapped c =

@@ -1,12 +1,10 @@
-use Rattle.std.proofs.Common.{◌≡◌, ℕ, zero, suc, ◌==◌, Bool, true, false, if◌then◌else◌, [], ◌∷◌, length, Some, None, MatchOption, slice_get, refl, ap, lit≤, arith}
-use Rattle.std.specs.Bool.{⊤}
+use Rattle.std.proofs.Common.{◌≡◌, ℕ, Bool, true, false, if◌then◌else◌, [], ◌∷◌, length, Some, None, refl, ap, arith, rules}
 use Rattle.std.specs.List.{cons_option, range_with_len}
 use Rattle.std.proofs.lemmas.Bool.{false≢true, true≢false}
 use Rattle.clk_packet.specs.declared.packet.Kind.TheVariants.{TailDrop}
-use Rattle.clk_ring.specs.QueueHistory.{IsQueueHistory}
 use Rattle.clk_sched.specs.Examples.Priority.{p0_0}
 use Rattle.clk_sched.specs.Log.{asking}
-use Rattle.clk_router.specs.Events.{Room, events_at, history, RunsTree, CanHappen}
+use Rattle.clk_router.specs.Events.{CanHappen}
 use Rattle.clk_router.specs.SettledExamples.{crossed, without_tree, without_queue, left_inside, emitted_elsewhere, stranger_emitted, p7_0}
 use Rattle.clk_router.proofs.examples.out_examples.Goals as goal
 
@@ -31,66 +29,22 @@ numbered s true = refl
 numbered s false = refl
 
 crossed-offered : CanHappen crossed left_inside
-crossed-offered = record { senders = (refl, tt); numbered = λ s. numbered s (0 == s); devices = (tt, tt); runs = runs; refusals = (tt, tt); histories = histories }
-  where
-    runs : (d : ℕ) → MatchOption (slice_get crossed.trees d) ⊤ (λ tree. RunsTree tree (events_at crossed d left_inside))
-    runs zero = record { run = record { shape = record { blocks = refl; one_moment = tt; moments = tt }; device = tt; below = tt }; pull_by_pull = refl; moments = refl }
-    runs (suc zero) = record { run = record { shape = record { blocks = refl; one_moment = tt; moments = tt }; device = tt; below = tt }; pull_by_pull = refl; moments = refl }
-    runs (suc (suc d)) = tt
-
-    histories : (q : ℕ) → MatchOption (slice_get crossed.queues q) ⊤ (λ (room : Room). IsQueueHistory room.kind room.capacity (history crossed q left_inside))
-    histories zero = (record { order = refl; fits = lit≤ tt }, tt, tt, record { order = refl; fits = lit≤ tt })
-    histories (suc zero) = record { order = refl; fits = lit≤ tt }
-    histories (suc (suc q)) = tt
+crossed-offered = search rules
 
 crossed-emitted : CanHappen crossed emitted_elsewhere
-crossed-emitted = record { senders = (refl, (tt, tt)); numbered = λ s. numbered s (0 == s); devices = (tt, (lit≤ tt, tt)); runs = runs; refusals = (tt, (tt, tt)); histories = histories }
-  where
-    runs : (d : ℕ) → MatchOption (slice_get crossed.trees d) ⊤ (λ tree. RunsTree tree (events_at crossed d emitted_elsewhere))
-    runs zero = record { run = record { shape = record { blocks = refl; one_moment = tt; moments = tt }; device = tt; below = tt }; pull_by_pull = refl; moments = refl }
-    runs (suc zero) = record {
-      run = record {
-        shape = record { blocks = refl; one_moment = ((refl, tt), tt); moments = (lit≤ tt, tt) };
-        device = (record { plain = (record { fresh = refl; passed = refl }, tt); in_order = (refl, refl) }, tt);
-        below = tt;
-      };
-      pull_by_pull = refl;
-      moments = refl;
-    }
-    runs (suc (suc d)) = tt
-
-    histories : (q : ℕ) → MatchOption (slice_get crossed.queues q) ⊤ (λ (room : Room). IsQueueHistory room.kind room.capacity (history crossed q emitted_elsewhere))
-    histories zero = (record { order = refl; fits = lit≤ tt }, tt, tt, (record { order = refl; fits = lit≤ tt }, tt, tt, record { order = refl; fits = lit≤ tt }))
-    histories (suc zero) = record { order = refl; fits = lit≤ tt }
-    histories (suc (suc q)) = tt
+crossed-emitted = search rules
 
 pub returns-clause-not_crossed : goal.returns-clause-not_crossed
 returns-clause-not_crossed c = λ o. let first = (o.each left_inside 0 (record { kind = TailDrop; capacity = 2; device = 0 }) crossed-offered refl).pulled_on 1 0 (asking 0 0 0 0 (Some p0_0) ∷ []) crossed-emitted in absurd (omega (arith, ap length first))
 
 without-tree : CanHappen without_tree []
-without-tree = record { senders = tt; numbered = λ s. refl; devices = tt; runs = λ d. tt; refusals = tt; histories = histories }
-  where
-    histories : (q : ℕ) → MatchOption (slice_get without_tree.queues q) ⊤ (λ (room : Room). IsQueueHistory room.kind room.capacity (history without_tree q []))
-    histories zero = record { order = refl; fits = lit≤ tt }
-    histories (suc q) = tt
+without-tree = search rules
 
 pub returns-clause-not_without_tree : goal.returns-clause-not_without_tree
 returns-clause-not_without_tree c = λ o. absurd (o.each [] 0 (record { kind = TailDrop; capacity = 2; device = 0 }) without-tree refl)
 
 without-queue : CanHappen without_queue stranger_emitted
-without-queue = record { senders = (tt, tt); numbered = λ s. refl; devices = (lit≤ tt, tt); runs = runs; refusals = (tt, tt); histories = λ q. tt }
-  where
-    runs : (d : ℕ) → MatchOption (slice_get without_queue.trees d) ⊤ (λ tree. RunsTree tree (events_at without_queue d stranger_emitted))
-    runs zero = record {
-      run = record {
-        shape = record { blocks = refl; one_moment = ((refl, tt), tt); moments = (lit≤ tt, tt) };
-        device = (record { plain = (record { fresh = refl; passed = refl }, tt); in_order = (refl, refl) }, tt);
-        below = tt;
-      };
-      pull_by_pull = refl;
-      moments = refl;
-    }
-    runs (suc d) = tt
+without-queue = search rules
 
 pub returns-clause-not_without_queue : goal.returns-clause-not_without_queue
 returns-clause-not_without_queue c = λ o. absurd (false≢true (o.of_senders [] 0 0 (asking 0 0 0 0 (Some p7_0) ∷ []) without-queue))

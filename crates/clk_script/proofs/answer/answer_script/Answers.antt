@@ -1,3 +1,4 @@
+use Rattle.std.proofs.lemmas.Grind.{common_steps}
 use Rattle.std.proofs.Common.{rules, ◌≡◌, ◌≤◌, length, sym, subst}
 use Rattle.std.specs.List.{AllByRecursion}
 use Rattle.std.specs.Vec.{with_items}
@@ -24,6 +25,4 @@ returns-clause-answers c =
     (with_items_is c.args.script.rows c.carry_out.new.rows many) c.args.script.closing c.in_ok-closing.closing c.in_ok-closing.ensures.closed)
 
 pub returns-clause-closings : goal.returns-clause-closings
-returns-clause-closings c =
-    closings-kept c.requires.fresh.0 c.args.script_router c.carry_out.new.script_router c.deref_mut.result.now c.carry_out.new.rows c.requires.fresh.1 c.in_ok-carry_out.ensures.done c.close.new.script_router c.args.script.closing c.in_ok-closing.closing
-    c.in_ok-closing.ensures.closed
+returns-clause-closings c = search (rules, common_steps, closings-kept)

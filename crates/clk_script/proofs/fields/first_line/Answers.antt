@@ -1,17 +1,11 @@
-use Rattle.std.proofs.Common.{arith, ◌≡◌, ◌<◌, ◌==◌, length}
+use Rattle.std.proofs.Common.{arith, ◌<◌, ◌==◌, length, rules}
 use Rattle.std.specs.List.{position_or_len}
 use Rattle.std.proofs.lemmas.List.{nil_from_length, take_all, take_rest, drop-drop}
 use Rattle.clk_script.proofs.FieldLemmas.{lines-first, lines-last}
 use Rattle.clk_script.proofs.fields.first_line.Goals as goal
 
 pub returns-in-empty-clause-line : goal.returns-in-empty-clause-line
-returns-in-empty-clause-line c =
-    let text = c.args.text.now in
-    let at_end : position_or_len (λ byte. byte == 10) text ≡ length text = omega arith in
-    let last = lines-last text c.requires at_end in
-    let none = nil_from_length c.split_at.result.1.now (omega arith) in
-    let whole = take_all c.line_len.result text (omega arith) in
-    cc
+returns-in-empty-clause-line c = search (rules, lines-last, nil_from_length, take_all)
 
 pub returns-in-len1-up-clause-line : goal.returns-in-len1-up-clause-line
 returns-in-len1-up-clause-line c =

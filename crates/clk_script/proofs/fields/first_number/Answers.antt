@@ -1,4 +1,4 @@
-use Rattle.std.proofs.Common.{arith, ◌≡◌, ◌<◌, ◌*◌, ◌+◌, ◌-◌, ◌∷◌, [], ◌∙◌, ap, sym, subst, refl, drop, length, slice_index_or}
+use Rattle.std.proofs.Common.{arith, ◌≡◌, ◌<◌, ◌*◌, ◌+◌, ◌-◌, ◌∷◌, [], ◌∙◌, ap, sym, subst, refl, drop, length, slice_index_or, rules}
 use Rattle.std.proofs.lemmas.Bool.Decides.{nat_tests}
 use Rattle.std.proofs.lemmas.List.{drop_more, drop_all}
 use Rattle.clk_script.proofs.NumberLemmas.{Reads, Reads-none, Reads-digit, field_of, field_of-blank, number-missing, number-read, number-too_large}
@@ -6,10 +6,7 @@ use Rattle.clk_script.proofs.fields.first_number.Goals.{else-loop-byte-test, the
 use Rattle.clk_script.proofs.fields.first_number.Goals as goal
 
 pub returns-then-is_empty : goal.returns-then-is_empty
-returns-then-is_empty c =
-    let none : length c.split_at.result.1.now ≡ 0 = grind (arith, nat_tests) in
-    let start = c.split_at.ensures.back ∙ ap (λ n. drop n c.args.text.now) c.blanks_len.ensures.blanks in
-    number-missing c.args.least c.args.most c.args.text.now c.split_at.result.1.now start none
+returns-then-is_empty c = search (rules, number-missing)
 
 pub loop-byte-init : goal.loop-byte-init
 loop-byte-init c =

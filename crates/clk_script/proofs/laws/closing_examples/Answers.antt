@@ -1,12 +1,12 @@
-use Rattle.std.proofs.Common.{◌≡◌, ℕ, ◌+◌, ◌≤◌, ◌==◌, if◌then◌else◌, List, [], ◌∷◌, ◌++◌, Option, Some, None, zero, suc, get_or, unwrap_or, length, fold, max, refl, sym, ap, ap₂, ◌∙◌, subst, arith}
+use Rattle.std.proofs.Common.{◌≡◌, ℕ, ◌+◌, ◌≤◌, ◌==◌, if◌then◌else◌, List, [], ◌∷◌, ◌++◌, Option, Some, None, unwrap_or, length, refl, ap, ap₂, ◌∙◌, subst, arith, rules}
 use Rattle.std.specs.List.{filter_map, range_with_len}
 use Rattle.std.proofs.lemmas.Bool.{false≢true}
 use Rattle.std.proofs.lemmas.List.Elements.{filter_map-append}
 use Rattle.clk_packet.specs.declared.packet.Offered.TheVariants.{Accepted}
 use Rattle.clk_sched.specs.declared.visit.Visit.{Visit}
 use Rattle.clk_sched.specs.Log.{asking}
-use Rattle.clk_sched.specs.Session.{given_in, LastGives}
-use Rattle.clk_router.specs.Events.{Event, offered, pulled, pull_in, moment_in, events_at, pulls_from, Closes}
+use Rattle.clk_sched.specs.Session.{given_in}
+use Rattle.clk_router.specs.Events.{Event, offered, pulled, pull_in, events_at, pulls_from, Closes}
 use Rattle.clk_script.specs.Meaning.{CloseFirst}
 use Rattle.clk_script.specs.Examples.{p0_0, p1_0, two_devices, closed_at_once, one_at_each, closed_last_first, closed_on}
 use Rattle.clk_router.proofs.Callers.Events.{pulls-visits, pulls-moments}
@@ -42,22 +42,13 @@ pub returns-clause-at_once : goal.returns-clause-at_once
 returns-clause-at_once c = record { closing = filter_map pull_in closed_at_once; are = refl; all = refl; stops = refl }
 
 pub returns-clause-not_without_a_pull : goal.returns-clause-not_without_a_pull
-returns-clause-not_without_a_pull c = λ h.
-    let visits = ap (filter_map pull_in) h.are ∙ pulls-visits 0 5 h.closing in
-    let given = ap (λ l. length (given_in l)) visits in
-    let all : 1 ≡ 0 + 0 + length (given_in h.closing) = h.all in
-    absurd (omega (arith, given, all))
+returns-clause-not_without_a_pull c = search (rules, pulls-visits)
 
 pub returns-clause-not_a_tick_early : goal.returns-clause-not_a_tick_early
-returns-clause-not_a_tick_early c = λ h.
-    let visits = ap (filter_map pull_in) h.are ∙ pulls-visits 0 5 h.closing in
-    let moments : 4 ∷ [] ≡ range_with_len 5 1 = ap (filter_map moment_in) h.are ∙ pulls-moments 0 5 h.closing ∙ ap (range_with_len 5) (ap length (sym visits)) in
-    absurd (omega (arith, ap (fold max 0) moments))
+returns-clause-not_a_tick_early c = search (rules, pulls-visits, pulls-moments)
 
 pub returns-clause-not_a_pull_late : goal.returns-clause-not_a_pull_late
-returns-clause-not_a_pull_late c = λ h.
-    let visits = ap (filter_map pull_in) h.are ∙ pulls-visits 0 5 h.closing in
-    absurd (false≢true (subst LastGives (sym visits) h.stops))
+returns-clause-not_a_pull_late c = search (rules, pulls-visits, false≢true)
 
 pub returns-clause-in_turn : goal.returns-clause-in_turn
 returns-clause-in_turn c =
@@ -72,8 +63,7 @@ returns-clause-in_turn c =
 
 -- a range begins where it begins
 later : (n : ℕ) → 6 ∷ [] ≡ range_with_len 5 n → ⊥
-later zero e = absurd (omega (arith, ap length e))
-later (suc n) e = let first : 6 ≡ 5 = ap (λ l. get_or l 0 0) e in absurd (omega (arith, first))
+later n e = search rules
 
 -- What closes the two devices: pulls of the first from moment 5 on, which give a packet, and then pulls of the second from the same.
 record AreInTurn (closed : List Event) : Type 0 where

@@ -1,4 +1,4 @@
-use Rattle.std.proofs.Common.{◌≡◌, ◌++◌, ◌∙◌, take, drop, sym, ap, subst, arith}
+use Rattle.std.proofs.Common.{◌≡◌, ◌++◌, ◌∙◌, take, drop, sym, ap, subst, arith, rules}
 use Rattle.std.proofs.lemmas.Bool.Decides.{nat_tests}
 use Rattle.std.proofs.lemmas.List.{take-append-le}
 use Rattle.clk_script.specs.inside.ScriptRouter.{named_by}
@@ -21,11 +21,7 @@ returns-then-count-eq0-clause-read g c =
     ended names _ so_far.0 c.end.result text (omega (arith, most, size)) ends
 
 pub returns-then-count-eq0-clause-failures : goal.returns-then-count-eq0-clause-failures
-returns-then-count-eq0-clause-failures g c =
-    let names = named_by c.args.numbers.now c.args.devices in
-    let so_far = c.loop-size.invariant.text in
-    let ends = c.end.ensures so_far.0 (subst (HasCome names so_far.0 c.loop-size.reading) (sym c.deref.ensures.value) so_far.3) in
-    c.in-Ok.ensures.counted ∙ c.loop-size.invariant.failures ∙ sym (ended-failures names so_far.0 c.end.result _ ends)
+returns-then-count-eq0-clause-failures g c = search (rules, ended-failures)
 
 pub loop-size-preserved : goal.loop-size-preserved
 loop-size-preserved g c =

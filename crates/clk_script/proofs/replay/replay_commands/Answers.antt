@@ -1,4 +1,4 @@
-use Rattle.std.proofs.Common.{[], max, refl, sym, ap, subst, ◌∙◌}
+use Rattle.std.proofs.Common.{[], max, refl, sym, ap, subst, ◌∙◌, rules}
 use Rattle.std.proofs.lemmas.Result.{err_from_is_err_and}
 use Rattle.clk_packet.specs.Lists.{AreRising}
 use Rattle.clk_router.specs.Course.{Course}
@@ -17,9 +17,7 @@ returns-in_err-replay_rows-clause-visits g c =
     (left-asked c.args.answer.now c.args.again.now c.args.device c.args.column c.requires.can rising c.requires.fresh c.requires.there c.has_happened.ensures) tt)
 
 pub returns-in_err-replay_rows-clause-later : goal.returns-in_err-replay_rows-clause-later
-returns-in_err-replay_rows-clause-later g c =
-    let rising = subst AreRising c.senders.ensures.numbers c.senders.ensures.rising in
-    carried-elsewhere _ _ _ _ _ _ rising c.in_err-replay_rows.ensures
+returns-in_err-replay_rows-clause-later g c = search (rules, carried-elsewhere)
 
 pub returns-in_default-clause-visits : goal.returns-in_default-clause-visits
 returns-in_default-clause-visits g c =
@@ -29,9 +27,7 @@ returns-in_default-clause-visits g c =
     (none-drained c.args.answer.now c.args.again.now c.args.device c.args.column c.requires.can rising c.requires.fresh c.requires.there c.has_happened.ensures c.in_default.is) refl
 
 pub returns-in_default-clause-later : goal.returns-in_default-clause-later
-returns-in_default-clause-later g c =
-    let rising = subst AreRising c.senders.ensures.numbers c.senders.ensures.rising in
-    carried-elsewhere _ _ _ _ _ _ rising c.in_ok-replay_rows.ensures
+returns-in_default-clause-later g c = search (rules, carried-elsewhere)
 
 pub replay_drain-requires-clause-few : goal.replay_drain-requires-clause-few
 replay_drain-requires-clause-few g c =

@@ -1,4 +1,4 @@
-use Rattle.std.proofs.Common.{◌≡◌, ℕ, ◌+◌, ◌==◌, List, Ok, Err, false, length, map, sym, ap, subst, ◌∙◌, arith}
+use Rattle.std.proofs.Common.{◌≡◌, ℕ, ◌+◌, ◌==◌, List, Err, false, length, map, sym, ap, subst, ◌∙◌, arith, rules}
 use Rattle.std.specs.List.{range_with_len}
 use Rattle.std.proofs.lemmas.Bool.Decides.{nat_tests}
 use Rattle.std.proofs.lemmas.Result.{err_from_is_err_and}
@@ -41,13 +41,4 @@ loop-column-preserved g c =
     }
 
 pub returns : goal.returns
-returns g c =
-    let its : ℕ → List Visit = λ d. log_of (events_of c.args.answer.now.script_router.router d) in
-    let loop = c.loop-column.invariant in
-    let test = c.loop-column-test.false in
-    let from = c.from.ensures in
-    let low = loop.within in
-    let count = c.devices.ensures.count in
-    let all = ap (λ (s : Setup). length s.trees) (loop.setup ∙ sym c.requires.can.answers.setup_is) in
-    let last : c.loop-column.device ≡ length c.args.answer.now.script_router.router.setup.trees = omega (arith, test, from, low, count, all) in
-    subst (λ n. Wrote (g.W.Sink.taken c.args.writer.now) (g.W.Sink.taken c.loop-column.writer) (g.W.Sink.failures c.args.writer.now) (g.W.Sink.failures c.loop-column.writer) (Ok tt) (device_rows c.args.several 0 (map its (range_with_len 0 n)))) last loop.wrote
+returns g c = search rules

@@ -1,17 +1,10 @@
-use Rattle.std.proofs.Common.{◌≡◌, ◌-◌, ap, ◌∙◌, arith}
+use Rattle.std.proofs.Common.{ap, ◌∙◌, arith, rules}
 use Rattle.std.proofs.lemmas.Result.{err_from_is_err_and}
-use Rattle.clk_script.specs.inside.Replay.{pulls_asked}
 use Rattle.clk_script.proofs.CarriedLemmas.{carried-none, can-pull-on, pulled-on, pulls-all, pulls-failed}
 use Rattle.clk_script.proofs.replay.replay_drain.Goals as goal
 
 pub loop-moment-init : goal.loop-moment-init
-loop-moment-init g c =
-    let none : c.args.start - c.args.start ≡ 0 = omega arith in
-    record {
-      carried = carried-none c.args.device c.args.column c.args.again.now _ tt _ (ap (pulls_asked c.args.device _) none) c.has_happened.ensures;
-      after_start = omega arith;
-      before_end = omega arith;
-    }
+loop-moment-init g c = search (rules, carried-none)
 
 pub replay_pull-requires : goal.replay_pull-requires
 replay_pull-requires g c =
@@ -31,19 +24,7 @@ returns-in_err-replay_pull g c =
     rw (p.1, p.2) (pulls-failed _ _ _ _ _ _ _ _ (omega (arith, test, from)) (pulled-on _ _ _ _ _ _ _ pulled.0 _ _ _ _ c.loop-moment.invariant.carried from pulled.1 pulled.2 pulled.3))
 
 pub loop-moment-preserved : goal.loop-moment-preserved
-loop-moment-preserved g c =
-    let test = c.loop-moment-test.true in
-    let pulled = c.in_ok-replay_pull.ensures.pulled in
-    let from = c.loop-moment.invariant.after_start in
-    record {
-      carried = pulled-on _ _ _ _ _ _ _ pulled.0 _ _ _ _ c.loop-moment.invariant.carried from pulled.1 pulled.2 pulled.3;
-      after_start = omega (arith, from);
-      before_end = omega (arith, test, from);
-    }
+loop-moment-preserved g c = search (rules, pulled-on)
 
 pub returns : goal.returns
-returns g c =
-    let test = c.loop-moment-test.false in
-    let to = c.loop-moment.invariant.before_end in
-    let same : c.loop-moment.moment - c.args.start ≡ c.args.end - c.args.start = omega (arith, test, to) in
-    pulls-all _ _ _ _ _ _ _ _ _ c.loop-moment.invariant.carried same
+returns g c = search (rules, pulls-all)

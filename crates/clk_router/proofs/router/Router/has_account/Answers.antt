@@ -1,31 +1,18 @@
-use Rattle.std.proofs.Common.{subst}
+use Rattle.std.proofs.Common.{subst, rules}
 use Rattle.clk_router.specs.Course.{Course}
-use Rattle.clk_router.specs.Settled.{IsCourseAccounted, IsCourseSettled, AreOutOnce, AreAllOut, IsDrained}
-use Rattle.clk_router.specs.InsideQueues.{AreOutOrInside}
+use Rattle.clk_router.specs.Settled.{IsCourseSettled, AreAllOut, IsDrained}
 use Rattle.clk_router.proofs.Settled.OutOrInside.{are-out_or_inside}
 use Rattle.clk_router.proofs.Settled.NoneLeft.{course-accounted, course-settled, are-out_once, are-all_out}
 use Rattle.clk_router.proofs.router.Router.has_account.Goals as goal
 
 pub returns-clause-accounted : goal.returns-clause-accounted
-returns-clause-accounted c =
-    let past = c.self.inside.past in
-    let stand = c.self.invariant in
-    let law = c.runs_conserve_packets.ensures in
-    subst (λ (k : Course). IsCourseAccounted k.setup k.events) c.self.view_is (course-accounted law.loses_nothing law.makes_nothing past.setup stand.whole stand.closable past.events stand.at.can_happen)
+returns-clause-accounted c = search (rules, course-accounted)
 
 pub returns-clause-once : goal.returns-clause-once
-returns-clause-once c =
-    let past = c.self.inside.past in
-    let stand = c.self.invariant in
-    let law = c.runs_conserve_packets.ensures in
-    subst (λ (k : Course). AreOutOnce k.setup k.events) c.self.view_is (are-out_once law.loses_nothing law.makes_nothing past.setup stand.whole stand.closable past.events stand.at.can_happen)
+returns-clause-once c = search (rules, are-out_once)
 
 pub returns-clause-out_or_inside : goal.returns-clause-out_or_inside
-returns-clause-out_or_inside c =
-    let past = c.self.inside.past in
-    let stand = c.self.invariant in
-    let law = c.runs_conserve_packets.ensures in
-    subst (λ (k : Course). AreOutOrInside k.setup k.events) c.self.view_is (are-out_or_inside law.loses_nothing law.makes_nothing past.setup stand.whole stand.closable past.events stand.at.can_happen)
+returns-clause-out_or_inside c = search (rules, are-out_or_inside)
 
 pub returns-clause-settled : goal.returns-clause-settled
 returns-clause-settled c =

@@ -1,13 +1,10 @@
-use Rattle.std.proofs.Common.{◌≡◌, ◌+◌, ◌<◌, length, sym, subst}
+use Rattle.std.proofs.Common.{◌≡◌, ◌+◌, ◌<◌, length, sym, subst, rules}
 use Rattle.clk_router.specs.Course.{Course, accepted_at, evicted_at, emitted_at}
 use Rattle.clk_router.proofs.RouterLemmas.{counts-left, left-is}
 use Rattle.clk_router.proofs.router.Router.left.Goals as goal
 
 pub left-requires : goal.left-requires
-left-requires c =
-    let past = c.self.inside.past in
-    let within = subst (λ (k : Course). c.args.device < length k.setup.trees) (sym c.self.view_is) c.requires in
-    counts-left past.setup past.events c.self.inside.parts c.self.invariant c.args.device within (λ tree. (c.runs_go_on.ensures tree).start) c.runs_conserve_packets.ensures.counts
+left-requires c = search (rules, counts-left)
 
 pub returns : goal.returns
 returns c =

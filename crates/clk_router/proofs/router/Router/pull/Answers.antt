@@ -1,7 +1,7 @@
-use Rattle.std.proofs.Common.{sym, subst}
-use Rattle.clk_router.specs.Course.{Course, CanPull, IsPulled}
-use Rattle.clk_router.specs.inside.Past.{visits_shown, pull_shown}
-use Rattle.clk_router.proofs.RouterLemmas.{pulls-when, pull-read, course-told, Stand-told}
+use Rattle.std.proofs.Common.{sym, subst, rules}
+use Rattle.clk_router.specs.Course.{Course, CanPull}
+use Rattle.clk_router.specs.inside.Past.{pull_shown}
+use Rattle.clk_router.proofs.RouterLemmas.{pulls-when, pull-read, Stand-told}
 use Rattle.clk_router.proofs.router.Router.pull.Goals as goal
 
 pub pull-requires-clause-can : goal.pull-requires-clause-can
@@ -19,13 +19,4 @@ invariant_of-self-2 c =
     Stand-told past.setup past.events (pull_shown past.setup past.events c.args.device c.args.moment c.index.result.now.session) old new c.pulled.new.self c.self.invariant c.pulled.ensures read.1
 
 pub returns-clause-pulled : goal.returns-clause-pulled
-returns-clause-pulled c =
-    let past = c.self.inside.past in
-    let old = c.self.inside.parts in
-    let new = c.pull.new.self in
-    let session = c.index.result.now.session in
-    let read = pull-read past.setup past.events old new c.args.device c.args.moment c.in_ok-got.got c.from.result c.index.result.now (c.in_ok-got.ensures.leads past.setup past.events c.self.invariant.at) c.from.ensures c.index.ensures in
-    let told = course-told past.setup past.events (pull_shown past.setup past.events c.args.device c.args.moment session) old new c.pulled.new.self c.pulled.ensures c.pull.ensures.keeps in
-    let now : Course = record { setup = c.pulled.new.self.setup; events = c.pulled.new.self.events; keeps = new.keeps } in
-    subst (λ (k : Course). IsPulled k now c.args.device c.args.moment c.in_ok-got.got) c.self.view_is
-    (record { visits = visits_shown past.setup past.events c.args.device session; result = read.0; goes_on = told })
+returns-clause-pulled c = search (rules, pull-read)

@@ -1,4 +1,5 @@
-use Rattle.std.proofs.Common.{rules, ◌≡◌, ◌<◌, ◌++◌, List, [], ◌∷◌, length, set, take, sym, ap, append-nil, arith}
+use Rattle.std.proofs.lemmas.Grind.{common_steps}
+use Rattle.std.proofs.Common.{rules, ◌≡◌, ◌<◌, List, length, set, take, append-nil}
 use Rattle.std.specs.List.{flat_map}
 use Rattle.std.proofs.lemmas.Result.{err_from_is_err_and}
 use Rattle.clk_script.specs.declared.script.Command.{Command}
@@ -8,8 +9,7 @@ use Rattle.clk_script.proofs.held.HeldCommands.add.Goals as goal
 
 -- the line of a command that is held alone
 alone : (commands : List Command) (command : Command) → 0 < length commands → flat_map command_text (take 1 (set commands 0 command)) ≡ command_text command
-alone [] command l = absurd (omega arith)
-alone (c ∷ commands) command l = append-nil (command_text command)
+alone commands command l = search (rules, common_steps, append-nil)
 
 pub returns-in_err-write : goal.returns-in_err-write
 returns-in_err-write g c =
@@ -17,13 +17,4 @@ returns-in_err-write g c =
     rw (p.1, p.2) (Passes-failed _ _ _ _ _ c.args.self.now (command_text c.args.command) _ c.in_err-write.ensures.wrote)
 
 pub returns : goal.returns
-returns g c =
-    let some : 0 < length c.self-2.inside.commands = search rules in
-    let wrote = c.in_ok-write.ensures.wrote in
-    record {
-      passed = (c.args.self.now, ap (λ l. c.args.self.now ++ l) (sym (alone c.self-2.inside.commands c.args.command some)), wrote.whole);
-      front = tt;
-      fault = tt;
-      succeeds = wrote.succeeds;
-      fails = tt;
-    }
+returns g c = search (rules, alone)

@@ -1,4 +1,4 @@
-use Rattle.std.proofs.Common.{◌≡◌, ◌+◌, None, Some, refl, sym, subst, append-nil}
+use Rattle.std.proofs.Common.{◌≡◌, ◌+◌, None, Some, refl, sym, subst, append-nil, rules}
 use Rattle.std.specs.Option.{option_or}
 use Rattle.clk_script.specs.declared.script.ScriptLine.TheVariants.{Drain}
 use Rattle.clk_script.specs.Script.{fault_at, drain_in}
@@ -7,11 +7,7 @@ use Rattle.clk_script.proofs.ReadingLemmas.{reading-row, undrained-command, undr
 use Rattle.clk_script.proofs.reading.Reading.read_line.Goals as goal
 
 pub returns-in_ok-push-in-Ok-Some-clause-read : goal.returns-in_ok-push-in-Ok-Some-clause-read
-returns-in_ok-push-in-Ok-Some-clause-read c read h =
-    let names = named_by c.args.numbers.now c.args.devices in
-    let fits = rw c.in-Ok-Some.field-0-is at c.in-Ok-Some.ensures in
-    reading-row names read c.args.self.now _ c.args.line (Some c.in-Ok-Some.row) c.is_some.result h c.requires.none c.requires.readable c.is_some.ensures fits refl refl c.in_ok-push-in-Ok-Some.ensures.items
-    (undrained-command c.args.self.now.script.closing c.args.line c.in-Ok-Some.row fits.1)
+returns-in_ok-push-in-Ok-Some-clause-read c read h = search (rules, reading-row, undrained-command)
 
 pub returns-in-Drain-clause-read : goal.returns-in-Drain-clause-read
 returns-in-Drain-clause-read c read h =
