@@ -1,6 +1,7 @@
 -- The lemmas that crates above may cite, and no others: of lists, of packets that are dealt to two lists, of schedulers, and of what contracts
 -- say of bytes and numbers.
 pub mod Bytes
+pub mod Counts
 pub mod Dealt
 pub mod Lists
 pub mod Numbers

@@ -1,5 +1,6 @@
 -- What the crates' contracts say of packets, faults and bytes.
 pub mod Bytes
+pub mod Counts
 pub mod Dealt
 pub mod Examples
 pub mod Failing

@@ -2,6 +2,7 @@
 #![tactic(auto)]
 
 mod bytes;
+mod counts;
 mod examples;
 mod failing;
 mod failures;
@@ -18,6 +19,7 @@ mod tally;
 mod traces;
 
 pub use bytes::{keep_freed, let_go, read_up_to, write_all};
+pub use counts::{Counts, Total};
 pub use examples::writing_examples;
 pub use failing::{FailingSink, FailingSource};
 pub use failures::Failures;
