@@ -1,6 +1,6 @@
 -- Texts that are written part by part, and the lines of a report.
 use Rattle.std.proofs.Common.{◌≡◌, ℕ, ◌+◌, ◌-◌, ◌≤◌, List, [], ◌∷◌, ◌++◌, length, take, drop, append_assoc, codes, decimal, get_or, Option, Err, refl, sym, ap, ap₂, ◌∙◌, subst, arith}
-use Rattle.std.proofs.lemmas.List.{append-nil, drop_all, take_all, take-append-drop}
+use Rattle.std.proofs.lemmas.List.{append-nil, length-append, drop_all, take_all, take-append-drop}
 use Rattle.std.proofs.lemmas.List.Concat.{flat_map-append}
 use Rattle.std.specs.List.{flat_map}
 use Rattle.std.specs.Io.KnownBytes.{Appends}
@@ -10,8 +10,10 @@ use Rattle.clk_packet.specs.declared.packet.Packet.{Packet}
 use Rattle.clk_packet.specs.declared.tally.Tally.{Tally}
 use Rattle.clk_packet.proofs.Callers.Bytes.{HasWritten, Appends-append}
 use Rattle.clk_packet.specs.Lists.{of_sender}
-use Rattle.clk_report.specs.Report.{tally_text, report_text, total_text}
-use Rattle.clk_report.specs.Counts.{counts_of, counts_line}
+use Rattle.clk_report.specs.Report.{tally_text, report_text, total_text, numbers_text}
+use Rattle.clk_packet.specs.Counts.{bytes_of, counts_of}
+use Rattle.clk_packet.proofs.Callers.Counts.{bytes-append}
+use Rattle.clk_report.specs.Counts.{counts_text}
 
 -- one part more is written
 pub HasWritten-part : (old mid new : Option (List ℕ)) (text rest part after : List ℕ) → HasWritten old mid text rest → rest ≡ part ++ after → Appends mid new part → HasWritten old new text after
@@ -64,16 +66,27 @@ line-joined a b c d e f g h p q r s t u v w x x-is w-is v-is u-is t-is s-is r-is
     again = simp append_assoc refl
 
 -- the line of a tally, told by what is counted of it
-line-is : (emitted : List Packet) (tally : Tally) → counts_line emitted (counts_of tally) ≡ tally_text emitted tally
+line-is : (emitted : List Packet) (tally : Tally) → counts_text (counts_of emitted tally) ≡ tally_text emitted tally
 line-is emitted tally =
-    joined (codes "sender ") (decimal tally.sender) (codes ": sent") (total_text (tally.accepted ++ tally.refused)) (codes ", accepted") (total_text tally.accepted) (codes ", refused") (total_text tally.refused)
-    (codes ", evicted") (total_text tally.evicted) (codes ", emitted") (total_text (of_sender tally.sender emitted)) (codes "\n")
+    joined (codes "sender ") (decimal tally.sender) (codes ": sent") sent (codes ", accepted") (total_text tally.accepted) (codes ", refused") (total_text tally.refused) (codes ", evicted") (total_text tally.evicted)
+    (codes ", emitted") (total_text (of_sender tally.sender emitted)) (codes "\n") ∙ ap (λ text. codes "sender " ++ (decimal tally.sender ++ (codes ": sent" ++ (text ++ after)))) sent_is
   where
+    sent : List ℕ
+    sent = numbers_text (length tally.accepted + length tally.refused) (bytes_of tally.accepted + bytes_of tally.refused)
+
+    sent_is : sent ≡ total_text (tally.accepted ++ tally.refused)
+    sent_is = ap₂ numbers_text (sym (length-append tally.accepted tally.refused)) (sym (bytes-append tally.accepted tally.refused))
+
+    after : List ℕ
+    after =
+        codes ", accepted" ++ (total_text tally.accepted ++ (codes ", refused" ++ (total_text tally.refused
+        ++ (codes ", evicted" ++ (total_text tally.evicted ++ (codes ", emitted" ++ (total_text (of_sender tally.sender emitted) ++ codes "\n")))))))
+
     joined : (a b c d e f g h i j k l m : List ℕ) → a ++ (b ++ ((c ++ d) ++ ((e ++ f) ++ ((g ++ h) ++ ((i ++ j) ++ ((k ++ l) ++ m)))))) ≡ a ++ (b ++ (c ++ (d ++ (e ++ (f ++ (g ++ (h ++ (i ++ (j ++ (k ++ (l ++ m)))))))))))
     joined a b c d e f g h i j k l m = simp append_assoc refl
 
 -- the lines of tallies
-pub lines-are : (emitted : List Packet) (tallies : List Tally) → flat_map (λ t. counts_line emitted (counts_of t)) tallies ≡ report_text emitted tallies
+pub lines-are : (emitted : List Packet) (tallies : List Tally) → flat_map (λ t. counts_text (counts_of emitted t)) tallies ≡ report_text emitted tallies
 lines-are emitted tallies = ap (λ (f : Tally → List ℕ). flat_map f tallies) (λ i t. line-is emitted t i)
 
 -- the text of the first, before those of the others

@@ -7,22 +7,14 @@ use Rattle.std.proofs.lemmas.List.{length-append, length-drop, length-set, get_o
 use Rattle.std.proofs.lemmas.List.Elements.{All-set, filter-append}
 use Rattle.std.proofs.lemmas.Option.{slice_get-get_or, get_or_from_slice_get}
 use Rattle.clk_packet.specs.declared.packet.Packet.{Packet}
-use Rattle.clk_report.specs.declared.total.Total.{Total}
+use Rattle.clk_packet.specs.declared.counts.Total.{Total}
 use Rattle.clk_report.specs.Devices.{all_emitted}
 use Rattle.clk_packet.specs.Lists.{of_sender}
-use Rattle.clk_report.specs.Report.{bytes_of}
-use Rattle.clk_report.specs.Counts.{total_of}
-use Rattle.clk_report.specs.inside.Totals.{both, AreTotals, with_packet, HasRoom}
+use Rattle.clk_packet.specs.Counts.{total_of}
+use Rattle.clk_packet.proofs.Callers.Counts.{bytes-few, bytes-append}
+use Rattle.clk_report.specs.inside.Totals.{AreTotals, with_packet, HasRoom}
 
-pub bytes-few : (packets : List Packet) → bytes_of packets ≤ 65535 * length packets
-bytes-few [] = omega arith
-bytes-few (p ∷ packets) = let few = bytes-few packets in let within = p.is_within in omega (arith, few, within)
-
-pub bytes-append : (packets more : List Packet) → bytes_of (packets ++ more) ≡ bytes_of packets + bytes_of more
-bytes-append [] more = omega arith
-bytes-append (p ∷ packets) more = let e = bytes-append packets more in omega (arith, e)
-
-pub same-total : (t u : Total) → t.packets ≡ u.packets → t.bytes ≡ u.bytes → t ≡ u
+pub same-total : (t u : Total ℕ) → t.packets ≡ u.packets → t.bytes ≡ u.bytes → t ≡ u
 same-total t u e f = λ i. record { packets = e i; bytes = f i }
 
 -- one packet more is counted
@@ -44,7 +36,7 @@ packets-others s packets p other =
     filter-append (λ (q : Packet). q.sender == s) packets (p ∷ []) ∙ ap (λ l. of_sender s packets ++ l) none ∙ append-nil (of_sender s packets)
 
 -- one packet more is counted at its sender
-AreTotals-more : (packets : List Packet) (p : Packet) (totals : List Total) (t d : Total) → p.sender < length totals → AreTotals packets totals → t ≡ with_packet p (get_or totals p.sender d)
+AreTotals-more : (packets : List Packet) (p : Packet) (totals : List (Total ℕ)) (t d : Total ℕ) → p.sender < length totals → AreTotals packets totals → t ≡ with_packet p (get_or totals p.sender d)
     → AreTotals (packets ++ p ∷ []) (set totals p.sender t)
 AreTotals-more packets p totals t d inside are is =
     record { each = λ s within. by_test s (subst (λ n. s < n) (length-set totals p.sender t) within) (p.sender == s) refl }
@@ -62,7 +54,7 @@ AreTotals-more packets p totals t d inside are is =
         ∙ ap Some (get_or-set_other totals p.sender s t d differs ∙ get_or_from_slice_get totals s _ d (are.each s within) ∙ ap total_of (sym (packets-others s packets p e)))
 
 -- one packet of a sender beyond the table is left out
-AreTotals-beyond : (packets : List Packet) (p : Packet) (totals : List Total) → length totals ≤ p.sender → AreTotals packets totals → AreTotals (packets ++ p ∷ []) totals
+AreTotals-beyond : (packets : List Packet) (p : Packet) (totals : List (Total ℕ)) → length totals ≤ p.sender → AreTotals packets totals → AreTotals (packets ++ p ∷ []) totals
 AreTotals-beyond packets p totals beyond are =
     record {
       each = λ s within.
@@ -71,10 +63,10 @@ AreTotals-beyond packets p totals beyond are =
     }
 
 -- room for one less is left once one is counted, or left out
-HasRoom-less : (more : ℕ) (t : Total) → HasRoom (more + 1) t → HasRoom more t
+HasRoom-less : (more : ℕ) (t : Total ℕ) → HasRoom (more + 1) t → HasRoom more t
 HasRoom-less more t room = let packets = room.packets in let bytes = room.bytes in record { packets = omega (arith, packets); bytes = omega (arith, bytes) }
 
-HasRoom-counted : (more : ℕ) (p : Packet) (t u : Total) → u ≡ with_packet p t → HasRoom (more + 1) t → HasRoom more u
+HasRoom-counted : (more : ℕ) (p : Packet) (t u : Total ℕ) → u ≡ with_packet p t → HasRoom (more + 1) t → HasRoom more u
 HasRoom-counted more p t u is room =
     let packets = room.packets in
     let bytes = room.bytes in
@@ -82,15 +74,15 @@ HasRoom-counted more p t u is room =
     subst (HasRoom more) (sym is) (record { packets = omega (arith, packets); bytes = omega (arith, bytes, within) })
 
 -- What is counted of the packets before a place, after any others, with room for those from the place on.
-pub record IsCountedTo (old new : List Total) (packets : List Packet) (i : ℕ) : Type 0 where
+pub record IsCountedTo (old new : List (Total ℕ)) (packets : List Packet) (i : ℕ) : Type 0 where
   pub counted : (before : List Packet) → AreTotals before old → AreTotals (before ++ take i packets) new
   pub room : All (HasRoom (length (drop i packets))) new
 
-pub IsCountedTo-none : (totals : List Total) (packets : List Packet) → All (HasRoom (length packets)) totals → IsCountedTo totals totals packets 0
+pub IsCountedTo-none : (totals : List (Total ℕ)) (packets : List Packet) → All (HasRoom (length packets)) totals → IsCountedTo totals totals packets 0
 IsCountedTo-none totals packets room = record { counted = λ before are. subst (λ l. AreTotals l totals) (sym (append-nil before)) are; room = room }
 
 -- there is room to count the next one
-pub room-next : (old new : List Total) (packets : List Packet) (i n : ℕ) (d : Total) → i < length packets → n < length new → IsCountedTo old new packets i → HasRoom 1 (get_or new n d)
+pub room-next : (old new : List (Total ℕ)) (packets : List Packet) (i n : ℕ) (d : Total ℕ) → i < length packets → n < length new → IsCountedTo old new packets i → HasRoom 1 (get_or new n d)
 room-next old new packets i n d within inside so_far =
     let room = so_far.room n d inside in
     let left = length-drop i packets in
@@ -98,7 +90,7 @@ room-next old new packets i n d within inside so_far =
     let bytes = room.bytes in
     record { packets = omega (arith, left, count); bytes = omega (arith, left, bytes) }
 
-pub IsCountedTo-more : (old new : List Total) (packets : List Packet) (i : ℕ) (p : Packet) (n : ℕ) (d t : Total) → i < length packets → p ≡ get_or packets i p → n ≡ p.sender → n < length new
+pub IsCountedTo-more : (old new : List (Total ℕ)) (packets : List Packet) (i : ℕ) (p : Packet) (n : ℕ) (d t : Total ℕ) → i < length packets → p ≡ get_or packets i p → n ≡ p.sender → n < length new
     → IsCountedTo old new packets i → t ≡ with_packet p (get_or new n d) → IsCountedTo old (set new n t) packets (i + 1)
 IsCountedTo-more old new packets i p n d t within is at inside so_far more =
     let next : take (i + 1) packets ≡ take i packets ++ p ∷ [] = take_more packets i p within ∙ ap (λ q. take i packets ++ q ∷ []) (sym is) in
@@ -114,7 +106,7 @@ IsCountedTo-more old new packets i p n d t within is at inside so_far more =
           (λ s u within. HasRoom-less (length (drop (i + 1) packets)) (get_or new s u) (subst (λ j. HasRoom j (get_or new s u)) left (so_far.room s u within)));
     }
 
-pub IsCountedTo-skip : (old new : List Total) (packets : List Packet) (i : ℕ) (p : Packet) (n : ℕ) → i < length packets → p ≡ get_or packets i p → n ≡ p.sender → length new ≤ n
+pub IsCountedTo-skip : (old new : List (Total ℕ)) (packets : List Packet) (i : ℕ) (p : Packet) (n : ℕ) → i < length packets → p ≡ get_or packets i p → n ≡ p.sender → length new ≤ n
     → IsCountedTo old new packets i → IsCountedTo old new packets (i + 1)
 IsCountedTo-skip old new packets i p n within is at beyond so_far =
     let next : take (i + 1) packets ≡ take i packets ++ p ∷ [] = take_more packets i p within ∙ ap (λ q. take i packets ++ q ∷ []) (sym is) in
@@ -126,7 +118,7 @@ IsCountedTo-skip old new packets i p n within is at beyond so_far =
       room = λ s u inside. HasRoom-less (length (drop (i + 1) packets)) (get_or new s u) (subst (λ j. HasRoom j (get_or new s u)) left (so_far.room s u inside));
     }
 
-pub all-counted : (old new : List Total) (packets : List Packet) (i : ℕ) → length packets ≤ i → IsCountedTo old new packets i → (before : List Packet) → AreTotals before old → AreTotals (before ++ packets) new
+pub all-counted : (old new : List (Total ℕ)) (packets : List Packet) (i : ℕ) → length packets ≤ i → IsCountedTo old new packets i → (before : List Packet) → AreTotals before old → AreTotals (before ++ packets) new
 all-counted old new packets i all so_far before are = subst (λ l. AreTotals (before ++ l) new) (take_all i packets all) (so_far.counted before are)
 
 packets-few : (s : ℕ) (packets : List Packet) → length (of_sender s packets) ≤ length packets
@@ -138,11 +130,11 @@ packets-few s (p ∷ packets) = by_test (p.sender == s) refl (packets-few s pack
     by_test false e few = rw e (omega (arith, few))
 
 -- the packets of the devices before a place are counted, and so few that there is room for those of one more
-pub record AreCountedTo (emitted : List (Vec Packet Global)) (totals : List Total) (i : ℕ) : Type 0 where
+pub record AreCountedTo (emitted : List (Vec Packet Global)) (totals : List (Total ℕ)) (i : ℕ) : Type 0 where
   pub are : AreTotals (all_emitted (take i emitted)) totals
   pub few : length (all_emitted (take i emitted)) ≤ 2 ^ 64 * i
 
-pub AreCountedTo-room : (emitted : List (Vec Packet Global)) (totals : List Total) (i more : ℕ) → i ≤ 65535 → more < 2 ^ 64 → AreCountedTo emitted totals i → All (HasRoom more) totals
+pub AreCountedTo-room : (emitted : List (Vec Packet Global)) (totals : List (Total ℕ)) (i more : ℕ) → i ≤ 65535 → more < 2 ^ 64 → AreCountedTo emitted totals i → All (HasRoom more) totals
 AreCountedTo-room emitted totals i more below short so_far s d inside =
     let packets = of_sender s (all_emitted (take i emitted)) in
     let few = packets-few s (all_emitted (take i emitted)) in
@@ -150,10 +142,6 @@ AreCountedTo-room emitted totals i more below short so_far s d inside =
     let bytes = bytes-few packets in
     subst (HasRoom more) (sym (get_or_from_slice_get totals s (total_of packets) d (so_far.are.each s inside))) (record { packets = omega (arith, few, all); bytes = omega (arith, few, all, bytes) })
 
--- what two lists come to together
-pub both-of : (packets more : List Packet) → both (total_of packets) (total_of more) ≡ total_of (packets ++ more)
-both-of packets more = λ i. record { packets = sym (length-append packets more) i; bytes = sym (bytes-append packets more) i }
-
 -- the total of a sender, read at its number
-pub total-at : (packets : List Packet) (totals : List Total) (s n : ℕ) (d : Total) → n ≡ s → s < length totals → AreTotals packets totals → get_or totals n d ≡ total_of (of_sender s packets)
+pub total-at : (packets : List Packet) (totals : List (Total ℕ)) (s n : ℕ) (d : Total ℕ) → n ≡ s → s < length totals → AreTotals packets totals → get_or totals n d ≡ total_of (of_sender s packets)
 total-at packets totals s n d at inside are = ap (λ m. get_or totals m d) at ∙ get_or_from_slice_get totals s (total_of (of_sender s packets)) d (are.each s inside)

@@ -1,14 +1,10 @@
 -- What a report says of each sender (this project's own format).
-use Rattle.std.specs.Prelude.{ℕ, ◌+◌, List, [], ◌∷◌, ◌++◌, length, codes, decimal}
+use Rattle.std.specs.Prelude.{ℕ, List, ◌++◌, length, codes, decimal}
 use Rattle.std.specs.List.{flat_map}
+use Rattle.clk_packet.specs.Counts.{bytes_of}
 use Rattle.clk_packet.specs.Lists.{of_sender}
 use Rattle.clk_packet.specs.declared.packet.Packet.{Packet}
 use Rattle.clk_packet.specs.declared.tally.Tally.{Tally}
-
--- the sum of the lengths of packets, in bytes
-abbrev pub bytes_of : List Packet → ℕ
-bytes_of [] = 0
-bytes_of (p ∷ packets) = p.length + bytes_of packets
 
 -- ` N B`: N packets, and B bytes
 abbrev pub numbers_text : ℕ → ℕ → List ℕ

@@ -1,39 +1,67 @@
-//! The counts of a sender's packets.
+//! The counts of a sender's packets, in 128 bits.
 
-use crate::total::Total;
-use clk_packet::Tally;
+ghost use Rattle.std.specs.Prelude.{◌≡◌, ◌<◌, ◌^◌};
+ghost use Rattle.clk_packet.specs.Counts.{total_of};
+ghost use Rattle.clk_report.specs.Counts.{sent_in};
+ghost use Rattle.clk_report.specs.inside.Totals.{FitsSent};
 
-/// The totals of the packets that one sender offered to its queue. A report says these of the sender, and what was emitted besides.
-#[derive(Clone, Copy)]
-pub struct Counts {
-    /// The sender's number.
-    pub sender: u16,
-    /// Its packets that it offered.
-    pub sent: Total,
-    /// Its packets that the queue accepted.
-    pub accepted: Total,
-    /// Its packets that the queue refused.
-    pub refused: Total,
-    /// Its accepted packets that the queue evicted for later ones, of this sender or of another.
-    pub evicted: Total,
+use crate::total::total_of;
+use clk_packet::{Counts, Tally, Total};
+
+/// The counts of the packets that a tally lists, if `emitted` is the total of its sender's packets that all devices emitted. Takes time in
+/// proportion to the packets.
+pub fn counts_of(tally: &Tally, emitted: Total<u128>) -> Counts<u128>
+    ensures counts { result ≡ record {
+      sender = tally.now.sender;
+      accepted = total_of tally.now.accepted;
+      refused = total_of tally.now.refused;
+      evicted = total_of tally.now.evicted;
+      emitted = emitted;
+    } }
+    ensures fits { FitsSent result }
+{
+    Counts {
+        sender: tally.sender,
+        accepted: total_of(tally.accepted.as_slice()),
+        refused: total_of(tally.refused.as_slice()),
+        evicted: total_of(tally.evicted.as_slice()),
+        emitted,
+    }
 }
 
-impl Counts {
-    ghost use Rattle.std.specs.Prelude.{◌≡◌};
-    ghost use Rattle.clk_report.specs.Counts.{counts_of};
+/// These counts, in 128 bits.
+pub fn widened(counts: &Counts<u64>) -> Counts<u128>
+    ensures counts { result ≡ counts.now }
+    ensures fits { FitsSent result }
+{
+    Counts {
+        sender: counts.sender,
+        accepted: wide(counts.accepted),
+        refused: wide(counts.refused),
+        evicted: wide(counts.evicted),
+        emitted: wide(counts.emitted),
+    }
+}
 
-    /// The counts of the packets that a tally lists. Takes time in proportion to them.
-    pub fn of(tally: &Tally) -> Counts
-        ensures { result ≡ counts_of tally.now }
-    {
-        let accepted = Total::of(tally.accepted.as_slice());
-        let refused = Total::of(tally.refused.as_slice());
-        Counts {
-            sender: tally.sender,
-            sent: accepted.and(refused),
-            accepted,
-            refused,
-            evicted: Total::of(tally.evicted.as_slice()),
-        }
+/// This total, in 128 bits.
+fn wide(total: Total<u64>) -> Total<u128>
+    ensures total { result ≡ total }
+    ensures packets { result.packets < 2 ^ 64 }
+    ensures bytes { result.bytes < 2 ^ 64 }
+{
+    Total {
+        packets: u128::from(total.packets),
+        bytes: u128::from(total.bytes),
+    }
+}
+
+/// The total of what a sender sent: accepted and refused together.
+pub fn sent_in(counts: &Counts<u128>) -> Total<u128>
+    requires fits { FitsSent counts.now }
+    ensures { result ≡ sent_in counts.now }
+{
+    Total {
+        packets: counts.accepted.packets + counts.refused.packets,
+        bytes: counts.accepted.bytes + counts.refused.bytes,
     }
 }

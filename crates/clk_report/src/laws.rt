@@ -6,13 +6,14 @@ ghost use Rattle.clk_packet.specs.declared.packet.Packet.{Packet};
 ghost use Rattle.clk_packet.specs.declared.tally.Tally.{Tally};
 ghost use Rattle.csv.specs.Writing.{default_writer, row_text};
 ghost use Rattle.clk_sched.specs.declared.visit.Visit.{Visit};
-ghost use Rattle.clk_report.specs.Counts.{counts_line, counts_of};
+ghost use Rattle.clk_packet.specs.Counts.{counts_of};
+ghost use Rattle.clk_report.specs.Counts.{counts_text};
 ghost use Rattle.clk_report.specs.Report.{report_text};
 ghost use Rattle.clk_report.specs.VisitCsv.{columns, devices_text, header_of, header_text, rows_text, visits_text};
 
 /// The lines of the counts of tallies are the report of the tallies.
 pub fn counts_tell_tallies()
-    ensures { (emitted : List Packet) (tallies : List Tally) → flat_map (counts_line emitted) (map counts_of tallies) ≡ report_text emitted tallies }
+    ensures { (emitted : List Packet) (tallies : List Tally) → flat_map counts_text (map (counts_of emitted) tallies) ≡ report_text emitted tallies }
 {}
 
 /// The visit CSV of one log has a row for each visit, with only the visit's columns and no device.

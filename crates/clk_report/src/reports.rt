@@ -4,15 +4,16 @@ ghost use Rattle.std.specs.Prelude.{◌≡◌, ◌+◌, ◌*◌, ◌<◌, ◌≤
 ghost use Rattle.std.specs.List.{flat_map};
 ghost use Rattle.clk_packet.specs.Bytes.{Wrote};
 ghost use Rattle.clk_packet.specs.declared.packet.Packet.{Packet};
-ghost use Rattle.clk_report.specs.Counts.{counts_line, counts_of, line_with};
+ghost use Rattle.clk_packet.specs.Counts.{counts_of};
+ghost use Rattle.clk_report.specs.Counts.{counts_text};
 ghost use Rattle.clk_report.specs.Devices.{all_emitted};
 ghost use Rattle.clk_report.specs.Report.{report_text};
 ghost use Rattle.clk_report.specs.inside.Totals.{AreTotals};
 
-use crate::counts::Counts;
+use crate::counts::{counts_of, widened};
 use crate::line::{LINE, put_line};
-use crate::total::{FEW, SENDERS, Total, count_by_sender};
-use clk_packet::{Fault, Packet, Sink, Tally, write_all};
+use crate::total::{FEW, NONE, SENDERS, count_by_sender};
+use clk_packet::{Counts, Fault, Packet, Sink, Tally, Total, write_all};
 
 /// How many devices there may be at most.
 pub const MAX_DEVICES: usize = 65_535;
@@ -50,18 +51,18 @@ pub fn report<W: Sink>(
     }
 }
 
-/// Writes the line of one sender. `emitted` is the total of its packets that all devices emitted. It is for a caller that has counted all
-/// packets: the lines of its senders, in order, are the report (`counts_tell_tallies`). Doesn't allocate.
+/// Writes the line of one sender, by its counts. It is for a caller that has counted all packets: the lines of its senders, in order, are
+/// the report (`counts_tell_tallies`). Doesn't allocate.
 ///
 /// # Errors
 ///
 /// Fault 20 if the sink fails. It has then taken a front of the line.
-pub fn report_line<W: Sink>(counts: &Counts, emitted: Total, writer: &mut W) -> Result<(), Fault>
+pub fn report_line<W: Sink>(counts: &Counts<u64>, writer: &mut W) -> Result<(), Fault>
     ensures { Wrote (W.Sink.taken writer.old) (W.Sink.taken writer.new)
-        (W.Sink.failures writer.old) (W.Sink.failures writer.new) result (line_with counts.now emitted) }
+        (W.Sink.failures writer.old) (W.Sink.failures writer.new) result (counts_text counts.now) }
 {
     let mut line = [0; LINE];
-    let start = put_line(&mut line, counts, emitted, LINE);
+    let start = put_line(&mut line, &widened(counts), LINE);
     let (_, text) = line.split_at(start);
     write_all(writer, text)
 }
@@ -91,9 +92,9 @@ fn write_lines<const N: usize, W: Sink>(
     requires few { length emitted.now ≤ MAX_DEVICES }
     ensures { Wrote (W.Sink.taken writer.old) (W.Sink.taken writer.new)
         (W.Sink.failures writer.old) (W.Sink.failures writer.new) result
-        (flat_map (λ t. counts_line (all_emitted emitted.now) (counts_of t)) tallies.now) }
+        (flat_map (λ t. counts_text (counts_of (all_emitted emitted.now) t)) tallies.now) }
 {
-    let mut totals = [Total::NONE; N];
+    let mut totals = [NONE; N];
     count_by_sender(&mut totals, emitted);
     let mut lines = [0; ROOM];
     let mut rest = tallies;
@@ -109,11 +110,11 @@ fn write_lines<const N: usize, W: Sink>(
 
 /// Puts the lines of some senders before the place `end`. `totals` has the total of each sender's emitted packets, by its number. Returns
 /// where the lines start.
-fn put_lines(lines: &mut [u8], tallies: &[Tally], totals: &[Total], end: usize) -> usize
+fn put_lines(lines: &mut [u8], tallies: &[Tally], totals: &[Total<u128>], end: usize) -> usize
     requires reached { All (λ t. t.sender < length totals.now) tallies.now }
     requires room { 512 * length tallies.now ≤ end }
     requires within { end ≤ length lines.old }
-    ensures piece { (emitted : List Packet) → AreTotals emitted totals.now → drop result lines.new ≡ flat_map (λ t. counts_line emitted (counts_of t)) tallies.now ++ drop end lines.old }
+    ensures piece { (emitted : List Packet) → AreTotals emitted totals.now → drop result lines.new ≡ flat_map (λ t. counts_text (counts_of emitted t)) tallies.now ++ drop end lines.old }
     ensures near { end ≤ result + 512 * length tallies.now }
     ensures before { result ≤ end }
 {
@@ -121,6 +122,6 @@ fn put_lines(lines: &mut [u8], tallies: &[Tally], totals: &[Total], end: usize) 
         return end;
     };
     let end = put_lines(lines, rest, totals, end);
-    let counts = Counts::of(first);
-    put_line(lines, &counts, totals[usize::from(counts.sender)], end)
+    let counts = counts_of(first, totals[usize::from(first.sender)]);
+    put_line(lines, &counts, end)
 }

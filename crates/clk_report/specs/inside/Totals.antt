@@ -1,24 +1,26 @@
--- A table of totals, by the numbers of senders.
+-- A table of totals, by the numbers of senders, and totals of which there is a sum.
 use Rattle.std.specs.Prelude.{◌≡◌, ℕ, ◌+◌, ◌*◌, ◌^◌, ◌<◌, List, length, Some, slice_get}
+use Rattle.clk_packet.specs.Counts.{total_of}
 use Rattle.clk_packet.specs.Limits.{most_length}
-use Rattle.clk_packet.specs.declared.packet.Packet.{Packet}
 use Rattle.clk_packet.specs.Lists.{of_sender}
-use Rattle.clk_report.specs.declared.total.Total.{Total}
-use Rattle.clk_report.specs.Counts.{total_of}
+use Rattle.clk_packet.specs.declared.counts.Counts.{Counts}
+use Rattle.clk_packet.specs.declared.counts.Total.{Total}
+use Rattle.clk_packet.specs.declared.packet.Packet.{Packet}
 
 -- a total with one packet more
-abbrev pub with_packet : Packet → Total → Total
+abbrev pub with_packet : Packet → Total ℕ → Total ℕ
 with_packet p total = record { packets = total.packets + 1; bytes = total.bytes + p.length }
 
 -- There is room to count `more` more packets.
-pub record HasRoom (more : ℕ) (total : Total) : Type 0 where
+pub record HasRoom (more : ℕ) (total : Total ℕ) : Type 0 where
   pub packets : total.packets + more < 2 ^ 128
   pub bytes : total.bytes + most_length * more < 2 ^ 128
 
--- the sum of two totals
-abbrev pub both : Total → Total → Total
-both one other = record { packets = one.packets + other.packets; bytes = one.bytes + other.bytes }
+-- The total of what was sent has room in 128 bits.
+pub record FitsSent (c : Counts ℕ) : Type 0 where
+  pub packets : c.accepted.packets + c.refused.packets < 2 ^ 128
+  pub bytes : c.accepted.bytes + c.refused.bytes < 2 ^ 128
 
 -- the table has the total of each sender's packets at the sender's number
-pub record AreTotals (packets : List Packet) (totals : List Total) : Type 0 where
+pub record AreTotals (packets : List Packet) (totals : List (Total ℕ)) : Type 0 where
   pub each : (s : ℕ) → s < length totals → slice_get totals s ≡ Some (total_of (of_sender s packets))

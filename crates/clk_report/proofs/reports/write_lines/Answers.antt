@@ -2,7 +2,8 @@ use Rattle.std.proofs.Common.{◌∙◌, ◌<◌, arith}
 use Rattle.std.proofs.lemmas.List.Elements.{All-drop}
 use Rattle.std.proofs.lemmas.Result.{err_from_is_err_and}
 use Rattle.std.specs.List.{flat_map}
-use Rattle.clk_report.specs.Counts.{counts_of, counts_line}
+use Rattle.clk_packet.specs.Counts.{counts_of}
+use Rattle.clk_report.specs.Counts.{counts_text}
 use Rattle.clk_report.specs.Devices.{all_emitted}
 use Rattle.clk_report.proofs.ReportLemmas.{HasWritten-part, Wrote-part, flat_map-split, text-alone}
 use Rattle.clk_packet.specs.declared.tally.Tally.{Tally}
@@ -14,7 +15,7 @@ returns-in_err-write_all g c =
     let emitted = all_emitted c.args.emitted.now in
     let part = c.split_at.result.0.now in
     let after = c.split_at.result.1.now in
-    let line = λ (t : Tally). counts_line emitted (counts_of t) in
+    let line = λ (t : Tally). counts_text (counts_of emitted t) in
     let is = c.split_at-in-loop-rest.ensures.back ∙ text-alone (flat_map line part) _ c.loop-rest.lines 32768 (omega arith) (c.put_lines-start.ensures.piece emitted c.count_by_sender.ensures.totals) in
     let split = flat_map-split line c.loop-rest.rest.now part after c.min.result c.split_at.ensures.front c.split_at.ensures.back in
     let failed = rw is at c.in_err-write_all.ensures in
@@ -25,7 +26,7 @@ loop-rest-preserved g c =
     let emitted = all_emitted c.args.emitted.now in
     let part = c.split_at.result.0.now in
     let after = c.split_at.result.1.now in
-    let line = λ (t : Tally). counts_line emitted (counts_of t) in
+    let line = λ (t : Tally). counts_text (counts_of emitted t) in
     let is = c.split_at-in-loop-rest.ensures.back ∙ text-alone (flat_map line part) _ c.loop-rest.lines 32768 (omega arith) (c.put_lines-start.ensures.piece emitted c.count_by_sender.ensures.totals) in
     let split = flat_map-split line c.loop-rest.rest.now part after c.min.result c.split_at.ensures.front c.split_at.ensures.back in
     let wrote = rw is at c.in_ok-write_all.ensures in

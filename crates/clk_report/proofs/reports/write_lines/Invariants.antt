@@ -1,14 +1,15 @@
 use Rattle.std.proofs.Common.{◌≡◌, ◌<◌, All, length}
 use Rattle.std.specs.List.{flat_map}
 use Rattle.clk_packet.proofs.Callers.Bytes.{HasWritten}
-use Rattle.clk_report.specs.Counts.{counts_of, counts_line}
+use Rattle.clk_packet.specs.Counts.{counts_of}
+use Rattle.clk_report.specs.Counts.{counts_text}
 use Rattle.clk_report.specs.Devices.{all_emitted}
 use Rattle.clk_report.proofs.reports.write_lines.Given as goal
 
 abbrev pub invariant-loop-rest : goal.invariant-loop-rest
 invariant-loop-rest g l = record {
-  front : HasWritten (g.W.Sink.taken l.fn.writer) (g.W.Sink.taken l.writer) (flat_map (λ t. counts_line (all_emitted l.emitted) (counts_of t)) l.tallies)
-      (flat_map (λ t. counts_line (all_emitted l.emitted) (counts_of t)) l.rest);
+  front : HasWritten (g.W.Sink.taken l.fn.writer) (g.W.Sink.taken l.writer) (flat_map (λ t. counts_text (counts_of (all_emitted l.emitted) t)) l.tallies)
+      (flat_map (λ t. counts_text (counts_of (all_emitted l.emitted) t)) l.rest);
   failures : g.W.Sink.failures l.writer ≡ g.W.Sink.failures l.fn.writer;
   within : All (λ t. t.sender < g.row.N) l.rest;
 }

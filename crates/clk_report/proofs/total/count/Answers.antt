@@ -1,11 +1,11 @@
-use Rattle.std.proofs.Common.{arith}
+use Rattle.std.proofs.Common.{ℕ, arith}
 use Rattle.clk_report.proofs.TotalLemmas.{IsCountedTo-none, IsCountedTo-more, IsCountedTo-skip, all-counted, room-next}
-use Rattle.clk_report.specs.declared.total.Total.{Total}
+use Rattle.clk_packet.specs.declared.counts.Total.{Total}
 use Rattle.clk_report.proofs.total.count.Goals as goal
 use Rattle.clk_report.proofs.total.count.Goals.{then-sender-totals, else-sender-totals}
 
 -- what would stand beyond the table
-abbrev none : Total
+abbrev none : Total ℕ
 none = record { packets = 0; bytes = 0 }
 
 pub loop-packet-init : goal.loop-packet-init
@@ -29,7 +29,7 @@ loop-packet-preserved c =
     elim c.if-sender-totals.branch [
       | then-sender-totals w ↦
           rw (w.totals-is)
-          (IsCountedTo-more c.args.totals.now c.loop-packet.totals c.args.packets.now c.loop-packet.packet-index c.packet-item.result c.from-sender.result none w.add.new.self c.loop-packet-test.true c.packet-item.is c.from-sender.ensures
+          (IsCountedTo-more c.args.totals.now c.loop-packet.totals c.args.packets.now c.loop-packet.packet-index c.packet-item.result c.from-sender.result none w.add.new.total c.loop-packet-test.true c.packet-item.is c.from-sender.ensures
           w.if-sender-totals.true c.loop-packet.invariant w.add.ensures)
       | else-sender-totals w ↦
           rw (w.totals-is)

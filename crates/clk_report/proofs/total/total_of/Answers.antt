@@ -1,6 +1,6 @@
 use Rattle.std.proofs.Common.{arith}
-use Rattle.clk_report.proofs.TotalLemmas.{bytes-few}
-use Rattle.clk_report.proofs.total.Total.of.Goals as goal
+use Rattle.clk_packet.proofs.Callers.Counts.{bytes-few}
+use Rattle.clk_report.proofs.total.total_of.Goals as goal
 
 pub add-requires-clause-bytes : goal.add-requires-clause-bytes
 add-requires-clause-bytes c =

@@ -1,6 +1,6 @@
 use Rattle.std.proofs.Common.{◌≡◌, ◌+◌, drop, length}
-use Rattle.clk_report.specs.Report.{bytes_of}
-use Rattle.clk_report.proofs.total.Total.of.Given as goal
+use Rattle.clk_packet.specs.Counts.{bytes_of}
+use Rattle.clk_report.proofs.total.total_of.Given as goal
 
 -- what is counted and what is left are all
 abbrev pub invariant-loop-packet : goal.invariant-loop-packet
