@@ -1,5 +1,6 @@
 -- Packets, outcomes, faults and accounts as C sees them.
 use Rattle.std.specs.Prelude.{ℕ}
+use Rattle.clk_packet.specs.declared.counts.Total.{Total}
 use Rattle.clk_packet.specs.declared.packet.Packet.{Packet}
 use Rattle.clk_packet.specs.declared.packet.Kind.{Kind}
 use Rattle.clk_packet.specs.declared.packet.Kind.TheVariants.{TailDrop, FrontDrop}
@@ -9,7 +10,6 @@ use Rattle.clk_packet.specs.declared.fault.Fault.{Fault}
 use Rattle.clk_packet.specs.declared.fault.Fault.TheVariants.{BadText, UnknownClass, BadArgument, NameTwice, UnknownName, BadPort, PortTwice, PortMissing, WrongKind, ManyDevices, NotATree}
 use Rattle.clk_packet.specs.Fault.{number_of}
 use Rattle.clk_router.specs.declared.accounts.Account.{Account}
-use Rattle.clk_router.specs.declared.accounts.Total.{Total}
 use Rattle.clk_router.specs.declared.queue_state.QueueState.{QueueState}
 use Rattle.clickpull_c.specs.declared.values.CPacket.{CPacket}
 use Rattle.clickpull_c.specs.declared.values.COffered.{COffered}
@@ -53,12 +53,19 @@ abbrev pub fault_in_c : Fault → CFault
 fault_in_c fault = record { number = number_of fault; offset = offset_of fault }
 
 -- a total, as C sees it
-abbrev pub total_in_c : Total → CTotal
+abbrev pub total_in_c : Total ℕ → CTotal
 total_in_c t = record { packets = t.packets; bytes = t.bytes }
 
 -- an account, as C sees it
 abbrev pub account_in_c : Account → CAccount
-account_in_c a = record { accepted = total_in_c a.accepted; refused = total_in_c a.refused; evicted = total_in_c a.evicted; emitted = total_in_c a.emitted; sender = a.sender; queue = a.queue }
+account_in_c a = record {
+  accepted = total_in_c a.counts.accepted;
+  refused = total_in_c a.counts.refused;
+  evicted = total_in_c a.counts.evicted;
+  emitted = total_in_c a.counts.emitted;
+  sender = a.counts.sender;
+  queue = a.queue;
+}
 
 -- whether a queue evicts packets for later ones, as a number
 abbrev pub front_drop_of : Kind → ℕ

@@ -5,8 +5,8 @@ ghost use Rattle.clickpull_c.specs.Answers.{IsLength};
 ghost use Rattle.clickpull_c.specs.Values.{packet_in_c, offered_in_c, fault_in_c, total_in_c, account_in_c, queue_in_c};
 
 use crate::statuses::{ACCEPTED, EVICTED, REFUSED};
-use clk_packet::{Fault, Kind, Offered, Packet};
-use clk_router::{Account, QueueState, Total};
+use clk_packet::{Fault, Kind, Offered, Packet, Total};
+use clk_router::{Account, QueueState};
 
 /// A packet. In C it is the struct `clk_packet`.
 #[repr(C)]
@@ -170,7 +170,7 @@ pub fn fault_for_c(fault: Fault) -> CFault
 }
 
 /// A total, as C sees it.
-fn total_for_c(total: Total) -> CTotal
+fn total_for_c(total: Total<u64>) -> CTotal
     ensures { result ≡ total_in_c total }
 {
     CTotal {
@@ -183,12 +183,13 @@ fn total_for_c(total: Total) -> CTotal
 pub fn account_for_c(account: &Account) -> CAccount
     ensures { result ≡ account_in_c account.now }
 {
+    let counts = &account.counts;
     CAccount {
-        accepted: total_for_c(account.accepted),
-        refused: total_for_c(account.refused),
-        evicted: total_for_c(account.evicted),
-        emitted: total_for_c(account.emitted),
-        sender: account.sender,
+        accepted: total_for_c(counts.accepted),
+        refused: total_for_c(counts.refused),
+        evicted: total_for_c(counts.evicted),
+        emitted: total_for_c(counts.emitted),
+        sender: counts.sender,
         queue: account.queue,
     }
 }

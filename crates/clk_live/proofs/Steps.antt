@@ -18,6 +18,7 @@ use Rattle.clk_tree.specs.PlanParts.{SendsWithin, number_of}
 use Rattle.clk_inlet.specs.Items.{packet_item}
 use Rattle.clk_inlet.specs.Limits.{most_packets}
 use Rattle.clk_inlet.specs.declared.item.Item.{Item}
+use Rattle.clk_packet.specs.declared.counts.Total.{Total}
 use Rattle.clk_router.specs.declared.accounts.Account.{Account}
 use Rattle.clk_router.specs.Accounts.{account_after}
 use Rattle.clk_router.specs.Course.{Course, after, sender_at, IsPulled}
@@ -43,14 +44,9 @@ spec-at (x ∷ senders) (suc i) s e = spec-at senders i s e
 
 -- what a read of an account gives where none is
 abbrev pub no_account : Account
-no_account = record {
-  sender = 0;
-  queue = 0;
-  accepted = record { packets = 0; bytes = 0 };
-  refused = record { packets = 0; bytes = 0 };
-  evicted = record { packets = 0; bytes = 0 };
-  emitted = record { packets = 0; bytes = 0 };
-}
+no_account =
+    let zero : Total ℕ = record { packets = 0; bytes = 0 } in
+    record { queue = 0; counts = record { sender = 0; accepted = zero; refused = zero; evicted = zero; emitted = zero } }
 
 -- its account tells its queue
 pub account-queue : (events : List Event) (senders : List SenderSpec) (accounts : List Account) (i : ℕ) (x : SenderSpec) (d : Account) → accounts ≡ map (account_after events) senders → slice_get senders i ≡ Some x → (get_or accounts i d).queue ≡ x.queue

@@ -158,13 +158,14 @@ impl Bench {
             .accounts()
             .get(place)
             .expect(rt, "an account");
+        let counts = account.counts;
         let totals = [
-            account.accepted,
-            account.refused,
-            account.evicted,
-            account.emitted,
+            counts.accepted,
+            counts.refused,
+            counts.evicted,
+            counts.emitted,
         ];
-        account.sender == sender && totals.map(|total| total.packets) == expected
+        counts.sender == sender && totals.map(|total| total.packets) == expected
     }
 
     /// Does a step. Returns whether it has the result that the row says.

@@ -150,10 +150,8 @@ fn a_run_goes_on_without_its_record(rt: HostRuntime) -> Result<(), Fault> {
             .accounts()
             .last()
             .expect(&rt, "a sender");
-        let offered = account
-            .accepted
-            .packets
-            .checked_add(account.refused.packets);
+        let counts = account.counts;
+        let offered = counts.accepted.packets.checked_add(counts.refused.packets);
         assert_eq!(rt; offered, Some(2));
     }
     Ok(())

@@ -1,8 +1,8 @@
 //! Reports of worked rows, and of many senders and packets.
 
 use crate::values::{packet, sink_of};
-use clk_packet::{Fault, Packet, Packets, Tally};
-use clk_report::{Counts, MAX_DEVICES, Total, report, report_line};
+use clk_packet::{Counts, Fault, Packet, Packets, Tally, Total};
+use clk_report::{MAX_DEVICES, report, report_line};
 use clk_rows::{EVICTS_OTHER_SENDER, Row, TAIL_DROP_FULL};
 use std::alloc::{AllocError, Global};
 use std::process::Abort;
@@ -177,19 +177,29 @@ fn without_a_device_nothing_is_emitted(rt: HostRuntime) {
 
 #[test]
 fn a_line_stands_alone(rt: HostRuntime) {
-    let [first, second, third] = [packet(3, 0, 10), packet(3, 1, 20), packet(3, 2, 40)];
-    let tally = tally(rt.alloc(), (3, &[first, third], &[second], &[third])).expect(&rt, "memory");
-    let emitted = Total {
-        packets: 1,
-        bytes: 10,
+    let counts = Counts {
+        sender: 3,
+        accepted: Total {
+            packets: 2,
+            bytes: 50,
+        },
+        refused: Total {
+            packets: 1,
+            bytes: 20,
+        },
+        evicted: Total {
+            packets: 1,
+            bytes: 40,
+        },
+        emitted: Total {
+            packets: 1,
+            bytes: 10,
+        },
     };
     let expected =
         b"sender 3: sent 3 70, accepted 2 50, refused 1 20, evicted 1 40, emitted 1 10\n";
     let mut sink = sink_of(rt.alloc(), expected.len()).expect(&rt, "ample memory");
-    assert_eq!(rt;
-        report_line(&Counts::of(&tally), emitted, &mut sink),
-        Ok(())
-    );
+    assert_eq!(rt; report_line(&counts, &mut sink), Ok(()));
     assert!(rt; sink.taken() == expected.as_slice());
 }
 

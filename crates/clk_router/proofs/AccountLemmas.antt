@@ -4,35 +4,35 @@ use Rattle.std.specs.List.{list_any, filter_map, cons_option}
 use Rattle.std.specs.Option.{option_map}
 use Rattle.std.proofs.lemmas.List.{append-nil, append_assoc, drop_more, length-append, length-map}
 use Rattle.std.proofs.lemmas.List.Elements.{filter-append, filter_map-append}
-use Rattle.std.proofs.lemmas.List.Sums.{sum_by-append}
 use Rattle.std.proofs.lemmas.Option.{slice_get-map, slice_get_read, slice_get_within}
 use Rattle.std.proofs.lemmas.Bool.Decides.{nat_tests}
+use Rattle.clk_packet.specs.declared.counts.Total.{Total}
 use Rattle.clk_packet.specs.declared.packet.Packet.{Packet}
 use Rattle.clk_packet.specs.declared.packet.Offered.{Offered}
 use Rattle.clk_packet.specs.declared.packet.Offered.TheVariants.{Accepted, Refused, Evicted}
 use Rattle.clk_packet.specs.Lists.{of_sender, AreRising}
+use Rattle.clk_packet.proofs.Callers.Counts.{bytes-append}
 use Rattle.clk_sched.specs.declared.visit.Visit.{Visit}
 use Rattle.clk_sched.specs.declared.session.departures.Departure.{Departure}
 use Rattle.clk_sched.specs.Departures.{departure_at, departures_in}
 use Rattle.clk_sched.specs.Log.{visits_of, moment_of, result_of}
 use Rattle.clk_tree.specs.declared.plan.parts.SenderSpec.{SenderSpec}
 use Rattle.clk_tree.specs.PlanParts.{number_of}
-use Rattle.clk_router.specs.declared.accounts.Total.{Total}
 use Rattle.clk_router.specs.declared.accounts.Account.{Account}
-use Rattle.clk_router.specs.Accounts.{total_of, account_after, account_sender}
+use Rattle.clk_router.specs.Accounts.{capped_total, account_after, account_sender}
 use Rattle.clk_sched.specs.Keeps.{keeps_nothing}
 use Rattle.clk_router.specs.Course.{Course, after}
 use Rattle.clk_router.specs.Events.{sender_numbers, Event, offered, pulled, pulls_from, accepted_in, refused_in, evicted_in, emitted_in}
-use Rattle.clk_router.specs.inside.Accounts.{with_packet, with_its, put_out, with_emitted}
+use Rattle.clk_router.specs.inside.Accounts.{with_packet, with_its, with_totals, put_out, with_emitted}
 use Rattle.clk_router.proofs.Callers.Keyed.{ChangesOnly, others-stay, changed-at}
 
 -- an account after a packet was accepted
 abbrev pub taken_in : Packet → Account → Account
-taken_in p a = record { sender = a.sender; queue = a.queue; accepted = with_its a.sender p a.accepted; refused = a.refused; evicted = a.evicted; emitted = a.emitted }
+taken_in p a = with_totals a (with_its a.counts.sender p a.counts.accepted) a.counts.refused a.counts.evicted a.counts.emitted
 
 -- an account after a packet was refused
 abbrev pub turned_away : Packet → Account → Account
-turned_away p a = record { sender = a.sender; queue = a.queue; accepted = a.accepted; refused = with_its a.sender p a.refused; evicted = a.evicted; emitted = a.emitted }
+turned_away p a = with_totals a a.counts.accepted (with_its a.counts.sender p a.counts.refused) a.counts.evicted a.counts.emitted
 
 -- an account after an offer with this outcome
 abbrev pub noted : Packet → Offered → Account → Account
@@ -51,44 +51,41 @@ departed [] a = a
 departed (d ∷ more) a = departed more (with_emitted d.packet a)
 
 -- one packet more in a total, and one of a sender's packets
-total-more : (packets : List Packet) (p : Packet) → total_of (packets ++ p ∷ []) ≡ with_packet p (total_of packets)
-total-more packets p = search (rules, length-append, sum_by-append)
+total-more : (packets : List Packet) (p : Packet) → capped_total (packets ++ p ∷ []) ≡ with_packet p (capped_total packets)
+total-more packets p = search (rules, length-append, bytes-append)
 
-one-more : (s : ℕ) (packets : List Packet) (p : Packet) → with_its s p (total_of packets) ≡ total_of (packets ++ of_sender s (p ∷ []))
+one-more : (s : ℕ) (packets : List Packet) (p : Packet) → with_its s p (capped_total packets) ≡ capped_total (packets ++ of_sender s (p ∷ []))
 one-more s packets p = search (rules, total-more)
 
 -- what an event adds to the total of a sender's packets of some kind, by the packet of that kind in it
-abbrev with_any : ℕ → Option Packet → Total → Total
+abbrev with_any : ℕ → Option Packet → Total ℕ → Total ℕ
 with_any s None t = t
 with_any s (Some p) t = with_its s p t
 
-any-more : (s : ℕ) (packets : List Packet) (o : Option Packet) → with_any s o (total_of packets) ≡ total_of (packets ++ of_sender s (cons_option o []))
-any-more s packets None = ap total_of (sym (append-nil packets))
+any-more : (s : ℕ) (packets : List Packet) (o : Option Packet) → with_any s o (capped_total packets) ≡ capped_total (packets ++ of_sender s (cons_option o []))
+any-more s packets None = ap capped_total (sym (append-nil packets))
 any-more s packets (Some p) = one-more s packets p
 
 total-after : (f : Event → Option Packet) (s : ℕ) (events : List Event) (e : Event)
-    → with_any s (f e) (total_of (of_sender s (filter_map f events))) ≡ total_of (of_sender s (filter_map f (events ++ e ∷ [])))
+    → with_any s (f e) (capped_total (of_sender s (filter_map f events))) ≡ capped_total (of_sender s (filter_map f (events ++ e ∷ [])))
 total-after f s events e = search (rules, any-more, filter_map-append, filter-append)
 
 -- a sender's account with what an event adds to each total
 abbrev with_event : Event → Account → Account
-with_event e a = record {
-  sender = a.sender;
-  queue = a.queue;
-  accepted = with_any a.sender (accepted_in e) a.accepted;
-  refused = with_any a.sender (refused_in e) a.refused;
-  evicted = with_any a.sender (evicted_in e) a.evicted;
-  emitted = with_any a.sender (emitted_in e) a.emitted;
-}
+with_event e a =
+    let s = a.counts.sender in
+    with_totals a (with_any s (accepted_in e) a.counts.accepted) (with_any s (refused_in e) a.counts.refused) (with_any s (evicted_in e) a.counts.evicted) (with_any s (emitted_in e) a.counts.emitted)
 
 account-after : (events : List Event) (e : Event) (s : SenderSpec) → with_event e (account_after events s) ≡ account_after (events ++ e ∷ []) s
 account-after events e s = λ i. record {
-  sender = s.number;
   queue = s.queue;
-  accepted = total-after accepted_in s.number events e i;
-  refused = total-after refused_in s.number events e i;
-  evicted = total-after evicted_in s.number events e i;
-  emitted = total-after emitted_in s.number events e i;
+  counts = record {
+    sender = s.number;
+    accepted = total-after accepted_in s.number events e i;
+    refused = total-after refused_in s.number events e i;
+    evicted = total-after evicted_in s.number events e i;
+    emitted = total-after emitted_in s.number events e i;
+  };
 }
 
 -- one change after another, of all
@@ -160,59 +157,55 @@ given-none [] = refl
 given-none (a ∷ accounts) = ap (λ l. a ∷ l) (given-none accounts)
 
 -- a packet counts for its own sender alone
-its-other : (s : ℕ) (p : Packet) (t : Total) → (p.sender == s) ≡ false → with_its s p t ≡ t
+its-other : (s : ℕ) (p : Packet) (t : Total ℕ) → (p.sender == s) ≡ false → with_its s p t ≡ t
 its-other s p t e = rw e refl
 
-its-own : (s : ℕ) (p : Packet) (t : Total) → (p.sender == s) ≡ true → with_packet p t ≡ with_its s p t
+its-own : (s : ℕ) (p : Packet) (t : Total ℕ) → (p.sender == s) ≡ true → with_packet p t ≡ with_its s p t
 its-own s p t e = rw e refl
 
--- an account with these totals
-abbrev has : Account → Total → Total → Total → Total → Account
-has a accepted refused evicted emitted = record { sender = a.sender; queue = a.queue; accepted = accepted; refused = refused; evicted = evicted; emitted = emitted }
-
 taken_in-its : (p : Packet) → ChangesOnly account_sender p.sender (taken_in p)
-taken_in-its p a e = ap (λ t. has a t a.refused a.evicted a.emitted) (its-other a.sender p a.accepted e)
+taken_in-its p a e = ap (λ t. with_totals a t a.counts.refused a.counts.evicted a.counts.emitted) (its-other a.counts.sender p a.counts.accepted e)
 
 turned_away-its : (p : Packet) → ChangesOnly account_sender p.sender (turned_away p)
-turned_away-its p a e = ap (λ t. has a a.accepted t a.evicted a.emitted) (its-other a.sender p a.refused e)
+turned_away-its p a e = ap (λ t. with_totals a a.counts.accepted t a.counts.evicted a.counts.emitted) (its-other a.counts.sender p a.counts.refused e)
 
 put_out-its : (p : Packet) → ChangesOnly account_sender p.sender (put_out p)
-put_out-its p a e = ap (λ t. has a a.accepted a.refused t a.emitted) (its-other a.sender p a.evicted e)
+put_out-its p a e = ap (λ t. with_totals a a.counts.accepted a.counts.refused t a.counts.emitted) (its-other a.counts.sender p a.counts.evicted e)
 
 with_emitted-its : (p : Packet) → ChangesOnly account_sender p.sender (with_emitted p)
-with_emitted-its p a e = ap (λ t. has a a.accepted a.refused a.evicted t) (its-other a.sender p a.emitted e)
+with_emitted-its p a e = ap (λ t. with_totals a a.counts.accepted a.counts.refused a.counts.evicted t) (its-other a.counts.sender p a.counts.emitted e)
 
 -- the account of a packet's sender stands at a place
 module _ (accounts : List Account) (numbers : List ℕ) (p : Packet) (place : ℕ) (alike : map account_sender accounts ≡ numbers) (at : slice_get numbers place ≡ Some p.sender) where
   pub place-within : place < length accounts
   place-within = let within = slice_get_within numbers place p.sender at in let count = ap length (sym alike) ∙ length-map accounts account_sender in omega (arith, within, count)
 
-  module _ (i : ℕ) (a : Account) (rising : AreRising numbers) (same : i ≡ place) (is : a ≡ get_or accounts i a) (total : Total) where
+  module _ (i : ℕ) (a : Account) (rising : AreRising numbers) (same : i ≡ place) (is : a ≡ get_or accounts i a) (total : Total ℕ) where
     here : slice_get accounts i ≡ Some a
     here = slice_get_read accounts _ i a refl (let within = place-within in omega (arith, same, within)) is
 
-    number : a.sender ≡ p.sender
+    number : a.counts.sender ≡ p.sender
     number =
-        let e : Some a.sender ≡ Some p.sender = ap (option_map account_sender) (sym here) ∙ sym (slice_get-map account_sender accounts i) ∙ ap (λ l. slice_get l i) alike ∙ ap (slice_get numbers) same ∙ at in
+        let e : Some a.counts.sender ≡ Some p.sender = ap (option_map account_sender) (sym here) ∙ sym (slice_get-map account_sender accounts i) ∙ ap (λ l. slice_get l i) alike ∙ ap (slice_get numbers) same ∙ at in
         cc e
 
-    own : (p.sender == a.sender) ≡ true
+    own : (p.sender == a.counts.sender) ≡ true
     own = let n = number in grind (arith, nat_tests)
 
     changed : (f : Account → Account) → ChangesOnly account_sender p.sender f → set accounts i (f a) ≡ map f accounts
     changed f its = changed-at account_sender f accounts i a (subst AreRising (sym alike) rising) (subst (λ s. ChangesOnly account_sender s f) (sym number) its) here
 
-    pub taken_in-at : total ≡ with_packet p a.accepted → set accounts i (has a total a.refused a.evicted a.emitted) ≡ map (taken_in p) accounts
-    taken_in-at e = ap (λ t. set accounts i (has a t a.refused a.evicted a.emitted)) (e ∙ its-own a.sender p a.accepted own) ∙ changed (taken_in p) (taken_in-its p)
+    pub taken_in-at : total ≡ with_packet p a.counts.accepted → set accounts i (with_totals a total a.counts.refused a.counts.evicted a.counts.emitted) ≡ map (taken_in p) accounts
+    taken_in-at e = ap (λ t. set accounts i (with_totals a t a.counts.refused a.counts.evicted a.counts.emitted)) (e ∙ its-own a.counts.sender p a.counts.accepted own) ∙ changed (taken_in p) (taken_in-its p)
 
-    pub turned_away-at : total ≡ with_packet p a.refused → set accounts i (has a a.accepted total a.evicted a.emitted) ≡ map (turned_away p) accounts
-    turned_away-at e = ap (λ t. set accounts i (has a a.accepted t a.evicted a.emitted)) (e ∙ its-own a.sender p a.refused own) ∙ changed (turned_away p) (turned_away-its p)
+    pub turned_away-at : total ≡ with_packet p a.counts.refused → set accounts i (with_totals a a.counts.accepted total a.counts.evicted a.counts.emitted) ≡ map (turned_away p) accounts
+    turned_away-at e = ap (λ t. set accounts i (with_totals a a.counts.accepted t a.counts.evicted a.counts.emitted)) (e ∙ its-own a.counts.sender p a.counts.refused own) ∙ changed (turned_away p) (turned_away-its p)
 
-    pub put_out-at : total ≡ with_packet p a.evicted → set accounts i (has a a.accepted a.refused total a.emitted) ≡ map (put_out p) accounts
-    put_out-at e = ap (λ t. set accounts i (has a a.accepted a.refused t a.emitted)) (e ∙ its-own a.sender p a.evicted own) ∙ changed (put_out p) (put_out-its p)
+    pub put_out-at : total ≡ with_packet p a.counts.evicted → set accounts i (with_totals a a.counts.accepted a.counts.refused total a.counts.emitted) ≡ map (put_out p) accounts
+    put_out-at e = ap (λ t. set accounts i (with_totals a a.counts.accepted a.counts.refused t a.counts.emitted)) (e ∙ its-own a.counts.sender p a.counts.evicted own) ∙ changed (put_out p) (put_out-its p)
 
-    pub with_emitted-at : total ≡ with_packet p a.emitted → set accounts i (has a a.accepted a.refused a.evicted total) ≡ map (with_emitted p) accounts
-    with_emitted-at e = ap (λ t. set accounts i (has a a.accepted a.refused a.evicted t)) (e ∙ its-own a.sender p a.emitted own) ∙ changed (with_emitted p) (with_emitted-its p)
+    pub with_emitted-at : total ≡ with_packet p a.counts.emitted → set accounts i (with_totals a a.counts.accepted a.counts.refused a.counts.evicted total) ≡ map (with_emitted p) accounts
+    with_emitted-at e = ap (λ t. set accounts i (with_totals a a.counts.accepted a.counts.refused a.counts.evicted t)) (e ∙ its-own a.counts.sender p a.counts.emitted own) ∙ changed (with_emitted p) (with_emitted-its p)
 
 -- a packet of a sender without an account changes none
 pub put_out-none : (accounts : List Account) (numbers : List ℕ) (p : Packet) → map account_sender accounts ≡ numbers → list_any (λ n. n == p.sender) numbers ≡ false → accounts ≡ map (put_out p) accounts

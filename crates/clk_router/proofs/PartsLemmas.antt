@@ -33,7 +33,7 @@ use Rattle.clk_router.specs.declared.devices.Device.{Device}
 use Rattle.clk_router.specs.declared.parts.Parts.{Parts}
 use Rattle.clk_router.specs.Events.{Room, Setup, room_of, setup_of, sender_numbers, is_at, is_of_device, Event, offered, pulled, happens_at, events_at, numbers_of, log_of, sends_to, answers_in, at_queue, history, RunsTree}
 use Rattle.clk_router.specs.Course.{room_device}
-use Rattle.clk_router.specs.inside.Parts.{path_made, device_made, sender_made, sent_one_more, AreQueuesAt, IsDeviceAt, AreDevicesAt, IsAt, CanSendOn, CanCount, ChangesDevice, kept_by, CountsHere, CountsAt, Counts, KeepsAs, KeepsAsAt, LeadsOnByPull}
+use Rattle.clk_router.specs.inside.Parts.{path_made, device_made, sender_made, sent_one_more, AreQueuesAt, IsDeviceAt, AreDevicesAt, IsAt, CanSendOn, CanCount, ChangesDevice, kept_by, CountsHere, CountsAt, CountsOffer, KeepsAs, KeepsAsAt, LeadsOnByPull}
 use Rattle.clk_router.specs.inside.Queues.{packets_at, queue_made, OffersTo, PullsFrom, OffersAt, GivesAt}
 use Rattle.clk_router.proofs.Callers.Events.{events-here, events-elsewhere, RunsTree-pulled, CanHappen-offer, CanHappen-pull, log-pulled}
 use Rattle.clk_router.proofs.SenderLemmas.{senders-pulled, senders-sent, passes-its, sends-its, IsSpecAt, spec-at}
@@ -232,7 +232,7 @@ at-offered calls events (Some room) (Some old) (Some new) p outcome is h =
     record { leads = calls.offered events old new p outcome is.leads h; kind = keeps.0 ∙ is.kind; capacity = keeps.1 ∙ is.capacity }
 
 -- An offer of the sender at a place leads on.
-pub IsAt-sent : CallsAreHistory → (setup : Setup) (events : List Event) (old mid new : Parts) (place device : ℕ) (s : Sender) (p : Packet) (outcome : Offered) → Counts mid s.queue outcome new → IsAt setup events old
+pub IsAt-sent : CallsAreHistory → (setup : Setup) (events : List Event) (old mid new : Parts) (place device : ℕ) (s : Sender) (p : Packet) (outcome : Offered) → CountsOffer mid s.queue outcome new → IsAt setup events old
     → AreRising old.numbers.items → slice_get old.paths.items s.queue ≡ Some device → slice_get old.senders.items place ≡ Some s → p.number ≡ s.sent → p.sender ≡ s.number → OffersAt old.queues.rings.items s.queue p outcome mid.queues.rings.items
     → mid.senders.items ≡ set old.senders.items place (sent_one_more s) → mid.numbers ≡ old.numbers → mid.devices ≡ old.devices → mid.paths ≡ old.paths → mid.keeps ≡ old.keeps → IsAt setup (events ++ offered p outcome ∷ []) new
 IsAt-sent calls setup events old mid new place device s p outcome counts at rising path here number sender offered_at senders numbers devices paths keeps =

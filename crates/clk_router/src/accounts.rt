@@ -7,62 +7,35 @@ ghost use Rattle.clk_sched.specs.Departures.{departures_in};
 ghost use Rattle.clk_sched.specs.Log.{visits_of, result_of};
 ghost use Rattle.clk_router.specs.Accounts.{account_after, account_sender};
 ghost use Rattle.clk_router.specs.Events.{Event, offered, pulled, pulls_from};
-ghost use Rattle.clk_router.specs.inside.Accounts.{put_out, with_emitted};
+ghost use Rattle.clk_router.specs.inside.Accounts.{put_out, with_emitted, with_packet};
 
 use crate::senders::place_of;
-use clk_packet::{Fault, Offered, Packet};
+use clk_packet::{Counts, Fault, Offered, Packet, Total};
 use clk_sched::Departure;
 use clk_tree::SenderSpec;
 use std::alloc::Global;
 
-/// How many packets, and how many bytes in all of them. Each count stops at 2^64 - 1.
-#[derive(Clone, Copy, Debug)]
-pub struct Total {
-    /// How many packets.
-    pub packets: u64,
-    /// How many bytes in all of them.
-    pub bytes: u64,
-}
-
-/// The totals of a sender's packets so far.
+/// The counts of a sender's packets so far, each of which stops at 2^64 - 1, and its queue.
 #[derive(Clone, Copy, Debug)]
 pub struct Account {
-    /// The number of the sender.
-    pub sender: u16,
-    /// The number of the queue that it sends to.
+    /// The number of the queue that the sender sends to.
     pub queue: u16,
-    /// What its queue accepted.
-    pub accepted: Total,
-    /// What its queue refused.
-    pub refused: Total,
-    /// What its queue accepted, and later evicted.
-    pub evicted: Total,
-    /// What a device emitted.
-    pub emitted: Total,
+    /// The counts of its packets.
+    pub counts: Counts<u64>,
 }
 
-impl Total {
-    ghost use Rattle.std.specs.Prelude.{◌≡◌, []};
-    ghost use Rattle.clk_router.specs.Accounts.{total_of};
-    ghost use Rattle.clk_router.specs.inside.Accounts.{with_packet};
+/// The total of no packets.
+const NONE: Total<u64> = Total {
+    packets: 0,
+    bytes: 0,
+};
 
-    /// The total of no packets.
-    fn none() -> Total
-        ensures { result ≡ total_of [] }
-    {
-        Total {
-            packets: 0,
-            bytes: 0,
-        }
-    }
-
-    /// Adds a packet to the total.
-    fn add(&mut self, packet: Packet)
-        ensures { self.new ≡ with_packet packet self.old }
-    {
-        self.packets = self.packets.saturating_add(1);
-        self.bytes = self.bytes.saturating_add(u64::from(packet.length));
-    }
+/// Adds a packet to a total.
+fn add(total: &mut Total<u64>, packet: Packet)
+    ensures { total.new ≡ with_packet packet total.old }
+{
+    total.packets = total.packets.saturating_add(1);
+    total.bytes = total.bytes.saturating_add(u64::from(packet.length));
 }
 
 /// The accounts of these senders, before they have sent anything. Fault 1 if an allocation fails.
@@ -73,12 +46,14 @@ pub fn accounts_of(alloc: Global, specs: &[SenderSpec]) -> Result<Vec<Account>, 
     let mut accounts = Vec::new(alloc);
     for spec in specs {
         accounts.push(Account {
-            sender: spec.number,
             queue: spec.queue,
-            accepted: Total::none(),
-            refused: Total::none(),
-            evicted: Total::none(),
-            emitted: Total::none(),
+            counts: Counts {
+                sender: spec.number,
+                accepted: NONE,
+                refused: NONE,
+                evicted: NONE,
+                emitted: NONE,
+            },
         })?;
     }
     Ok(accounts)
@@ -98,12 +73,12 @@ pub fn count_offered(
     requires here { slice_get numbers.now place ≡ Some packet.sender }
     ensures { (events : List Event) (specs : _) → accounts.old.items ≡ map (account_after events) specs → accounts.new.items ≡ map (account_after (events ++ offered packet outcome ∷ [])) specs }
 {
-    let account = &mut accounts[place];
+    let counts = &mut accounts[place].counts;
     match outcome {
-        Offered::Accepted => account.accepted.add(packet),
-        Offered::Refused(_) => account.refused.add(packet),
+        Offered::Accepted => add(&mut counts.accepted, packet),
+        Offered::Refused(_) => add(&mut counts.refused, packet),
         Offered::Evicted(front) => {
-            account.accepted.add(packet);
+            add(&mut counts.accepted, packet);
             count_evicted(accounts, numbers, front);
         }
     }
@@ -116,7 +91,7 @@ fn count_evicted(accounts: &mut Vec<Account>, numbers: &[u16], front: Packet)
     ensures { accounts.new.items ≡ map (put_out front) accounts.old.items }
 {
     match place_of(numbers, front.sender) {
-        Some(place) => accounts[usize::from(place)].evicted.add(front),
+        Some(place) => add(&mut accounts[usize::from(place)].counts.evicted, front),
         None => {}
     }
 }
@@ -154,7 +129,7 @@ fn count_emitted(accounts: &mut Vec<Account>, numbers: &[u16], packet: Packet)
     ensures { accounts.new.items ≡ map (with_emitted packet) accounts.old.items }
 {
     match place_of(numbers, packet.sender) {
-        Some(place) => accounts[usize::from(place)].emitted.add(packet),
+        Some(place) => add(&mut accounts[usize::from(place)].counts.emitted, packet),
         None => {}
     }
 }

@@ -14,7 +14,7 @@ mod queues;
 mod router;
 mod senders;
 
-pub use accounts::{Account, Total, accounts_of, count_drained, count_offered, count_pulled};
+pub use accounts::{Account, accounts_of, count_drained, count_offered, count_pulled};
 pub use counting::CountingRouter;
 pub use examples::{accounted_examples, event_examples, out_examples, settled_examples};
 pub use limits::END_OF_PACKETS;

@@ -38,7 +38,7 @@ impl Parts {
     ghost use Rattle.clk_sched.specs.Results.{emitted};
     ghost use Rattle.clk_tree.specs.PlanParts.{queued, HasCapacity};
     ghost use Rattle.clk_router.specs.Events.{Setup, Event, offered, setup_of};
-    ghost use Rattle.clk_router.specs.inside.Parts.{CanStand, CanOfferAt, CanPullAt, CanCloseAt, CanCount, Counts, CountsLeft, IsAt, IsWhole, LeadsOnByPull, LeadsOnByPulls, ClosesBy, Stand, IsSessionDue};
+    ghost use Rattle.clk_router.specs.inside.Parts.{CanStand, CanOfferAt, CanPullAt, CanCloseAt, CanCount, CountsOffer, CountsLeft, IsAt, IsWhole, LeadsOnByPull, LeadsOnByPulls, ClosesBy, Stand, IsSessionDue};
 
     /// The parts of a router before anything has happened. `keeps` says what its devices keep of the past. Fault 1 if an allocation fails.
     pub fn new(
@@ -92,7 +92,7 @@ impl Parts {
     fn count(&mut self, queue: u16, outcome: Offered)
         requires there { queue < length self.old.paths.items }
         requires counts { (device : _) → slice_get self.old.paths.items queue ≡ Some device → CanCount (slice_get self.old.devices.items device) }
-        ensures { Counts self.old queue outcome self.new }
+        ensures { CountsOffer self.old queue outcome self.new }
     {
         if let Offered::Accepted = outcome {
             let device = self.paths[usize::from(queue)];

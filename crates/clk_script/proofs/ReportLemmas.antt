@@ -1,44 +1,33 @@
 -- The accounts of all senders tell the report of a course.
 use Rattle.std.proofs.Common.{◌≡◌, ℕ, zero, suc, ◌+◌, ◌^◌, ◌<◌, ◌≤◌, ◌==◌, Bool, true, false, List, [], ◌∷◌, ◌++◌, length, map, Some, MatchOption, slice_get, get_or, drop, refl, sym, ap, ap₂, ◌∙◌, arith, rules}
-use Rattle.std.specs.List.{flat_map, filter_map, range_with_len, sum_by, AllByRecursion}
+use Rattle.std.specs.List.{flat_map, filter_map, range_with_len, AllByRecursion}
 use Rattle.std.proofs.lemmas.Bool.Decides.{nat_tests}
 use Rattle.std.proofs.lemmas.List.{append-nil, length-append, drop_more}
 use Rattle.std.proofs.lemmas.List.Elements.{filter-append}
-use Rattle.std.proofs.lemmas.List.Sums.{sum_by-cons}
 use Rattle.std.proofs.lemmas.Option.{slice_get_within}
 use Rattle.clk_packet.specs.declared.packet.Packet.{Packet}
 use Rattle.clk_packet.specs.Lists.{of_sender}
+use Rattle.clk_packet.specs.Counts.{total_of, counts_of}
+use Rattle.clk_packet.proofs.Callers.Counts.{bytes-few}
 use Rattle.clk_packet.proofs.Callers.Dealt.{dealt-length}
 use Rattle.clk_sched.specs.declared.visit.Visit.{Visit}
 use Rattle.clk_sched.specs.Results.{emitted}
 use Rattle.clk_sched.specs.Tree.{Tree}
 use Rattle.clk_tree.specs.declared.plan.parts.SenderSpec.{SenderSpec}
 use Rattle.clk_tree.specs.PlanParts.{number_of}
-use Rattle.clk_report.specs.declared.total.Total.{Total}
-use Rattle.clk_report.specs.declared.counts.Counts.{Counts}
-use Rattle.clk_report.specs.Report.{bytes_of, report_text}
-use Rattle.clk_report.specs.Counts.{total_of, counts_of, counts_line, line_with}
-use Rattle.clk_report.proofs.Callers.Counts.{bytes-few, bytes-append, counts-tell}
+use Rattle.clk_report.specs.Report.{report_text}
+use Rattle.clk_report.specs.Counts.{counts_text}
+use Rattle.clk_report.proofs.Callers.Counts.{counts-tell}
 use Rattle.clk_router.specs.declared.accounts.Account.{Account}
-use Rattle.clk_router.specs.Accounts.{length_of, total_of as capped_total, account_after}
+use Rattle.clk_router.specs.Accounts.{capped_total, account_after}
 use Rattle.clk_router.specs.Events.{Room, Setup, Event, sender_numbers, numbers_of, events_at, log_of, logs_of, accepted_in, refused_in, evicted_in, emitted_in, tally_after}
 use Rattle.clk_router.proofs.Callers.Offers.{offered-count}
 use Rattle.clk_router.specs.Settled.{IsCourseAccounted, IsSenderAccounted, emitted_by, offered_of}
-use Rattle.clk_script.specs.AccountLines.{account_line, counts_in, sent_in, total_in}
-
-bytes-are : (packets : List Packet) → sum_by length_of packets ≡ bytes_of packets
-bytes-are [] = refl
-bytes-are (p ∷ packets) = sum_by-cons length_of p packets ∙ ap (λ n. p.length + n) (bytes-are packets)
+use Rattle.clk_script.specs.AccountLines.{account_line}
 
 -- no count of so few packets is capped
-total-is : (packets : List Packet) → length packets < 2 ^ 32 → total_in (capped_total packets) ≡ total_of packets
-total-is packets few = search (rules, bytes-few, bytes-are)
-
--- what was sent is what was accepted and what was refused
-sent-is : (accepted refused : List Packet) → length accepted < 2 ^ 32 → length refused < 2 ^ 32
-    → (sent : Total) → sent.packets ≡ (capped_total accepted).packets + (capped_total refused).packets → sent.bytes ≡ (capped_total accepted).bytes + (capped_total refused).bytes
-    → sent ≡ total_of (accepted ++ refused)
-sent-is accepted refused few less sent packets bytes = search (rules, bytes-few, bytes-are, length-append, bytes-append)
+total-is : (packets : List Packet) → length packets < 2 ^ 32 → capped_total packets ≡ total_of packets
+total-is packets few = search (rules, bytes-few)
 
 -- lists by number, of which one alone has members
 none-there : {X : Type 0} (f : ℕ → List X) (here first count : ℕ) → here < first → ((d : ℕ) → (here == d) ≡ false → f d ≡ []) → flat_map f (range_with_len first count) ≡ []
@@ -69,14 +58,17 @@ all-emitted setup events s room tree a there =
     by-device s.number (λ d. log_of (events_at setup d events)) (range_with_len 0 (length setup.trees))
     ∙ only-there (λ d. of_sender s.number (emitted_by setup d events)) room.device 0 (length setup.trees) (omega arith) (omega (arith, there)) a.elsewhere ∙ sym a.counted
 
-same-counts : (a b : Counts) → a.sender ≡ b.sender → a.sent ≡ b.sent → a.accepted ≡ b.accepted → a.refused ≡ b.refused → a.evicted ≡ b.evicted → a ≡ b
-same-counts a b sender sent accepted refused evicted = λ i. record { sender = sender i; sent = sent i; accepted = accepted i; refused = refused i; evicted = evicted i }
-
 -- the line of a sender's account is that of the report
 line-is : (setup : Setup) (events : List Event) (s : SenderSpec) (room : Room) (tree : Tree) → IsSenderAccounted setup events s room tree → room.device < length setup.trees → length (offered_of events s.number) < 2 ^ 32
-    → account_line (account_after events s) ≡ counts_line (flat_map emitted (logs_of setup events)) (counts_of (tally_after events s.number))
+    → account_line (account_after events s) ≡ counts_text (counts_of (flat_map emitted (logs_of setup events)) (tally_after events s.number))
 line-is setup events s room tree a there few =
-    ap₂ line_with counts (total-is its_emitted few_emitted ∙ ap total_of (sym (all-emitted setup events s room tree a there)))
+    ap counts_text (λ i. record {
+      sender = s.number;
+      accepted = total-is accepted (omega (arith, few, offered_are)) i;
+      refused = total-is refused (omega (arith, few, offered_are)) i;
+      evicted = total-is evicted (omega (arith, few, offered_are, few_gone, gone_are)) i;
+      emitted = (total-is its_emitted few_emitted ∙ ap total_of (sym (all-emitted setup events s room tree a there))) i;
+    })
   where
     accepted : List Packet
     accepted = of_sender s.number (filter_map accepted_in events)
@@ -100,21 +92,13 @@ line-is setup events s room tree a there few =
     few_gone = let all = ap length a.accepted_are ∙ length-append a.gone _ in omega (arith, all)
 
     few_emitted : length its_emitted < 2 ^ 32
-    few_emitted = search (rules, total-is, all-emitted, dealt-length, length-append, same-counts, sent-is, offered_are, gone_are, few_gone)
-
-    counts : counts_in (account_after events s) ≡ counts_of (tally_after events s.number)
-    counts =
-        let fewer : length accepted < 2 ^ 32 = omega (arith, few, offered_are) in
-        let less : length refused < 2 ^ 32 = omega (arith, few, offered_are) in
-        let least : length evicted < 2 ^ 32 = omega (arith, few, offered_are, few_gone, gone_are) in
-        same-counts (counts_in (account_after events s)) (counts_of (tally_after events s.number)) refl (sent-is accepted refused fewer less (sent_in (account_after events s)) refl refl)
-        (total-is accepted fewer) (total-is refused less) (total-is evicted least)
+    few_emitted = search (rules, all-emitted, length-append, offered_are, gone_are, few_gone)
 
 -- the lines of the accounts of some senders
 lines-are : (setup : Setup) (events : List Event) (senders : List SenderSpec)
     → AllByRecursion (λ (s : SenderSpec). MatchOption (slice_get setup.queues s.queue) ⊥ (λ (room : Room). MatchOption (slice_get setup.trees room.device) ⊥ (IsSenderAccounted setup events s room))) senders
     → AllByRecursion (λ s. length (offered_of events s) < 2 ^ 32) (map number_of senders)
-    → flat_map account_line (map (account_after events) senders) ≡ flat_map (counts_line (flat_map emitted (logs_of setup events))) (map counts_of (map (tally_after events) (map number_of senders)))
+    → flat_map account_line (map (account_after events) senders) ≡ flat_map counts_text (map (counts_of (flat_map emitted (logs_of setup events))) (map (tally_after events) (map number_of senders)))
 lines-are setup events [] accounted few = refl
 lines-are setup events (s ∷ senders) accounted few = search (rules, line-is, slice_get_within, (lines-are setup events senders accounted.1 few.1))
 

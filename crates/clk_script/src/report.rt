@@ -1,16 +1,16 @@
 //! The report of a router's senders, by their accounts.
 
-ghost use Rattle.std.specs.Prelude.{◌≡◌, ◌<◌, ◌+◌, ◌^◌, Some, length, map};
+ghost use Rattle.std.specs.Prelude.{◌≡◌, ◌<◌, ◌^◌, Some, length, map};
 ghost use Rattle.std.specs.List.{flat_map, AllByRecursion};
 ghost use Rattle.clk_packet.specs.Bytes.{Wrote};
 ghost use Rattle.clk_router.specs.Accounts.{account_after};
 ghost use Rattle.clk_router.specs.Events.{sender_numbers};
 ghost use Rattle.clk_router.specs.Settled.{offered_of};
 ghost use Rattle.clk_script.specs.Meaning.{ending_text};
-ghost use Rattle.clk_script.specs.AccountLines.{account_line, counts_in, sent_in, total_in};
+ghost use Rattle.clk_script.specs.AccountLines.{account_line};
 
 use clk_packet::{Fault, Sink};
-use clk_report::{Counts, Total, report_line};
+use clk_report::report_line;
 use clk_router::{Account, Router};
 
 /// The lines of its senders' accounts are the report of a router. A law. It reads how many packets each sender has offered: fewer than
@@ -44,55 +44,7 @@ pub fn write_accounts<W: Sink>(accounts: &[Account], writer: &mut W) -> Result<(
         (W.Sink.failures writer.old) (W.Sink.failures writer.new) result (flat_map account_line accounts.now) }
 {
     for account in accounts {
-        write_account(account, writer)?;
+        report_line(&account.counts, writer)?;
     }
     Ok(())
-}
-
-// Writes the line of an account.
-fn write_account<W: Sink>(account: &Account, writer: &mut W) -> Result<(), Fault>
-    ensures { Wrote (W.Sink.taken writer.old) (W.Sink.taken writer.new)
-        (W.Sink.failures writer.old) (W.Sink.failures writer.new) result (account_line account.now) }
-{
-    report_line(&counts_in(account), total_in(account.emitted), writer)
-}
-
-// What a report says of an account, except what was emitted.
-fn counts_in(account: &Account) -> Counts
-    ensures { result ≡ counts_in account.now }
-{
-    Counts {
-        sender: account.sender,
-        sent: sent_in(account),
-        accepted: total_in(account.accepted),
-        refused: total_in(account.refused),
-        evicted: total_in(account.evicted),
-    }
-}
-
-// The total of what was accepted and refused together.
-fn sent_in(account: &Account) -> Total
-    ensures { result ≡ sent_in account.now }
-{
-    Total {
-        packets: sum(account.accepted.packets, account.refused.packets),
-        bytes: sum(account.accepted.bytes, account.refused.bytes),
-    }
-}
-
-// The sum of two counts.
-fn sum(one: u64, other: u64) -> u128
-    ensures { result ≡ one + other }
-{
-    u128::from(one) + u128::from(other)
-}
-
-// A total of an account, as reports have it.
-fn total_in(total: clk_router::Total) -> Total
-    ensures { result ≡ total_in total }
-{
-    Total {
-        packets: u128::from(total.packets),
-        bytes: u128::from(total.bytes),
-    }
 }

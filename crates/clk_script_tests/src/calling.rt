@@ -36,7 +36,7 @@ fn a_packet_goes_through_a_router(rt: HostRuntime) -> Result<(), Fault> {
     assert_eq!(rt; router.moment(0), 3);
     assert_eq!(rt; router.left(0), 0);
     for account in router.accounts() {
-        assert_eq!(rt; account.accepted.packets, 1);
+        assert_eq!(rt; account.counts.accepted.packets, 1);
         assert_eq!(rt; account.emitted.bytes, 64);
         assert_eq!(rt; account.refused.packets, 0);
     }

@@ -180,7 +180,7 @@ pub record CountsAt (old : List Device) (number : ℕ) (outcome : Offered) (new 
   pub only : ChangesDevice old number new
 
 -- An offer with this outcome to a queue is counted at the queue's device. Nothing else changes.
-pub record Counts (old : Parts) (queue : ℕ) (outcome : Offered) (new : Parts) : Type 0 where
+pub record CountsOffer (old : Parts) (queue : ℕ) (outcome : Offered) (new : Parts) : Type 0 where
   pub devices : (device : ℕ) → slice_get old.paths.items queue ≡ Some device → CountsAt old.devices.items device outcome new.devices.items
   pub queues : new.queues ≡ old.queues
   pub senders : new.senders ≡ old.senders

@@ -8,7 +8,7 @@ pub count_evicted-requires-clause-alike : goal.count_evicted-requires-clause-ali
 count_evicted-requires-clause-alike c =
     let old = c.args.accounts.now.items in
     let p = c.args.packet in
-    let taken = taken_in-at old c.args.numbers.now p c.args.place c.requires.alike c.requires.here c.args.place c.index_mut-account.result.now c.requires.rising refl c.index_mut-account.ensures.value c.add-in-Evicted.new.self c.add-in-Evicted.ensures in
+    let taken = taken_in-at old c.args.numbers.now p c.args.place c.requires.alike c.requires.here c.args.place c.index_mut.result.now c.requires.rising refl c.index_mut.ensures.value c.add-in-Evicted.new.total c.add-in-Evicted.ensures in
     ap (map account_sender) taken ∙ taken_in-senders p old ∙ c.requires.alike
 
 pub returns-in-Accepted : goal.returns-in-Accepted
@@ -16,7 +16,7 @@ returns-in-Accepted c =
     let old = c.args.accounts.now.items in
     let p = c.args.packet in
     let counted =
-    taken_in-at old c.args.numbers.now p c.args.place c.requires.alike c.requires.here c.args.place c.index_mut-account.result.now c.requires.rising refl c.index_mut-account.ensures.value c.add.new.self c.add.ensures
+    taken_in-at old c.args.numbers.now p c.args.place c.requires.alike c.requires.here c.args.place c.index_mut.result.now c.requires.rising refl c.index_mut.ensures.value c.add.new.total c.add.ensures
     ∙ ap (λ o. map (noted p o) old) (sym c.in-Accepted.is)
     in
     λ events specs are. counted ∙ ap (map (noted p c.args.outcome)) are ∙ accounts-offered events p c.args.outcome specs
@@ -26,7 +26,7 @@ returns-in-Refused c =
     let old = c.args.accounts.now.items in
     let p = c.args.packet in
     let counted =
-    turned_away-at old c.args.numbers.now p c.args.place c.requires.alike c.requires.here c.args.place c.index_mut-account.result.now c.requires.rising refl c.index_mut-account.ensures.value c.add-in-Refused.new.self c.add-in-Refused.ensures
+    turned_away-at old c.args.numbers.now p c.args.place c.requires.alike c.requires.here c.args.place c.index_mut.result.now c.requires.rising refl c.index_mut.ensures.value c.add-in-Refused.new.total c.add-in-Refused.ensures
     ∙ ap (λ o. map (noted p o) old) (sym c.in-Refused.is)
     in
     λ events specs are. counted ∙ ap (map (noted p c.args.outcome)) are ∙ accounts-offered events p c.args.outcome specs
@@ -35,6 +35,6 @@ pub returns-in-Evicted : goal.returns-in-Evicted
 returns-in-Evicted c =
     let old = c.args.accounts.now.items in
     let p = c.args.packet in
-    let taken = taken_in-at old c.args.numbers.now p c.args.place c.requires.alike c.requires.here c.args.place c.index_mut-account.result.now c.requires.rising refl c.index_mut-account.ensures.value c.add-in-Evicted.new.self c.add-in-Evicted.ensures in
+    let taken = taken_in-at old c.args.numbers.now p c.args.place c.requires.alike c.requires.here c.args.place c.index_mut.result.now c.requires.rising refl c.index_mut.ensures.value c.add-in-Evicted.new.total c.add-in-Evicted.ensures in
     let counted = c.count_evicted.ensures ∙ ap (map (put_out c.in-Evicted.front)) taken ∙ evicted-both p c.in-Evicted.front old ∙ ap (λ o. map (noted p o) old) (sym c.in-Evicted.is) in
     λ events specs are. counted ∙ ap (map (noted p c.args.outcome)) are ∙ accounts-offered events p c.args.outcome specs
