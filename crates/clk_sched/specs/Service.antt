@@ -1,14 +1,16 @@
--- The shares that a DRRSched and a StrideSched give, as laws over whole histories of a node, and over runs of a tree.
+-- The shares that a DRRSched and a StrideSched give, and the rate that a Shaper keeps to, as laws over whole histories of a node, and over
+-- runs of a tree.
 use Rattle.std.specs.Prelude.{◌≡◌, ℕ, ◌+◌, ◌-◌, ◌*◌, ◌<◌, ◌≤◌, ◌==◌, ◌&&◌, List, [], ◌∷◌, ◌++◌, length, map, reverse, max, suc, ⊤, IsSome, if◌then◌else◌}
 use Rattle.std.specs.List.{AllByRecursion}
 use Rattle.clk_packet.specs.Limits.{most_length}
 use Rattle.clk_sched.specs.declared.visit.Visit.{Visit}
-use Rattle.clk_packet.specs.Scheduler.{Scheduler, drr, stride}
+use Rattle.clk_packet.specs.Scheduler.{Scheduler, drr, stride, shaper}
 use Rattle.clk_sched.specs.Tree.{Row, end, leaf, node, Tree, root, width, nodes, is_number}
 use Rattle.clk_sched.specs.Log.{pulls, turn, pulls_below}
 use Rattle.clk_sched.specs.Run.{IsRun}
 use Rattle.clk_sched.specs.Turns.{Turn, giver, all_visits}
 use Rattle.clk_sched.specs.Laws.Deficit.{IsDeficit, arrives, bytes_of, quantum_at}
+use Rattle.clk_sched.specs.Laws.Shaper.{packets_passed}
 use Rattle.clk_sched.specs.Laws.Stride.{stride_of, stride_at, pass_in, passes_of}
 
 -- how many arrivals at an input a range of visits has; the visits before the range are given with the latest first
@@ -63,10 +65,17 @@ pub record SharesByStride (tickets : List ℕ) (turns : List Turn) : Type 0 wher
       → AlwaysGets i (all_visits range) → AlwaysGets j (all_visits range)
       → Near (2 * largest_stride tickets) (packets_given i range * stride_at tickets i) (packets_given j range * stride_at tickets j)
 
+-- A Shaper keeps to its rate: in any unbroken range of pulls at moments from `from` to `until`, as many packets pass as its burst at most,
+-- and its rate for each tick in between.
+pub record KeepsToRate (rate burst : ℕ) (turns : List Turn) : Type 0 where
+  pub passed_few : (before range after : List Turn) → turns ≡ before ++ (range ++ after) → (from until : ℕ) → AllByRecursion (λ (t : Turn). (from ≤ t.moment) × (t.moment ≤ until)) range
+      → 1 ≤ burst → packets_passed range ≤ burst + rate * (until - from)
+
 -- what a scheduler of this class, over so many inputs, shares out in its pulls
 abbrev pub Shares : Scheduler → ℕ → List Turn → Type 0
 Shares (drr quanta) inputs turns = SharesByDeficit quanta inputs turns
 Shares (stride tickets) inputs turns = SharesByStride tickets turns
+Shares (shaper rate burst) inputs turns = KeepsToRate rate burst turns
 Shares class inputs turns = ⊤
 
 -- each scheduler of a row, which stands as for EachObeys, shares out its pulls
@@ -78,6 +87,6 @@ EachShares above pulled first next (node class inputs row) =
     × EachShares next (pulls_below above first pulled) 0 (suc next) inputs
     × EachShares above pulled (suc first) (suc (next + nodes inputs)) row
 
--- In every run of a tree each DRRSched and each StrideSched gives its shares.
+-- In every run of a tree each DRRSched and each StrideSched gives its shares, and each Shaper keeps to its rate.
 abbrev pub SharesOut : Tree → Type 0
 SharesOut tree = (log : List Visit) → IsRun tree log → EachShares 0 (pulls log) 0 1 (root tree)

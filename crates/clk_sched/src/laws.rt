@@ -37,7 +37,8 @@ pub fn runs_conserve_packets()
     ensures few_heads { (tree : _) → leaves_distinct tree ≡ true → HoldsFewHeads tree }
 {}
 
-/// In each run of a tree each DRRSched and each StrideSched gives the shares that its quanta or its tickets say, within bounds.
+/// In each run of a tree each DRRSched and each StrideSched gives the shares that its quanta or its tickets say, within bounds, and each
+/// Shaper keeps to its rate.
 pub fn runs_share_out()
     ensures { (tree : _) → SharesOut tree }
 {}
