@@ -21,6 +21,7 @@ pub mod Bound
 pub mod Service
 pub mod Choice
 pub mod Conservation
+pub mod DeficitRounds
 pub mod FewHeads
 pub mod Closing
 pub mod Drain

@@ -9,6 +9,7 @@ use Rattle.clk_sched.specs.Tree.{Row, end, leaf, node, Tree, root, width, nodes,
 use Rattle.clk_sched.specs.Log.{pulls, turn, pulls_below}
 use Rattle.clk_sched.specs.Run.{IsRun}
 use Rattle.clk_sched.specs.Turns.{Turn, giver, all_visits}
+use Rattle.clk_sched.specs.DeficitRounds.{GoesByRounds}
 use Rattle.clk_sched.specs.Laws.Deficit.{IsDeficit, arrives, bytes_of, quantum_at}
 use Rattle.clk_sched.specs.Laws.Shaper.{packets_passed}
 use Rattle.clk_sched.specs.Laws.Stride.{stride_of, stride_at, pass_in, passes_of}
@@ -73,7 +74,7 @@ pub record KeepsToRate (rate burst : ℕ) (turns : List Turn) : Type 0 where
 
 -- what a scheduler of this class, over so many inputs, shares out in its pulls
 abbrev pub Shares : Scheduler → ℕ → List Turn → Type 0
-Shares (drr quanta) inputs turns = SharesByDeficit quanta inputs turns
+Shares (drr quanta) inputs turns = GoesByRounds quanta inputs turns × SharesByDeficit quanta inputs turns
 Shares (stride tickets) inputs turns = SharesByStride tickets turns
 Shares (shaper rate burst) inputs turns = KeepsToRate rate burst turns
 Shares class inputs turns = ⊤
