@@ -123,10 +123,11 @@ fn held_runs_are_recorded(rt: HostRuntime) -> Result<(), Fault> {
             .accounts()
             .last()
             .expect(&rt, "a sender");
+        let totals = account.counts;
         let counts = (
-            account.refused.packets,
-            account.evicted.packets,
-            account.emitted.packets,
+            totals.refused.packets,
+            totals.evicted.packets,
+            totals.emitted.packets,
         );
         assert_eq!(rt; counts, row.counts);
     }

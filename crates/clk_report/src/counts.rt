@@ -1,7 +1,7 @@
 //! The counts of a sender's packets, in 128 bits.
 
-ghost use Rattle.std.specs.Prelude.{◌≡◌, ◌<◌, ◌^◌};
-ghost use Rattle.clk_packet.specs.Counts.{total_of};
+ghost use Rattle.std.specs.Prelude.{◌≡◌, [], ◌<◌, ◌^◌};
+ghost use Rattle.clk_packet.specs.Counts.{counts_of};
 ghost use Rattle.clk_report.specs.Counts.{sent_in};
 ghost use Rattle.clk_report.specs.inside.Totals.{FitsSent};
 
@@ -11,13 +11,7 @@ use clk_packet::{Counts, Tally, Total};
 /// The counts of the packets that a tally lists, if `emitted` is the total of its sender's packets that all devices emitted. Takes time in
 /// proportion to the packets.
 pub fn counts_of(tally: &Tally, emitted: Total<u128>) -> Counts<u128>
-    ensures counts { result ≡ record {
-      sender = tally.now.sender;
-      accepted = total_of tally.now.accepted;
-      refused = total_of tally.now.refused;
-      evicted = total_of tally.now.evicted;
-      emitted = emitted;
-    } }
+    ensures counts { result ≡ record (counts_of [] tally.now) { emitted = emitted } }
     ensures fits { FitsSent result }
 {
     Counts {

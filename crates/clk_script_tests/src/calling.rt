@@ -37,8 +37,8 @@ fn a_packet_goes_through_a_router(rt: HostRuntime) -> Result<(), Fault> {
     assert_eq!(rt; router.left(0), 0);
     for account in router.accounts() {
         assert_eq!(rt; account.counts.accepted.packets, 1);
-        assert_eq!(rt; account.emitted.bytes, 64);
-        assert_eq!(rt; account.refused.packets, 0);
+        assert_eq!(rt; account.counts.emitted.bytes, 64);
+        assert_eq!(rt; account.counts.refused.packets, 0);
     }
     Ok(())
 }
