@@ -8,7 +8,7 @@ use Rattle.clk_packet.specs.declared.packet.Offered.{Offered}
 use Rattle.clk_packet.specs.declared.packet.Offered.TheVariants.{Accepted, Refused, Evicted}
 use Rattle.clk_ring.specs.Queue.{Queue, holding, IsOffered, IsPulled}
 use Rattle.clk_ring.specs.QueueHistory.{QueueEvent, accept, refuse, evict, give, empty, accepted, gone, held, offer_events, pull_event, NamesOffer, IsInOrder, MayStand, IsFollowedUp, EachStands}
-use Rattle.clk_ring.specs.Laws.{LeadsTo, CallsAreHistory, HistoriesLeaveNoChoice}
+use Rattle.clk_ring.specs.Laws.{LeadsTo, CallsAreHistory, HistoriesAreCalls, HistoriesLeaveNoChoice}
 use Rattle.clk_ring.proofs.Histories.{Holds, accepted-append, gone-append, holds-more, held-is, in-order, stands-join, stands-after, in-order-begin, in-order-end}
 
 -- what the queue at the end of a history holds, and that this fits
@@ -141,4 +141,41 @@ leaves-no_choice =
       answers = λ kind capacity events one other more rest a b.
           sym (tells-pull kind capacity events one more (stands-after kind capacity [] events (pull_event one ∷ more) a))
           ∙ tells-pull kind capacity events other rest (stands-after kind capacity [] events (pull_event other ∷ rest) b);
+    }
+
+-- events lead to one queue of a kind and a capacity
+leads-same : (events : List QueueEvent) (a b : Queue) → b.kind ≡ a.kind → b.capacity ≡ a.capacity → LeadsTo events a → LeadsTo events b → a ≡ b
+leads-same events a b kind capacity h k = λ i. record { kind = sym kind i; capacity = sym capacity i; packets = (sym h.holds ∙ k.holds) i }
+
+-- what stands at the front
+front-first : (packets : List Packet) (p : Packet) → slice_get packets 0 ≡ Some p → (rest : List Packet) × (packets ≡ p ∷ rest)
+front-first [] p e = absurd (cc)
+front-first (q ∷ rest) p e = (rest, let same : q ≡ p = cc in ap (λ r. r ∷ rest) same)
+
+-- the queue after an offer with this outcome, and after a pull with this result
+offer-made : (q : Queue) (p : Packet) (outcome : Offered) → TellsOffer q.kind q.capacity q.packets p outcome → (new : Queue) × IsOffered q p outcome new × (q.kind ≡ new.kind) × (q.capacity ≡ new.capacity)
+offer-made q p Accepted tells = (holding q (q.packets ++ p ∷ []), (tells, refl), refl, refl)
+offer-made q p (Refused r) tells = (q, (tells.0, tells.1, tells.2, refl), refl, refl)
+offer-made q p (Evicted front) tells =
+    let first = front-first q.packets front tells.2 in
+    (holding q (first.0 ++ p ∷ []), (tells.0, tells.1, (first.0, first.1, refl)), refl, refl)
+
+pull-made : (q : Queue) (got : Option Packet) → slice_get q.packets 0 ≡ got → (new : Queue) × IsPulled q got new × (q.kind ≡ new.kind) × (q.capacity ≡ new.capacity)
+pull-made q got is = (holding q (drop 1 q.packets), pulls-front q (holding q (drop 1 q.packets)) got (sym is) refl, refl, refl)
+
+-- what stands in the history of a queue, after the history of the one before
+stands-on : (events next : List QueueEvent) (old new : Queue) → new.kind ≡ old.kind → new.capacity ≡ old.capacity → LeadsTo (events ++ next) new → EachStands old.kind old.capacity events next
+stands-on events next old new kind capacity leads = stands-after old.kind old.capacity [] events next (rw (sym kind, sym capacity) leads.whole)
+
+pub histories-are_calls : HistoriesAreCalls
+histories-are_calls =
+    record {
+      offered = λ events old new p outcome names kind capacity was is.
+          let stand = subst (EachStands old.kind old.capacity events) (sym (append-nil (offer_events p outcome))) (stands-on events (offer_events p outcome) old new kind capacity is) in
+          let made = offer-made old p outcome (subst (λ l. TellsOffer old.kind old.capacity l p outcome) was.holds (tells-offer old.kind old.capacity events p outcome [] names stand)) in
+          subst (IsOffered old p outcome) (leads-same _ made.0 new (kind ∙ made.2) (capacity ∙ made.3) (offered-on events old made.0 p outcome was made.1) is) made.1;
+      pulled = λ events old new got kind capacity was is.
+          let stand = stands-on events (pull_event got ∷ []) old new kind capacity is in
+          let made = pull-made old got (ap (λ l. slice_get l 0) (sym was.holds) ∙ tells-pull old.kind old.capacity events got [] stand) in
+          subst (IsPulled old got) (leads-same _ made.0 new (kind ∙ made.2) (capacity ∙ made.3) (pulled-on events old made.0 got was made.1) is) made.1;
     }

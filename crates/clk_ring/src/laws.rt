@@ -2,12 +2,17 @@
 
 ghost use Rattle.clk_packet.specs.declared.packet.Kind.TheVariants.{TailDrop, FrontDrop};
 ghost use Rattle.clk_ring.specs.QueueHistory.{IsQueueHistory, empty};
-ghost use Rattle.clk_ring.specs.Laws.{CallsAreHistory, HistoriesLeaveNoChoice};
+ghost use Rattle.clk_ring.specs.Laws.{CallsAreHistory, HistoriesAreCalls, HistoriesLeaveNoChoice};
 ghost use Rattle.clk_ring.specs.Examples.{tail_dropped, front_dropped, two_held, order_turned, other_given, nothing_given, put_out_at_end, put_out_before, newest_put_out, given_in_between, refuses_second, puts_out_second};
 
 /// Calls on a ring, one after another from when it is made, are a history of it.
 pub fn calls_are_history()
     ensures { CallsAreHistory }
+{}
+
+/// Each offer and each pull in a history of a queue is a call on it. So a history is told by its steps, and by nothing else.
+pub fn histories_are_calls()
+    ensures { HistoriesAreCalls }
 {}
 
 /// The outcome of an offer and the result of a pull follow from what happened to the queue before.

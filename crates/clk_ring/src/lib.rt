@@ -4,5 +4,7 @@
 mod laws;
 mod ring;
 
-pub use laws::{calls_are_history, histories_leave_no_choice, history_examples};
+pub use laws::{
+    calls_are_history, histories_are_calls, histories_leave_no_choice, history_examples,
+};
 pub use ring::Ring;
