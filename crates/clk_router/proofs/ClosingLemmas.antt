@@ -1,7 +1,7 @@
 -- How a device of a router closes.
 use Rattle.std.proofs.Common.{◌≡◌, ℕ, ◌+◌, ◌<◌, ◌==◌, zero, suc, Bool, true, false, List, [], ◌∷◌, ◌++◌, length, drop, map, reverse, max, fold, append-nil, Option, Some, MatchOption, slice_get, refl, sym, ap, ap₂, ◌∙◌, subst, arith}
 use Rattle.std.specs.Bool.{⊤}
-use Rattle.std.specs.List.{filter_map, flat_map, range_with_len}
+use Rattle.std.specs.List.{filter_map, flat_map, range_with_len, AllByRecursion}
 use Rattle.std.proofs.lemmas.List.Elements.{filter-append}
 use Rattle.std.proofs.Math.Seq.{drop-append_seam}
 use Rattle.std.proofs.lemmas.List.Concat.{flat_map-append}
@@ -22,7 +22,7 @@ use Rattle.clk_sched.specs.declared.session.departures.Departure.{Departure}
 use Rattle.clk_router.specs.declared.devices.Device.{Device}
 use Rattle.clk_router.specs.declared.parts.Parts.{Parts}
 use Rattle.clk_router.specs.Events.{Setup, Event, pulled, happens_at, events_at, moment_in, accepted_in, evicted_in, visits_in, log_of, at_queue, history, RunsTree, closing_pulls}
-use Rattle.clk_router.specs.inside.Parts.{AreQueuesAt, IsDeviceAt, AreDevicesAt, KeepsAsAt, IsAt, CanPullAt, CanCloseAt, LeadsOnByPulls, ClosesBy}
+use Rattle.clk_router.specs.inside.Parts.{AreQueuesAt, IsDeviceAt, AreDevicesAt, KeepsAsAt, HasSentFew, IsAt, CanPullAt, CanCloseAt, LeadsOnByPulls, ClosesBy}
 use Rattle.clk_router.proofs.Callers.Events.{events-pulls, pulls-elsewhere, pulls-log, pulls-add_none, pulls-history, latest-moment, RunsTree-pulls, CanHappen-pulls}
 use Rattle.clk_router.proofs.SenderLemmas.{senders-closed}
 use Rattle.clk_router.proofs.PartsLemmas.{its-history, StandAt, gives, queues-answered, IsHere, device-here, devices-same, IsSetAt, kinds-set}
@@ -85,6 +85,7 @@ module _ (calls : CallsAreHistory) (setup : Setup) (events : List Event) (old ne
             (λ q. its-history (history setup q (events ++ last)) (slice_get setup.queues q) (slice_get new.queues.rings.items q) (queues q));
         senders = ap (λ ss. ss.items) senders ∙ at.senders ∙ senders-closed events d start dr.more setup.senders;
         numbers = ap (λ ns. ns.items) numbers ∙ at.numbers;
+        sent = subst (λ ss. AllByRecursion HasSentFew ss.items) (sym senders) at.sent;
         queues = queues;
         count = answered.count;
         devices = devices_go;

@@ -1,5 +1,5 @@
 -- Bits of a set of queues.
-use Rattle.std.proofs.Common.{◌≡◌, ◌≢◌, ℕ, ◌+◌, ◌*◌, ◌/◌, ◌%◌, ◌^◌, ◌<◌, ◌-◌, ◌⊎◌, inl, inr, List, length, slice_index, slice_set, get_or, refl, sym, ap, ◌∙◌, subst, arith, w64, div-le_self, lt_of_le_of_lt}
+use Rattle.std.proofs.Common.{◌≡◌, ◌≢◌, ℕ, ◌+◌, ◌*◌, ◌/◌, ◌%◌, ◌^◌, ◌<◌, ◌⊎◌, inl, inr, List, length, slice_index, slice_set, get_or, sym, ap, ◌∙◌, arith, w64, div-le_self, lt_of_le_of_lt}
 use Rattle.std.specs.Int.{bit_at, trailing_zeros}
 use Rattle.std.proofs.lemmas.Bool.{cases_eq}
 use Rattle.std.proofs.lemmas.Nat.{shr-shr}

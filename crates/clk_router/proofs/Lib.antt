@@ -7,6 +7,7 @@ mod PartsLemmas
 mod ClosingLemmas
 mod QueueCounts
 mod FilledLemmas
+mod NeverFull
 mod NeverShort
 mod PlanLemmas
 mod RouterLemmas

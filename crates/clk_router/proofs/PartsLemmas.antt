@@ -1,7 +1,6 @@
 -- How the parts of a router go on by one event.
-use Rattle.std.proofs.Common.{◌≡◌, ℕ, ◌+◌, ◌<◌, ◌==◌, ◌&&◌, zero, suc, Bool, true, false, List, [], ◌∷◌, ◌++◌, length, map, drop, reverse, max, set, if◌then◌else◌, Option, Some, None, Result, Ok, Err, IfOk, OnOk, MatchOption, Vec, slice_get, slice_set, get_or, refl, sym, ap, ap₂, ◌∙◌, subst, arith, rules}
+use Rattle.std.proofs.Common.{◌≡◌, ℕ, ◌+◌, ◌<◌, ◌^◌, ◌==◌, ◌&&◌, zero, suc, Bool, true, false, List, [], ◌∷◌, ◌++◌, length, map, drop, reverse, max, set, if◌then◌else◌, Option, Some, None, Result, Ok, Err, IfOk, OnOk, MatchOption, slice_get, slice_set, get_or, refl, sym, ap, ap₂, ◌∙◌, subst, arith, rules}
 use Rattle.std.specs.Bool.{⊤}
-use Rattle.std.specs.declared.alloc.Global.{Global}
 use Rattle.std.specs.List.{AllByRecursion, list_any}
 use Rattle.std.proofs.lemmas.List.{append_assoc, append-nil, length-append, length-map}
 use Rattle.std.proofs.lemmas.List.Concat.{flat_map-append}
@@ -33,10 +32,10 @@ use Rattle.clk_router.specs.declared.devices.Device.{Device}
 use Rattle.clk_router.specs.declared.parts.Parts.{Parts}
 use Rattle.clk_router.specs.Events.{Room, Setup, room_of, setup_of, sender_numbers, is_at, is_of_device, Event, offered, pulled, happens_at, events_at, numbers_of, log_of, sends_to, answers_in, at_queue, history, RunsTree}
 use Rattle.clk_router.specs.Course.{room_device}
-use Rattle.clk_router.specs.inside.Parts.{path_made, device_made, sender_made, sent_one_more, AreQueuesAt, IsDeviceAt, AreDevicesAt, IsAt, CanSendOn, CanCount, ChangesDevice, kept_by, CountsHere, CountsAt, CountsOffer, KeepsAs, KeepsAsAt, LeadsOnByPull}
+use Rattle.clk_router.specs.inside.Parts.{path_made, device_made, sender_made, sent_one_more, AreQueuesAt, IsDeviceAt, AreDevicesAt, HasSentFew, IsAt, CanSendOn, CanOfferAt, CanCount, ChangesDevice, kept_by, CountsHere, CountsAt, KeepsAs, KeepsAsAt, LeadsOnByPull}
 use Rattle.clk_router.specs.inside.Queues.{packets_at, queue_made, OffersTo, PullsFrom, OffersAt, GivesAt}
 use Rattle.clk_router.proofs.Callers.Events.{events-here, events-elsewhere, RunsTree-pulled, CanHappen-offer, CanHappen-pull, log-pulled}
-use Rattle.clk_router.proofs.SenderLemmas.{senders-pulled, senders-sent, passes-its, sends-its, IsSpecAt, spec-at}
+use Rattle.clk_router.proofs.SenderLemmas.{IsSenderAt, sender-at, senders-pulled, senders-sent, passes-its, sends-its, IsSpecAt, spec-at}
 
 -- a member at a place below the length
 pub record IsMember {X : Type 0} (xs : List X) (i : ℕ) : Type 0 where
@@ -192,9 +191,36 @@ can-count [] d can = absurd can
 can-count (device ∷ devices) zero can = omega arith
 can-count (device ∷ devices) (suc d) can = let below = can-count devices d can in omega (arith, below)
 
--- An outcome counts one packet more at the device of its queue.
-pub counts-one : (old : List Device) (d : ℕ) (before : Device) (new : List Device) → IsSetAt old d before (record { session = before.session; kept = before.kept + 1 }) new → CountsAt old d Accepted new
-counts-one old d before new set = search rules
+-- A sender that can offer a packet: it stands at its place, with its number, its queue, and the device of its queue, which can count one more.
+pub record IsSending (parts : Parts) (place : ℕ) (s : Sender) (device : ℕ) : Type 0 where
+  pub here : slice_get parts.senders.items place ≡ Some s
+  pub number : slice_get parts.numbers.items place ≡ Some s.number
+  pub queue : s.queue < length parts.queues.rings.items
+  pub more : s.sent + 1 < 2 ^ 32
+  pub path : slice_get parts.paths.items s.queue ≡ Some device
+  pub within : device < length parts.devices.items
+  pub counts : CanCount (slice_get parts.devices.items device)
+
+-- what an offer reads of its sender and its device
+pub sending-at : (parts : Parts) (place : ℕ) (s : Sender) (i device : ℕ) → CanOfferAt parts place → s ≡ get_or parts.senders.items place s → i ≡ s.queue → device ≡ get_or parts.paths.items i device → IsSending parts place s device
+sending-at parts place s i device can is same read =
+    record { here = its.here; number = its.number; queue = sends.0; more = sends.1; path = path; within = can-count parts.devices.items device counts; counts = counts }
+  where
+    its : IsSenderAt parts.senders.items parts.numbers.items place s
+    its = sender-at parts.senders.items parts.numbers.items place s can.alike (can-send (length parts.queues.rings.items) parts.senders.items place can.can_send) is
+
+    sends : (s.queue < length parts.queues.rings.items) × (s.sent + 1 < 2 ^ 32)
+    sends = subst (CanSendOn (length parts.queues.rings.items)) its.here can.can_send
+
+    path : slice_get parts.paths.items s.queue ≡ Some device
+    path = slice_get_read parts.paths.items _ s.queue device refl (let count = can.path_count in let low = sends.0 in omega (arith, count, low)) (read ∙ ap (λ k. get_or parts.paths.items k device) same)
+
+    counts : CanCount (slice_get parts.devices.items device)
+    counts = can.counts device s its.here path
+
+-- An outcome is counted at one device.
+pub counts-at : (old : List Device) (d : ℕ) (before after : Device) (outcome : Offered) (new : List Device) → IsSetAt old d before after new → after.session ≡ before.session → after.kept ≡ before.kept + kept_by outcome → CountsAt old d outcome new
+counts-at old d before after outcome new set session kept = search rules
 
 -- What one device keeps may change, where only it does.
 pub kinds-changed : (keeps : Keeps) (old : List Device) (d : ℕ) (new : List Device) → ChangesDevice old d new → (KeepsAsAt keeps (slice_get old d) → KeepsAsAt keeps (slice_get new d))
@@ -231,37 +257,36 @@ at-offered calls events (Some room) (Some old) (Some new) p outcome is h =
     let keeps = offered-keeps old new p outcome h in
     record { leads = calls.offered events old new p outcome is.leads h; kind = keeps.0 ∙ is.kind; capacity = keeps.1 ∙ is.capacity }
 
+-- all members of a list still pass a test where one of them is replaced
+all-set : {X : Type 0} (P : X → Type 0) (xs : List X) (i : ℕ) (x : X) → AllByRecursion P xs → P x → AllByRecursion P (set xs i x)
+all-set P [] i x all here = tt
+all-set P (y ∷ xs) zero x all here = (here, all.1)
+all-set P (y ∷ xs) (suc i) x all here = (all.0, all-set P xs i x all.1 here)
+
 -- An offer of the sender at a place leads on.
-pub IsAt-sent : CallsAreHistory → (setup : Setup) (events : List Event) (old mid new : Parts) (place device : ℕ) (s : Sender) (p : Packet) (outcome : Offered) → CountsOffer mid s.queue outcome new → IsAt setup events old
-    → AreRising old.numbers.items → slice_get old.paths.items s.queue ≡ Some device → slice_get old.senders.items place ≡ Some s → p.number ≡ s.sent → p.sender ≡ s.number → OffersAt old.queues.rings.items s.queue p outcome mid.queues.rings.items
-    → mid.senders.items ≡ set old.senders.items place (sent_one_more s) → mid.numbers ≡ old.numbers → mid.devices ≡ old.devices → mid.paths ≡ old.paths → mid.keeps ≡ old.keeps → IsAt setup (events ++ offered p outcome ∷ []) new
-IsAt-sent calls setup events old mid new place device s p outcome counts at rising path here number sender offered_at senders numbers devices paths keeps =
+pub IsAt-sent : CallsAreHistory → (setup : Setup) (events : List Event) (old new : Parts) (place device : ℕ) (s : Sender) (p : Packet) (outcome : Offered) → CountsAt old.devices.items device outcome new.devices.items → IsAt setup events old
+    → AreRising old.numbers.items → slice_get old.paths.items s.queue ≡ Some device → slice_get old.senders.items place ≡ Some s → s.sent + 1 < 2 ^ 32 → p.number ≡ s.sent → p.sender ≡ s.number → OffersAt old.queues.rings.items s.queue p outcome new.queues.rings.items
+    → new.senders.items ≡ set old.senders.items place (sent_one_more s) → new.numbers ≡ old.numbers → new.paths ≡ old.paths → new.keeps ≡ old.keeps → IsAt setup (events ++ offered p outcome ∷ []) new
+IsAt-sent calls setup events old new place device s p outcome counted at rising path here more_room number sender offer senders numbers paths keeps =
     record {
       can_happen =
           CanHappen-offer setup events p outcome at.can_happen (ap (λ k. list_any (λ n. n == k) (sender_numbers setup)) its_number ∙ number-there setup.senders place theirs.spec theirs.here)
           (number ∙ ap (λ (t : Sender). t.sent) theirs.is ∙ ap (λ n. length (numbers_of n events)) (sym its_number))
           (names-at (slice_get old.queues.rings.items s.queue) (slice_get new.queues.rings.items s.queue) p outcome offer.here)
           (λ q. its-history (history setup q more) (slice_get setup.queues q) (slice_get new.queues.rings.items q) (queues q));
-      senders =
-          ap (λ ss. ss.items) counts.senders ∙ senders ∙ ap₂ (λ ss (t : Sender). set ss place (sent_one_more t)) at.senders theirs.is ∙ senders-sent events p outcome setup.senders place theirs.spec its_rising theirs.here its_number;
-      numbers = ap (λ ns. ns.items) (counts.numbers ∙ numbers) ∙ at.numbers;
+      senders = senders ∙ ap₂ (λ ss (t : Sender). set ss place (sent_one_more t)) at.senders theirs.is ∙ senders-sent events p outcome setup.senders place theirs.spec its_rising theirs.here its_number;
+      numbers = ap (λ ns. ns.items) numbers ∙ at.numbers;
+      sent = subst (AllByRecursion HasSentFew) (sym senders) (all-set HasSentFew old.senders.items place (sent_one_more s) at.sent more_room);
       queues = queues;
       count = offer.only.count ∙ at.count;
       devices = devices_go;
-      device_count = counted.only.count ∙ ap (λ ds. length ds.items) devices ∙ at.device_count;
-      paths = ap (λ ps. ps.items) (counts.paths ∙ paths) ∙ at.paths;
+      device_count = counted.only.count ∙ at.device_count;
+      paths = ap (λ ps. ps.items) paths ∙ at.paths;
       kinds =
-          subst (λ (keeps : Keeps). (k : ℕ) → KeepsAsAt keeps (slice_get new.devices.items k)) (sym (counts.keeps ∙ keeps))
-          (kinds-changed old.keeps mid.devices.items device new.devices.items counted.only (kinds-counted old.keeps outcome (slice_get mid.devices.items device) (slice_get new.devices.items device) counted.here)
-          (subst (λ (ds : Vec Device Global). (k : ℕ) → KeepsAsAt old.keeps (slice_get ds.items k)) (sym devices) at.kinds));
+          subst (λ (keeps : Keeps). (k : ℕ) → KeepsAsAt keeps (slice_get new.devices.items k)) (sym keeps)
+          (kinds-changed old.keeps old.devices.items device new.devices.items counted.only (kinds-counted old.keeps outcome (slice_get old.devices.items device) (slice_get new.devices.items device) counted.here) at.kinds);
     }
   where
-    counted : CountsAt mid.devices.items device outcome new.devices.items
-    counted = counts.devices device (ap (λ ps. slice_get ps.items s.queue) paths ∙ path)
-
-    offer : OffersAt old.queues.rings.items s.queue p outcome new.queues.rings.items
-    offer = subst (λ (qs : Queues). OffersAt old.queues.rings.items s.queue p outcome qs.rings.items) (sym counts.queues) offered_at
-
     more : List Event
     more = events ++ offered p outcome ∷ []
 
@@ -306,12 +331,11 @@ IsAt-sent calls setup events old mid new place device s p outcome counts at risi
         by_test true f =
             let same : device ≡ d = grind (arith, nat_tests) in
             subst (λ l. AreDevicesAt l (slice_get setup.trees d) (slice_get new.devices.items d)) (sym (events-here setup d events (offered p outcome) (happens d ∙ f)))
-            (counts-here (events_at setup d events) (slice_get setup.trees d) (slice_get mid.devices.items d) (slice_get new.devices.items d) p outcome
-            (subst (λ (ds : Vec Device Global). AreDevicesAt (events_at setup d events) (slice_get setup.trees d) (slice_get ds.items d)) (sym devices) (at.devices d))
-            (subst (λ n. CountsHere outcome (slice_get mid.devices.items n) (slice_get new.devices.items n)) same counted.here))
+            (counts-here (events_at setup d events) (slice_get setup.trees d) (slice_get old.devices.items d) (slice_get new.devices.items d) p outcome (at.devices d)
+            (subst (λ n. CountsHere outcome (slice_get old.devices.items n) (slice_get new.devices.items n)) same counted.here))
         by_test false f =
             devices-same (events_at setup d events) (events_at setup d more) (slice_get setup.trees d) (slice_get old.devices.items d) (slice_get new.devices.items d)
-            (sym (events-elsewhere setup d events (offered p outcome) (happens d ∙ f))) (counted.only.others d f ∙ ap (λ ds. slice_get ds.items d) devices) (at.devices d)
+            (sym (events-elsewhere setup d events (offered p outcome) (happens d ∙ f))) (counted.only.others d f) (at.devices d)
 
 -- A pull of a device, which changes the session of no other, leads on.
 pub IsAt-pulled : CallsAreHistory → (setup : Setup) (events : List Event) (old new : Parts) (d moment : ℕ) (before after : Device) (got : Option Packet) → IsAt setup events old → slice_get old.devices.items d ≡ Some before
@@ -330,6 +354,7 @@ IsAt-pulled calls setup events old new d moment before after got at was is chang
             (λ q. its-history (history setup q more) (slice_get setup.queues q) (slice_get new.queues.rings.items q) (queues q));
         senders = ap (λ ss. ss.items) senders ∙ at.senders ∙ senders-pulled events d moment visits setup.senders;
         numbers = ap (λ ns. ns.items) numbers ∙ at.numbers;
+        sent = subst (λ ss. AllByRecursion HasSentFew ss.items) (sym senders) at.sent;
         queues = queues;
         count = answered.count;
         devices = devices_go;
@@ -393,11 +418,15 @@ paths-made : (queues : List Queued) → map path_made queues ≡ map room_device
 paths-made [] = refl
 paths-made (q ∷ queues) = ap (λ l. q.device ∷ l) (paths-made queues)
 
+made-few : (senders : List SenderSpec) → AllByRecursion HasSentFew (map sender_made senders)
+made-few [] = tt
+made-few (s ∷ senders) = (omega arith, made-few senders)
+
 -- The parts of a router to which nothing has happened.
 pub IsAt-made : CallsAreHistory → (names : List (List ℕ)) (trees : List Tree) (queues : List Queued) (senders : List SenderSpec) (parts : Parts) → ((tree : Tree) → IsRun tree [])
     → parts.devices.items ≡ map (device_made parts.keeps) trees → parts.queues.rings.items ≡ map queue_made queues → parts.paths.items ≡ map path_made queues → parts.senders.items ≡ map sender_made senders
     → parts.numbers.items ≡ map number_of senders → IsAt (setup_of names trees queues senders) [] parts
-IsAt-made calls names trees queues senders parts run devices_are queues_are paths_are senders_are numbers_are = search (rules, slice_get-map, length-map, paths-made)
+IsAt-made calls names trees queues senders parts run devices_are queues_are paths_are senders_are numbers_are = search (rules, slice_get-map, length-map, paths-made, made-few)
 
 -- Queues as they are made hold nothing.
 pub made-hold-none : (specs : List Queued) (q : ℕ) → packets_at (map queue_made specs) q ≡ []

@@ -1,5 +1,5 @@
 -- Where a number stands among numbers that rise.
-use Rattle.std.proofs.Common.{◌≡◌, ◌≢◌, ℕ, ◌+◌, ◌<◌, ◌≤◌, ◌==◌, nat_lt, zero, suc, Bool, true, false, List, [], ◌∷◌, length, get_or, slice_get, Option, Some, None, Result, Ok, Err, IfSome, refl, sym, ap, ◌∙◌, arith, rules}
+use Rattle.std.proofs.Common.{◌≡◌, ◌≢◌, ℕ, ◌+◌, ◌<◌, ◌≤◌, ◌^◌, ◌==◌, nat_lt, zero, suc, Bool, true, false, List, [], ◌∷◌, length, get_or, slice_get, Option, Some, None, Result, Ok, Err, IfSome, refl, sym, ap, ◌∙◌, arith, rules}
 use Rattle.std.specs.Result.{result_ok}
 use Rattle.std.specs.List.{AllByRecursion, list_any}
 use Rattle.std.specs.List.Sorted.{IsSearchInRange, IsBinarySearchResult, IsNonDecreasingBy}
@@ -39,6 +39,14 @@ pub place-low : (numbers : List ℕ) (n place : ℕ) → AreRising numbers → s
 place-low [] n place rising is = absurd (cc)
 place-low (s ∷ numbers) n zero rising is = omega arith
 place-low (s ∷ numbers) n (suc place) rising is = let rest = place-above s numbers n place rising.0 rising.1 is in omega (arith, rest)
+
+-- numbers that rise are no more than the range that they are in
+pub rising-few : (numbers : List ℕ) → AreRising numbers → ((place : ℕ) → get_or numbers place 0 < 2 ^ 16) → length numbers ≤ 2 ^ 16
+rising-few [] rising small = omega arith
+rising-few (s ∷ numbers) rising small =
+    let last = small (length numbers) in
+    let low = place-low (s ∷ numbers) (get_or (s ∷ numbers) (length numbers) 0) (length numbers) rising (slice_get-get_or (s ∷ numbers) (length numbers) 0 (omega arith)) in
+    omega (arith, last, low)
 
 -- what a binary search says
 pub record IsSearched (numbers : List ℕ) (n : ℕ) (o : Option ℕ) : Type 0 where

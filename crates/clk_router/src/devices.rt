@@ -4,7 +4,7 @@ ghost use Rattle.std.specs.Prelude.{◌≡◌, map, IfOk, IsOkUnless};
 ghost use Rattle.std.specs.List.{AllByRecursion};
 ghost use Rattle.clk_router.specs.inside.Parts.{device_made, CanStand};
 
-use clk_packet::Fault;
+use clk_packet::{Fault, Offered};
 use clk_sched::{Keeps, Session, Tree};
 use std::alloc::Global;
 
@@ -15,6 +15,23 @@ pub struct Device {
     pub session: Session,
     /// How many packets its queues accepted and didn't evict for later ones.
     pub kept: u64,
+}
+
+impl Device {
+    ghost use Rattle.std.specs.Prelude.{◌≡◌, ◌+◌, ◌<◌};
+    ghost use Rattle.clk_router.specs.Course.{end_of_packets};
+    ghost use Rattle.clk_router.specs.inside.Parts.{kept_by};
+
+    /// Counts an offer with this outcome to one of its queues.
+    pub fn count(&mut self, outcome: Offered)
+        requires { self.old.kept < end_of_packets }
+        ensures kept { self.new.kept ≡ self.old.kept + kept_by outcome }
+        ensures session { self.new.session ≡ self.old.session }
+    {
+        if let Offered::Accepted = outcome {
+            self.kept += 1;
+        }
+    }
 }
 
 /// A device for each of these trees, before its first pull. `keeps` says what it keeps of the past. Fault 1 if an allocation fails.

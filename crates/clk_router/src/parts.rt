@@ -38,7 +38,7 @@ impl Parts {
     ghost use Rattle.clk_sched.specs.Results.{emitted};
     ghost use Rattle.clk_tree.specs.PlanParts.{queued, HasCapacity};
     ghost use Rattle.clk_router.specs.Events.{Setup, Event, offered, setup_of};
-    ghost use Rattle.clk_router.specs.inside.Parts.{CanStand, CanOfferAt, CanPullAt, CanCloseAt, CanCount, CountsOffer, CountsLeft, IsAt, IsWhole, LeadsOnByPull, LeadsOnByPulls, ClosesBy, Stand, IsSessionDue};
+    ghost use Rattle.clk_router.specs.inside.Parts.{CanStand, CanOfferAt, CanPullAt, CanCloseAt, CountsLeft, IsAt, IsWhole, LeadsOnByPull, LeadsOnByPulls, ClosesBy, Stand, IsSessionDue};
 
     /// The parts of a router before anything has happened. `keeps` says what its devices keep of the past. Fault 1 if an allocation fails.
     pub fn new(
@@ -84,20 +84,9 @@ impl Parts {
         let queue = sender.queue;
         let packet = sender.next_packet(length);
         let outcome = self.queues.offer(queue, packet);
-        self.count(queue, outcome);
+        let device = self.paths[usize::from(queue)];
+        self.devices[usize::from(device)].count(outcome);
         (packet, outcome)
-    }
-
-    /// Counts an offer with this outcome at the device of a queue.
-    fn count(&mut self, queue: u16, outcome: Offered)
-        requires there { queue < length self.old.paths.items }
-        requires counts { (device : _) → slice_get self.old.paths.items queue ≡ Some device → CanCount (slice_get self.old.devices.items device) }
-        ensures { CountsOffer self.old queue outcome self.new }
-    {
-        if let Offered::Accepted = outcome {
-            let device = self.paths[usize::from(queue)];
-            self.devices[usize::from(device)].kept += 1;
-        }
     }
 
     /// Pulls a device once, at this moment in ticks, or at the device's latest moment if that is later. Fault 1 if an allocation for what

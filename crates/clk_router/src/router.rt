@@ -7,11 +7,10 @@ ghost use Rattle.clk_packet.specs.declared.fault.Fault.TheVariants.{Memory};
 ghost use Rattle.clk_tree.specs.Shares.{AreTreesOf};
 ghost use Rattle.clk_router.specs.inside.Parts.{CanStand};
 
-use crate::limits::END_OF_PACKETS;
 use crate::parts::Parts;
 use crate::past::Past;
 use crate::queue_state::QueueState;
-use crate::senders::place_of;
+use crate::senders::{are_few, place_of};
 use clk_packet::{Fault, Offered, Packet};
 use clk_sched::{
     Departure, END_OF_MOMENTS, END_OF_PULLS, Keeps, Tree, Visit, closing_bound_is_enough,
@@ -164,11 +163,10 @@ impl Router {
         let Some(sender) = self.parts.senders.get(place) else {
             return false;
         };
-        if sender.sent < u32::MAX {
-            let device = self.parts.paths[usize::from(sender.queue)];
-            return self.parts.devices[usize::from(device)].kept < END_OF_PACKETS;
-        }
-        false
+        // Its device always takes one more. There are 65,536 senders at most, by this law, which does nothing, and each has offered fewer
+        // than 2^32 packets.
+        are_few(self.senders());
+        sender.sent < u32::MAX
     }
 
     /// How many packets the sender at this place has offered.

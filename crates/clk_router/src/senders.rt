@@ -1,6 +1,6 @@
 //! The senders of a router.
 
-ghost use Rattle.std.specs.Prelude.{◌≡◌, ◌==◌, false, None, Some, map, slice_get, IfSome, IfOk, IsOkUnless};
+ghost use Rattle.std.specs.Prelude.{◌≡◌, ◌≤◌, ◌^◌, ◌==◌, false, length, None, Some, map, slice_get, IfSome, IfOk, IsOkUnless};
 ghost use Rattle.std.specs.List.{list_any};
 ghost use Rattle.clk_packet.specs.Lists.{AreRising};
 ghost use Rattle.clk_tree.specs.PlanParts.{number_of};
@@ -88,3 +88,9 @@ pub fn place_of(numbers: &[u16], number: u16) -> Option<u16>
     // It fits, since rising numbers are no less than their places.
     Some(place as u16)
 }
+
+/// Rising numbers of 16 bits are 65,536 at most. A law, which does nothing.
+pub fn are_few(numbers: &[u16])
+    requires rising { AreRising numbers.now }
+    ensures { length numbers.now ≤ 2 ^ 16 }
+{}

@@ -99,11 +99,16 @@ abbrev pub KeepsAsAt : Keeps → Option Device → Type 0
 KeepsAsAt keeps None = ⊤
 KeepsAsAt keeps (Some device) = KeepsAs keeps device
 
+-- A sender has sent fewer than 2^32 packets.
+abbrev pub HasSentFew : Sender → Type 0
+HasSentFew s = s.sent < 2 ^ 32
+
 -- The parts are where these events lead over a setup.
 pub record IsAt (setup : Setup) (events : List Event) (parts : Parts) : Type 0 where
   pub can_happen : CanHappen setup events
   pub senders : parts.senders.items ≡ map (sender_after events) setup.senders
   pub numbers : parts.numbers.items ≡ sender_numbers setup
+  pub sent : AllByRecursion HasSentFew parts.senders.items
   pub queues : (q : ℕ) → AreQueuesAt (history setup q events) (slice_get setup.queues q) (slice_get parts.queues.rings.items q)
   pub count : length parts.queues.rings.items ≡ length setup.queues
   pub devices : (d : ℕ) → AreDevicesAt (events_at setup d events) (slice_get setup.trees d) (slice_get parts.devices.items d)
@@ -178,15 +183,6 @@ CountsHere outcome (Some old) (Some new) = (new.session ≡ old.session) × (new
 pub record CountsAt (old : List Device) (number : ℕ) (outcome : Offered) (new : List Device) : Type 0 where
   pub here : CountsHere outcome (slice_get old number) (slice_get new number)
   pub only : ChangesDevice old number new
-
--- An offer with this outcome to a queue is counted at the queue's device. Nothing else changes.
-pub record CountsOffer (old : Parts) (queue : ℕ) (outcome : Offered) (new : Parts) : Type 0 where
-  pub devices : (device : ℕ) → slice_get old.paths.items queue ≡ Some device → CountsAt old.devices.items device outcome new.devices.items
-  pub queues : new.queues ≡ old.queues
-  pub senders : new.senders ≡ old.senders
-  pub numbers : new.numbers ≡ old.numbers
-  pub paths : new.paths ≡ old.paths
-  pub keeps : new.keeps ≡ old.keeps
 
 -- One more pull of a device, at this moment, led on from these events to this result, as its session shows.
 pub record LeadsOnByPull (setup : Setup) (new : Parts) (device moment : ℕ) (got : Option Packet) (events : List Event) : Type 0 where
