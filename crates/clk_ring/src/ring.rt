@@ -55,14 +55,14 @@ impl Ring {
     pub fn offer(&mut self, packet: Packet) -> Offered
         ensures { IsOffered self.old packet result self.new }
     {
+        let Err(packet) = self.held.try_push_back(packet) else {
+            return Offered::Accepted;
+        };
         match self.kind {
-            Kind::TailDrop => match self.held.try_push_back(packet) {
-                Ok(()) => Offered::Accepted,
-                Err(packet) => Offered::Refused(packet),
-            },
+            Kind::TailDrop => Offered::Refused(packet),
             Kind::FrontDrop => match self.held.push_back(packet) {
-                None => Offered::Accepted,
                 Some(front) => Offered::Evicted(front),
+                None => unreachable!(),
             },
         }
     }
