@@ -7,7 +7,7 @@ ghost use Rattle.clickpull_c.specs.Calls.{AnswersOffer, EndsOffers, IsOfferedSoF
 
 use crate::handle::Handle;
 use crate::statuses::{AT_END, BAD_LENGTH, OK, UNKNOWN_SENDER};
-use crate::values::{COffer, COffered, length_of, offered_for_c};
+use crate::values::{COffer, COffered, is_length, offered_for_c};
 use clk_router::{CountingRouter, Router};
 
 /// The sender with this number offers its next packet, of this length in bytes, to its queue. Fills in the packet and its outcome.
@@ -65,12 +65,14 @@ fn offer_each(
 
 /// Makes one offer to this router, if it can be made, and fills in the packet with its outcome. Returns the status. It fills the place
 /// itself, since a result of this size would be copied through memory.
+// Inlined, so that a burst makes no call for each offer.
+#[inline(always)]
 fn offer(router: &mut CountingRouter, sender: u32, length: u32, offered: &mut COffered) -> u32
     ensures answer { AnswersOffer router.old router.new sender length offered.old offered.new result }
 {
-    let Some(length) = length_of(length) else {
+    if !is_length(length) {
         return BAD_LENGTH;
-    };
+    }
     let Some(place) = place_of(router, sender) else {
         return UNKNOWN_SENDER;
     };
@@ -78,7 +80,7 @@ fn offer(router: &mut CountingRouter, sender: u32, length: u32, offered: &mut CO
     if !router.can_offer(place) {
         return AT_END;
     }
-    let (packet, outcome) = router.offer(place, length);
+    let (packet, outcome) = router.offer(place, length as u16);
     *offered = offered_for_c(packet, outcome);
     OK
 }
@@ -88,13 +90,11 @@ pub(crate) fn place_of(router: &Router, sender: u32) -> Option<u16>
     ensures found { IfSome result (λ place. sender_at router.now.setup place ≡ Some sender) }
     ensures missing { result ≡ None → IsUnknown router.now sender }
 {
-    match u16::try_from(sender) {
-        Ok(number) => router.place_of(number),
-        Err(_) => {
-            are_small(router.senders());
-            None
-        }
+    if sender > u32::from(u16::MAX) {
+        are_small(router.senders());
+        return None;
     }
+    router.place_of(sender as u16)
 }
 
 /// No number of 16 bits is above 65,535. A law, which does nothing.

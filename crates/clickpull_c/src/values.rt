@@ -1,6 +1,6 @@
 //! The values that C hands over and receives.
 
-ghost use Rattle.std.specs.Prelude.{◌≡◌, None, IfSome};
+ghost use Rattle.std.specs.Prelude.{◌≡◌, true, false};
 ghost use Rattle.clickpull_c.specs.Answers.{IsLength};
 ghost use Rattle.clickpull_c.specs.Values.{packet_in_c, offered_in_c, fault_in_c, total_in_c, account_in_c, queue_in_c};
 
@@ -104,15 +104,12 @@ pub struct CFault {
     pub offset: u32,
 }
 
-/// The length of a packet in bytes, if it is from 1 to 65,535.
-pub fn length_of(length: u32) -> Option<u16>
-    ensures some { IfSome result (λ bytes. (bytes ≡ length) × IsLength length) }
-    ensures none { result ≡ None → IsLength length → ⊥ }
+/// Whether a packet may have this length in bytes: from 1 to 65,535.
+pub fn is_length(length: u32) -> bool
+    ensures yes { result ≡ true → IsLength length }
+    ensures no { result ≡ false → IsLength length → ⊥ }
 {
-    match u16::try_from(length) {
-        Ok(bytes) if bytes > 0 => Some(bytes),
-        _ => None,
-    }
+    1 <= length && length <= u32::from(u16::MAX)
 }
 
 /// A packet, as C sees it.

@@ -11,7 +11,7 @@ ghost use Rattle.clickpull_c.specs.declared.statuses.TheConstants.{OK};
 use super::handle::InletHandle;
 use crate::handle::demand_send;
 use crate::statuses::{AT_END, BAD_LENGTH, FULL, OK};
-use crate::values::length_of;
+use crate::values::is_length;
 use clk_inlet::{Inlet, Item, Refusal};
 
 /// Offers a packet of this length in bytes, with a token of the caller's. Fills in the packet's number: how many packets the inlet accepted
@@ -91,10 +91,10 @@ fn offer(inlet: &mut Inlet, length: u32, token: u64) -> Result<u32, u32>
     ensures fits { fits inlet.old ≤ fits inlet.new + 1 }
     ensures halves { (o : Outlet) → AreHalves inlet.old o → AreHalves inlet.new o }
 {
-    let Some(bytes) = length_of(length) else {
+    if !is_length(length) {
         return Err(BAD_LENGTH);
-    };
-    match inlet.offer(bytes, token) {
+    }
+    match inlet.offer(length as u16, token) {
         Ok(number) => Ok(number),
         Err(Refusal::Full) => Err(FULL),
         Err(Refusal::AtEnd) => Err(AT_END),
