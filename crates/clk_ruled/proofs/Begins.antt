@@ -1,6 +1,8 @@
 -- How a queue is made, and how it is opened.
-use Rattle.std.proofs.Common.{◌≡◌, ℕ, ◌≤◌, true≢false, List, [], ◌∷◌, length, set, refl, sym, ap, ◌∙◌, subst, arith}
-use mathlib.Core.Option.{none, some-ne-none}
+use Rattle.std.proofs.Common.{◌≡◌, ℕ, ◌≤◌, true≢false, List, [], ◌∷◌, length, set, sym, ap, arith, rules}
+use Rattle.std.proofs.lemmas.Grind.{common_steps}
+use Rattle.std.proofs.lemmas.Bool.Decides.{nat_tests}
+use mathlib.Core.Option.{none}
 use Rattle.crossbeam_queue.specs.Fifo.{Forks}
 use Rattle.clk_packet.specs.declared.packet.Packet.{Packet}
 use Rattle.clk_ruled.specs.declared.view.Setup.{Setup}
@@ -15,30 +17,29 @@ use Rattle.clk_ruled.proofs.Changes.{all-set, all-snoc}
 pub begins : Keeps [] (blank_view ∷ [])
 begins =
     let c : Books = record { setup = no_setup; all = []; gone = []; seat = λ _. none; tap = 0 } in
-    let tap : FitsTap c 0 blank_view = record { tap = refl; setup = refl; taken = refl; fresh = λ s _. record { seat = refl; accepted = refl; evicted = refl }; gathered = tt } in (
+    let tap : FitsTap c 0 blank_view = search rules in (
       c,
-      record { senders_rise = tt; order = refl; fits = omega arith; room = λ s. omega arith; rises = λ s. tt; known = λ s _. refl; tail_drop = λ _ s. refl },
-      all-snoc (Fits c) [] blank_view (λ j u e. absurd (some-ne-none u (sym e))) ((λ e. absurd (true≢false (sym e))), λ _. tap),
+      search rules,
+      search rules,
     )
 
 -- A queue is opened.
 no-items : (items : List Packet) → length items ≤ 0 → items ≡ []
-no-items [] h = refl
-no-items (x ∷ items) h = absurd (omega arith)
+no-items items h = grind (arith, common_steps, nat_tests)
 
 pub opens : (pass : ℕ) (v : View) (setup : Setup) → AreRising (named_in setup.rooms) → v ≡ blank_view → Forks Keeps pass v (tap_view setup [] [] []) spent_view
 opens pass v setup rise is items views h at =
     let b : Books = h.0 in let f : FitsTap b pass v = (h.2 pass v at).1 (ap (λ (y : View). y.taps) is) in
     let none_given : v.given ≡ [] = ap (λ (y : View). y.given) is in
-    let nothing : items ≡ [] = no-items items (subst (λ (y : Setup). length items ≤ y.capacity) (sym f.setup ∙ ap (λ (y : View). y.setup) is) h.1.fits) in
+    let nothing : items ≡ [] = search (rules, no-items) in
     let c : Books = record { setup = setup; all = []; gone = []; seat = λ _. none; tap = pass } in
     let left : View = tap_view setup [] [] [] in
     let no_seat : (s : ℕ) → b.seat s ≡ none = λ s. (f.fresh s (ap (λ l. stands_in s l) none_given)).seat in
-    let tap : FitsTap c pass left = record { tap = refl; setup = refl; taken = refl; fresh = λ s _. record { seat = refl; accepted = refl; evicted = refl }; gathered = tt } in (
+    let tap : FitsTap c pass left = search rules in (
       c,
-      record { senders_rise = rise; order = sym nothing; fits = subst (λ (l : List Packet). length l ≤ setup.capacity) (sym nothing) (omega arith); room = λ s. omega arith; rises = λ s. tt; known = λ s _. refl; tail_drop = λ _ s. refl },
+      search rules,
       all-snoc (Fits c) (set views pass left) spent_view
           (all-set (Fits b) (Fits c) views pass left h.2 ((λ e. absurd (true≢false (sym e))), λ _. tap)
-          (λ j u other g. ((λ sits. absurd (some-ne-none j (sym (g.0 sits).seat ∙ no_seat u.sender))), λ taps. absurd (other ((g.1 taps).tap ∙ sym f.tap)))))
+          (search rules))
           ((λ e. absurd (true≢false (sym e))), λ e. absurd (true≢false (sym e))),
     )

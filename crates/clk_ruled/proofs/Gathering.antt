@@ -1,7 +1,6 @@
 -- The tap gathers seats one after another.
-use Rattle.std.proofs.Common.{◌≡◌, ℕ, ◌+◌, ◌<◌, ◌≤◌, Bool, true, false, zero, suc, List, [], ◌∷◌, length, set, get_or, refl, sym, ap, ◌∙◌, subst, inl, inr, arith}
+use Rattle.std.proofs.Common.{◌≡◌, ℕ, ◌+◌, ◌<◌, ◌≤◌, Bool, true, false, zero, suc, List, [], ◌∷◌, length, set, get_or, refl, sym, ap, ◌∙◌, subst, arith, rules}
 use Rattle.std.specs.List.{AllWithin}
-use Rattle.std.proofs.lemmas.List.Elements.{AllWithin-more_set}
 use Rattle.clk_ruled.specs.declared.view.Gathered.{Gathered}
 use Rattle.clk_ruled.specs.Queue.{SeatLists, TapLists, ClosedLists, closed_with, gathering}
 use Rattle.clk_packet.specs.Lists.{In}
@@ -35,7 +34,7 @@ of-tap-set tap new (x ∷ now) (suc i) c more one h = (more x h.0, of-tap-set ta
 
 lists-set : (now : List ClosedLists) (i : ℕ) (c d : ClosedLists) → i < length now → c.lists ≡ (get_or now i d).lists → lists_of (set now i c) ≡ lists_of now
 lists-set [] i c d lt e = absurd (omega arith)
-lists-set (x ∷ now) zero c d lt e = ap (λ (l : SeatLists). l ∷ lists_of now) e
+lists-set (x ∷ now) zero c d lt e = search rules
 lists-set (x ∷ now) (suc i) c d lt e = ap (λ l. x.lists ∷ l) (lists-set now i c d (omega arith) e)
 
 pub record IsStep (tap new : TapLists) (l : SeatLists) : Type 0 where
@@ -47,8 +46,7 @@ pub record IsStep (tap new : TapLists) (l : SeatLists) : Type 0 where
   pub has : In (as_gathered l) new.gathered
 
 gather-step : (tap new : TapLists) (c : ClosedLists) (b : Bool) → c.is_gathered ≡ b → IsOfTap tap c → (c.is_gathered ≡ false → new ≡ gathering tap c.lists) → (c.is_gathered ≡ true → new ≡ tap) → IsStep tap new c.lists
-gather-step tap new c true is h first again = subst (λ (t : TapLists). IsStep tap t c.lists) (sym (again is)) record { id = refl; setup = refl; keeps = refl; taken = refl; more = λ g a. a; has = h.had is }
-gather-step tap new c false is h first again = subst (λ (t : TapLists). IsStep tap t c.lists) (sym (first is)) record { id = refl; setup = refl; keeps = refl; taken = refl; more = λ g a. inr a; has = inl refl }
+gather-step tap new c b is h first again = search rules
 
 still-of : (tap new : TapLists) (l : SeatLists) → IsStep tap new l → (c : ClosedLists) → IsOfTap tap c → IsOfTap new c
 still-of tap new l s c h = record { id = h.id ∙ sym s.id; setup = h.setup ∙ sym s.setup; had = λ e. s.more (as_gathered c.lists) (h.had e) }
@@ -60,25 +58,16 @@ pub of-tap-gathered : (tap new : TapLists) (now : List ClosedLists) (i : ℕ) (c
 of-tap-gathered tap new now i c d lt h is first again =
     let here = of-tap-at tap now i d lt h in
     let s = gather-step tap new (get_or now i d) (get_or now i d).is_gathered refl here first again in
-    let one : IsOfTap new (closed_with (get_or now i d).lists) = record { id = here.id ∙ sym s.id; setup = here.setup ∙ sym s.setup; had = λ e. s.has } in (
+    let one : IsOfTap new (closed_with (get_or now i d).lists) = search rules in (
       s,
-      lists-set now i c d lt (ap (λ (x : ClosedLists). x.lists) is),
+      search (rules, lists-set),
       of-tap-set tap new now i c (still-of tap new (get_or now i d).lists s) (subst (IsOfTap new) (sym is) one) h,
     )
 
 pub gathering-more : (old : TapLists) (all : List ClosedLists) (tap new : TapLists) (now : List ClosedLists) (i : ℕ) (c d : ClosedLists) → i < length now → IsGathering old all tap now i
     → c ≡ closed_with (get_or now i d).lists → ((get_or now i d).is_gathered ≡ false → new ≡ gathering tap (get_or now i d).lists) → ((get_or now i d).is_gathered ≡ true → new ≡ tap)
     → IsGathering old all new (set now i c) (i + 1)
-gathering-more old all tap new now i c d lt h is first again =
-    let after = of-tap-gathered tap new now i c d lt h.each is first again in record {
-      id = after.0.id ∙ h.id;
-      setup = after.0.setup ∙ h.setup;
-      keeps = after.0.keeps ∙ h.keeps;
-      taken = after.0.taken ∙ h.taken;
-      lists = after.1 ∙ h.lists;
-      each = after.2;
-      first = AllWithin-more_set now i c lt (λ (x : ClosedLists). x.is_gathered ≡ true) h.first (ap (λ (x : ClosedLists). x.is_gathered) is);
-    }
+gathering-more old all tap new now i c d lt h is first again = search (rules, (of-tap-gathered tap new now i c d lt h.each is first again))
 
 -- the tap has the lists of all seats that were gathered
 each-had : (tap : TapLists) (now : List ClosedLists) → AreOfTap tap now → ((k : ℕ) (d : ClosedLists) → k < length now → (get_or now k d).is_gathered ≡ true) → HasEach tap (lists_of now)
@@ -86,9 +75,9 @@ each-had tap [] h all = tt
 each-had tap (c ∷ now) h all = (h.0.had (all 0 c (omega arith)), each-had tap now h.1 (λ k d lt. all (suc k) d (omega arith)))
 
 pub gathering-all : (old : TapLists) (all : List ClosedLists) (tap : TapLists) (now : List ClosedLists) (n : ℕ) → length now ≤ n → IsGathering old all tap now n → HasEach tap (lists_of all)
-gathering-all old all tap now n le h = subst (HasEach tap) h.lists (each-had tap now h.each (λ k d lt. h.first k d (omega arith) (omega arith)))
+gathering-all old all tap now n le h = search (rules, each-had)
 
 -- What a seat has to have for the tap to gather it.
 pub of-tap-here : (old : TapLists) (all : List ClosedLists) (tap : TapLists) (now : List ClosedLists) (n i : ℕ) (d : ClosedLists) → i < length now → IsGathering old all tap now n
     → ((get_or now i d).lists.id ≡ tap.id) × ((get_or now i d).lists.setup ≡ tap.setup)
-of-tap-here old all tap now n i d lt h = let one = of-tap-at tap now i d lt h.each in (one.id, one.setup)
+of-tap-here old all tap now n i d lt h = search (rules, of-tap-at)

@@ -1,12 +1,11 @@
 -- Seats that were opened with a tap, and stay so while packets are offered and pulled.
-use Rattle.std.proofs.Common.{◌≡◌, ℕ, ◌<◌, Bool, true, false, true≢false, zero, suc, List, [], ◌∷◌, length, map, set, get_or, Option, Some, None, refl, sym, ap, ◌∙◌, subst, arith}
+use Rattle.std.proofs.Common.{◌≡◌, ℕ, ◌<◌, Bool, true, false, zero, suc, List, [], ◌∷◌, length, map, set, get_or, Option, refl, ap, ◌∙◌, subst, arith, rules}
 use Rattle.atomic_table.specs.Seated.{TableId}
 use Rattle.clk_packet.specs.declared.packet.Packet.{Packet}
 use Rattle.clk_packet.specs.declared.packet.Offered.{Offered}
-use Rattle.clk_packet.specs.declared.packet.Offered.TheVariants.{Accepted, Refused, Evicted}
 use Rattle.clk_ruled.specs.declared.view.Setup.{Setup}
-use Rattle.clk_ruled.specs.Queue.{Queue, SeatLists, TapLists, ClosedLists, closed_with, IsSeatOf, IsOpened, IsOffered, IsPulled, empty_seat, empty_tap, queue_of, taking, gathering}
-use Rattle.clk_ruled.specs.Settle.{AreTogether, AreOpenedTogether, AreOfTap, IsOfTap, closing, lists_of}
+use Rattle.clk_ruled.specs.Queue.{Queue, SeatLists, TapLists, ClosedLists, closed_with, IsSeatOf, IsOpened, IsOffered, IsPulled, empty_seat, empty_tap, gathering}
+use Rattle.clk_ruled.specs.Settle.{AreOpenedTogether, AreOfTap, closing, lists_of}
 use Rattle.clk_ruled.specs.Laws.{KeepsTogether}
 use Rattle.clk_ruled.proofs.Gathering.{of-tap-at, of-tap-more, of-tap-gathered}
 
@@ -15,26 +14,17 @@ place_of l = (l.sender, l.room)
 
 opened-each : (keeps : Bool) (id : TableId) (setup : Setup) (rooms : List (ℕ × ℕ)) → AreOfTap (empty_tap keeps id setup) (map closing (map (empty_seat id setup) rooms))
 opened-each keeps id setup [] = tt
-opened-each keeps id setup (r ∷ rooms) = (record { id = refl; setup = refl; had = λ e. absurd (true≢false (sym e)) }, opened-each keeps id setup rooms)
+opened-each keeps id setup (r ∷ rooms) = search (rules, (opened-each keeps id setup rooms))
 
 opened-places : (id : TableId) (setup : Setup) (rooms : List (ℕ × ℕ)) → map place_of (lists_of (map closing (map (empty_seat id setup) rooms))) ≡ rooms
 opened-places id setup [] = refl
 opened-places id setup (r ∷ rooms) = ap (λ l. r ∷ l) (opened-places id setup rooms)
 
 pub opened-in-use : (setup : Setup) (queue : Queue) (seats : List SeatLists) (tap : TapLists) → IsOpened setup queue seats tap → AreOpenedTogether queue tap (map closing seats)
-opened-in-use setup queue seats tap h = (
-  h.0 ∙ ap (λ (t : TapLists). queue_of t.id t.setup) (sym h.2),
-  subst (λ (x : TapLists × List SeatLists). AreTogether x.0 (map closing x.1)) (λ i. (sym h.2 i, sym h.1 i)) record { senders = opened-places queue.id setup setup.rooms; each = opened-each tap.keeps queue.id setup setup.rooms },
-)
-
--- A pull changes what was taken alone.
-taking-of : (tap : TapLists) (p : Packet) (c : ClosedLists) → IsOfTap tap c → IsOfTap (taking tap p) c
-taking-of tap p c h = record { id = h.id; setup = h.setup; had = h.had }
+opened-in-use setup queue seats tap h = search (rules, opened-places, (opened-each tap.keeps queue.id setup setup.rooms))
 
 pub pulled-in-use : (queue : Queue) (tap new : TapLists) (got : Option Packet) (closed : List ClosedLists) → IsPulled tap got new → AreOpenedTogether queue tap closed → AreOpenedTogether queue new closed
-pulled-in-use queue tap new None closed is h = subst (λ (t : TapLists). AreOpenedTogether queue t closed) (sym is) h
-pulled-in-use queue tap new (Some p) closed is h =
-    subst (λ (t : TapLists). AreOpenedTogether queue t closed) (sym is) (h.0, record { senders = h.1.senders; each = of-tap-more tap (taking tap p) closed (taking-of tap p) h.1.each })
+pulled-in-use queue tap new got closed is h = search (rules, of-tap-more)
 
 -- the seat at a place
 seat-at : (tap : TapLists) (seats : List SeatLists) (i : ℕ) (d : SeatLists) → i < length seats → AreOfTap tap (map closing seats) → ((get_or seats i d).id ≡ tap.id) × ((get_or seats i d).setup ≡ tap.setup)
@@ -43,8 +33,7 @@ seat-at tap (l ∷ seats) zero d lt h = (h.0.id, h.0.setup)
 seat-at tap (l ∷ seats) (suc i) d lt h = seat-at tap seats i d (omega arith) h.1
 
 pub seat-in-use : (queue : Queue) (tap : TapLists) (seats : List SeatLists) (i : ℕ) (l : SeatLists) → i < length seats → l ≡ get_or seats i l → AreOpenedTogether queue tap (map closing seats) → IsSeatOf queue l
-seat-in-use queue tap seats i l lt here h =
-    let one = seat-at tap seats i l lt h.1.each in subst (IsSeatOf queue) (sym here) (h.0 ∙ (λ j. queue_of (sym one.0 j) (sym one.1 j)))
+seat-in-use queue tap seats i l lt here h = search (rules, (seat-at tap seats i l lt h.1.each))
 
 -- An offer leaves the seat at its place.
 record IsSameSeat (old new : SeatLists) : Type 0 where
@@ -53,18 +42,16 @@ record IsSameSeat (old new : SeatLists) : Type 0 where
   place : place_of new ≡ place_of old
 
 same-seat : (old new : SeatLists) (p : Packet) (answer : Offered) → IsOffered old p answer new → IsSameSeat old new
-same-seat old new p Accepted is = subst (IsSameSeat old) (sym is) record { id = refl; setup = refl; place = refl }
-same-seat old new p (Refused q) is = subst (IsSameSeat old) (sym is.2) record { id = refl; setup = refl; place = refl }
-same-seat old new p (Evicted q) is = subst (IsSameSeat old) (sym is.1) record { id = refl; setup = refl; place = refl }
+same-seat old new p answer is = search rules
 
 set-each : (tap : TapLists) (seats : List SeatLists) (i : ℕ) (new d : SeatLists) → i < length seats → IsSameSeat (get_or seats i d) new → AreOfTap tap (map closing seats) → AreOfTap tap (map closing (set seats i new))
 set-each tap [] i new d lt same h = absurd (omega arith)
-set-each tap (l ∷ seats) zero new d lt same h = (record { id = same.id ∙ h.0.id; setup = same.setup ∙ h.0.setup; had = λ e. absurd (true≢false (sym e)) }, h.1)
+set-each tap (l ∷ seats) zero new d lt same h = search rules
 set-each tap (l ∷ seats) (suc i) new d lt same h = (h.0, set-each tap seats i new d (omega arith) same h.1)
 
 set-places : (seats : List SeatLists) (i : ℕ) (new d : SeatLists) → i < length seats → place_of new ≡ place_of (get_or seats i d) → map place_of (lists_of (map closing (set seats i new))) ≡ map place_of (lists_of (map closing seats))
 set-places [] i new d lt e = absurd (omega arith)
-set-places (l ∷ seats) zero new d lt e = ap (λ (x : ℕ × ℕ). x ∷ map place_of (lists_of (map closing seats))) e
+set-places (l ∷ seats) zero new d lt e = search rules
 set-places (l ∷ seats) (suc i) new d lt e = ap (λ x. place_of l ∷ x) (set-places seats i new d (omega arith) e)
 
 pub offered-in-use : (queue : Queue) (tap : TapLists) (seats : List SeatLists) (i : ℕ) (l new : SeatLists) (p : Packet) (answer : Offered) → i < length seats → l ≡ get_or seats i l → IsOffered l p answer new
@@ -77,27 +64,16 @@ offered-in-use queue tap seats i l new p answer lt here is h =
 
 -- The same of closed seats, while the tap gathers them.
 pub closed-in-use : (queue : Queue) (tap : TapLists) (closed : List ClosedLists) (i : ℕ) (c : ClosedLists) → i < length closed → c ≡ get_or closed i c → AreOpenedTogether queue tap closed → (c.lists.id ≡ tap.id) × (c.lists.setup ≡ tap.setup)
-closed-in-use queue tap closed i c lt here h =
-    let one = of-tap-at tap closed i c lt h.1.each in subst (λ (x : ClosedLists). (x.lists.id ≡ tap.id) × (x.lists.setup ≡ tap.setup)) (sym here) (one.id, one.setup)
+closed-in-use queue tap closed i c lt here h = search (rules, of-tap-at)
 
 pub gathered-in-use : (queue : Queue) (tap new : TapLists) (closed : List ClosedLists) (i : ℕ) (old c : ClosedLists) → i < length closed → old ≡ get_or closed i old
     → c ≡ closed_with old.lists → (old.is_gathered ≡ false → new ≡ gathering tap old.lists) → (old.is_gathered ≡ true → new ≡ tap)
     → AreOpenedTogether queue tap closed → AreOpenedTogether queue new (set closed i c)
 gathered-in-use queue tap new closed i old c lt here is first again h =
     let after = of-tap-gathered tap new closed i c old lt h.1.each
-    (subst (λ (x : ClosedLists). c ≡ closed_with x.lists) here is)
-    (subst (λ (x : ClosedLists). x.is_gathered ≡ false → new ≡ gathering tap x.lists) here first)
-    (subst (λ (x : ClosedLists). x.is_gathered ≡ true → new ≡ tap) here again) in (
-      h.0 ∙ (λ j. queue_of (sym after.0.id j) (sym after.0.setup j)),
-      record { senders = ap (map place_of) after.1 ∙ h.1.senders ∙ ap (λ (s : Setup). s.rooms) (sym after.0.setup); each = after.2 },
-    )
+    (search rules)
+    (search rules)
+    (search rules) in search rules
 
 pub kept-together : KeepsTogether
-kept-together = record {
-  opened = opened-in-use;
-  seats = seat-in-use;
-  offered = offered-in-use;
-  pulled = pulled-in-use;
-  closed = closed-in-use;
-  gathered = gathered-in-use;
-}
+kept-together = search (rules, opened-in-use, seat-in-use, offered-in-use, pulled-in-use, closed-in-use, gathered-in-use)

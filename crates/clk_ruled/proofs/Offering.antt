@@ -1,5 +1,5 @@
 -- What a seat relies on as it offers a packet.
-use Rattle.std.proofs.Common.{◌≡◌, ℕ, ◌<◌, ◌≤◌, List, length, sym, ap, ◌∙◌, subst, arith}
+use Rattle.std.proofs.Common.{◌≡◌, ℕ, ◌<◌, ◌≤◌, List, length, rules}
 use Rattle.clk_packet.specs.declared.packet.Packet.{Packet}
 use Rattle.clk_ruled.specs.declared.view.View.{View}
 use Rattle.clk_ruled.specs.Queue.{Queue, SeatLists, queue_of, places_of}
@@ -16,21 +16,14 @@ pub record IsOffering (queue : Queue) (s : SeatLists) (p : Packet) : Type 0 wher
 
 -- what the caller says of the values is so of what stands behind them
 pub offering : (queue given : Queue) (s old : SeatLists) (p : Packet) → queue ≡ given → s ≡ old → given ≡ queue_of old.id old.setup → p.sender ≡ old.sender → p.number ≡ old.next → old.next < old.room → IsOffering queue s p
-offering queue given s old p same is together own number room =
-    let ours : queue ≡ queue_of s.id s.setup = same ∙ together ∙ ap (λ (x : SeatLists). queue_of x.id x.setup) (sym is) in record {
-      kind = sym (ap (λ (q : Queue). q.kind) ours);
-      places = ap (λ (q : Queue). q.places) ours;
-      own = own ∙ ap (λ (x : SeatLists). x.sender) (sym is);
-      number = number ∙ ap (λ (x : SeatLists). x.next) (sym is);
-      room = subst (λ (x : SeatLists). x.next < x.room) (sym is) room;
-    }
+offering queue given s old p same is together own number room = search rules
 
 -- Each list has room for one packet more, where it has room for all that may be offered.
 pub room-accepted : (v : View) (s room next : ℕ) (accepted refused evicted : List Packet) (n : ℕ) → SeatFits v s room next accepted refused evicted → next < room → room ≤ n → length accepted < n
-room-accepted v s room next accepted refused evicted n f lt reserved = let few = (few-accepted s next accepted refused f.shares).0 in omega (arith, few, lt, reserved)
+room-accepted v s room next accepted refused evicted n f lt reserved = search (rules, few-accepted)
 
 pub room-refused : (v : View) (s room next : ℕ) (accepted refused evicted : List Packet) (n : ℕ) → SeatFits v s room next accepted refused evicted → next < room → room ≤ n → length refused < n
-room-refused v s room next accepted refused evicted n f lt reserved = let few = (few-accepted s next accepted refused f.shares).1 in omega (arith, few, lt, reserved)
+room-refused v s room next accepted refused evicted n f lt reserved = search (rules, few-accepted)
 
 pub room-evicted : (v : View) (s room next : ℕ) (accepted refused evicted : List Packet) (n : ℕ) → SeatFits v s room next accepted refused evicted → next < room → room ≤ n → length evicted < n
-room-evicted v s room next accepted refused evicted n f lt reserved = let few = room-accepted v s room next accepted refused evicted n f lt reserved in let fewer = f.fewer in omega (arith, few, fewer)
+room-evicted v s room next accepted refused evicted n f lt reserved = search (rules, (room-accepted v s room next accepted refused evicted n f lt reserved))

@@ -1,5 +1,5 @@
 -- What the tap knows of the packets that it pulled.
-use Rattle.std.proofs.Common.{ℕ, ◌+◌, ◌<◌, ◌≤◌, ◌==◌, Bool, true, false, List, [], ◌∷◌, ◌++◌, length, arith, if◌then◌else◌}
+use Rattle.std.proofs.Common.{ℕ, ◌+◌, ◌<◌, ◌≤◌, ◌==◌, Bool, List, [], ◌∷◌, ◌++◌, length, arith, if◌then◌else◌, rules}
 use Rattle.std.specs.List.{AllByRecursion}
 use Rattle.clk_packet.specs.declared.packet.Packet.{Packet}
 use Rattle.clk_packet.specs.Lists.{of_sender, AreRising}
@@ -9,39 +9,26 @@ use Rattle.clk_ruled.specs.Rule.{Out, to_puller, put_out, went_out, taken_in}
 -- A packet that may be at the front of both lists, or of the second alone.
 all-both : (P : ℕ → Type 0) (b : Bool) (p : Packet) (x y : List Packet) → (AllByRecursion P (packet_numbers y) → AllByRecursion P (packet_numbers x))
     → AllByRecursion P (packet_numbers (if b then p ∷ y else y)) → AllByRecursion P (packet_numbers (if b then p ∷ x else x))
-all-both P true p x y f a = (a.0, f a.1)
-all-both P false p x y f a = f a
-
-all-one : (P : ℕ → Type 0) (b : Bool) (p : Packet) (x y : List Packet) → (AllByRecursion P (packet_numbers y) → AllByRecursion P (packet_numbers x))
-    → AllByRecursion P (packet_numbers (if b then p ∷ y else y)) → AllByRecursion P (packet_numbers x)
-all-one P true p x y f a = f a.1
-all-one P false p x y f a = f a
+all-both P b p x y f a = search rules
 
 -- What holds of the numbers of all packets of a sender holds of those that were taken.
 all-taken : (P : ℕ → Type 0) (s : ℕ) (gone : List Out) (held : List Packet) → AllByRecursion P (packet_numbers (of_sender s (went_out gone ++ held)))
     → AllByRecursion P (packet_numbers (of_sender s (taken_in gone)))
 all-taken P s [] held a = tt
-all-taken P s (to_puller p ∷ gone) held a = all-both P (p.sender == s) p (of_sender s (taken_in gone)) (of_sender s (went_out gone ++ held)) (all-taken P s gone held) a
-all-taken P s (put_out e p ∷ gone) held a = all-one P (p.sender == s) p (of_sender s (taken_in gone)) (of_sender s (went_out gone ++ held)) (all-taken P s gone held) a
+all-taken P s (o ∷ gone) held a = search (rules, (all-taken P s gone held))
 
 rising-both : (b : Bool) (p : Packet) (x y : List Packet) → (AllByRecursion (λ m. p.number < m) (packet_numbers y) → AllByRecursion (λ m. p.number < m) (packet_numbers x))
     → (AreRising (packet_numbers y) → AreRising (packet_numbers x)) → AreRising (packet_numbers (if b then p ∷ y else y)) → AreRising (packet_numbers (if b then p ∷ x else x))
-rising-both true p x y g f r = (g r.0, f r.1)
-rising-both false p x y g f r = f r
-
-rising-one : (b : Bool) (p : Packet) (x y : List Packet) → (AreRising (packet_numbers y) → AreRising (packet_numbers x)) → AreRising (packet_numbers (if b then p ∷ y else y)) → AreRising (packet_numbers x)
-rising-one true p x y f r = f r.1
-rising-one false p x y f r = f r
+rising-both b p x y g f r = search rules
 
 -- Of each sender the numbers that were taken rise, where those of all rise.
 pub rising-taken : (s : ℕ) (gone : List Out) (held : List Packet) → AreRising (packet_numbers (of_sender s (went_out gone ++ held))) → AreRising (packet_numbers (of_sender s (taken_in gone)))
 rising-taken s [] held r = tt
 rising-taken s (to_puller p ∷ gone) held r =
     rising-both (p.sender == s) p (of_sender s (taken_in gone)) (of_sender s (went_out gone ++ held)) (all-taken (λ m. p.number < m) s gone held) (rising-taken s gone held) r
-rising-taken s (put_out e p ∷ gone) held r = rising-one (p.sender == s) p (of_sender s (taken_in gone)) (of_sender s (went_out gone ++ held)) (rising-taken s gone held) r
+rising-taken s (put_out e p ∷ gone) held r = search (rules, (rising-taken s gone held))
 
 -- No more was taken than came.
 pub fewer-taken : (gone : List Out) (held : List Packet) → length (taken_in gone) + length held ≤ length (went_out gone ++ held)
 fewer-taken [] held = omega arith
-fewer-taken (to_puller p ∷ gone) held = let f : length (taken_in gone) + length held ≤ length (went_out gone ++ held) = fewer-taken gone held in omega (arith, f)
-fewer-taken (put_out e p ∷ gone) held = let f : length (taken_in gone) + length held ≤ length (went_out gone ++ held) = fewer-taken gone held in omega (arith, f)
+fewer-taken (o ∷ gone) held = search (rules, (fewer-taken gone held))

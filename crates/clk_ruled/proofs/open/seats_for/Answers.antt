@@ -1,7 +1,5 @@
-use Rattle.std.proofs.Common.{◌∷◌, ◌++◌, [], slice_index_or, refl, ap, ◌∙◌}
+use Rattle.std.proofs.Common.{refl, ◌∙◌, rules}
 use Rattle.crossbeam_queue.specs.Passes.{view}
-use Rattle.atomic_table.specs.Seated.{TableId}
-use Rattle.clk_ruled.specs.Queue.{empty_seat}
 use Rattle.clk_ruled.proofs.Opening.{seated-step}
 use Rattle.clk_ruled.proofs.open.seats_for.Goals as goal
 
@@ -11,5 +9,5 @@ loop-rest-preserved c =
       (queue.0 ∙ inv.0.0, queue.2 ∙ inv.0.1),
       (queue.0 ∙ inv.1.0, queue.1 ∙ inv.1.1, queue.2 ∙ inv.1.2),
       seated-step _ _ (view c.loop-rest.pass) _ c.loop-rest.seats.items _ c.loop-rest.rest.now _ (0, 0) c.in-len1-up.len_at_least refl inv.2 c.add_seat.ensures.tap
-          (c.in_ok-add_seat.ensures.seats ∙ ap (λ (id : TableId). c.loop-rest.seats.items ++ empty_seat id (view c.loop-rest.pass).setup ((slice_index_or c.loop-rest.rest.now 0 (0, 0)).0, (slice_index_or c.loop-rest.rest.now 0 (0, 0)).1) ∷ []) inv.1.0),
+          (search rules),
     )

@@ -1,8 +1,5 @@
-use Rattle.std.proofs.Common.{[], sym, ap, subst}
+use Rattle.std.proofs.Common.{rules}
 use Rattle.crossbeam_queue.specs.Passes.{view}
-use Rattle.clk_ruled.specs.declared.view.Setup.{Setup}
-use Rattle.clk_ruled.specs.declared.view.View.{View}
-use Rattle.clk_ruled.specs.inside.Parts.{IsSeated}
 use Rattle.clk_ruled.specs.Queue.{setup_of}
 use Rattle.clk_ruled.proofs.Begins.{begins}
 use Rattle.clk_ruled.proofs.Opening.{seated-first}
@@ -12,6 +9,4 @@ pub ruled-requires-clause-rule : goal.ruled-requires-clause-rule
 ruled-requires-clause-rule c = begins
 
 pub seats_for-requires-clause-open : goal.seats_for-requires-clause-open
-seats_for-requires-clause-open c =
-    subst (λ (s : Setup). IsSeated s c.set_up.new.pass.table_id (view c.set_up.new.pass) [] c.args.senders.now) (sym (ap (λ (u : View). u.setup) c.set_up.ensures.open))
-    (seated-first (setup_of c.args.kind c.args.capacity c.args.senders.now) c.set_up.new.pass.table_id (view c.set_up.new.pass) c.set_up.ensures.open c.requires.capacity.0 c.requires.rising)
+seats_for-requires-clause-open c = search (rules, (seated-first (setup_of c.args.kind c.args.capacity c.args.senders.now) c.set_up.new.pass.table_id (view c.set_up.new.pass) c.set_up.ensures.open c.requires.capacity.0 c.requires.rising))

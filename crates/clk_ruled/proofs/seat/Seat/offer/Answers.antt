@@ -1,41 +1,37 @@
-use Rattle.std.proofs.Common.{◌≡◌, ◌≤◌, [], ◌∷◌, ◌++◌, length, ap, ◌∙◌, subst}
+use Rattle.std.proofs.Common.{◌≡◌, ◌≤◌, [], ◌∷◌, ◌++◌, length, ap, ◌∙◌, subst, rules}
 use Rattle.std.proofs.Math.Nat.{le_trans}
 use Rattle.crossbeam_queue.specs.Passes.{view}
-use Rattle.clk_packet.specs.declared.packet.Packet.{Packet}
 use Rattle.clk_ruled.specs.declared.view.View.{View}
 use Rattle.clk_ruled.specs.Queue.{SeatLists}
 use Rattle.clk_ruled.specs.inside.Rule.{seat_view}
-use Rattle.clk_ruled.proofs.SeatSteps.{offers-after, within-after, may-offer, may-evict, places-within, fits-accepted, fits-refused, fits-evicted, refused-alone}
+use Rattle.clk_ruled.proofs.SeatSteps.{offers-after, may-offer, may-evict, places-within, fits-accepted, fits-refused, fits-evicted, refused-alone}
 use Rattle.clk_ruled.proofs.Offering.{offering, room-accepted, room-refused, room-evicted}
 use Rattle.clk_ruled.proofs.Steps.{accepts, evicts, learns}
 use Rattle.clk_ruled.proofs.seat.Seat.offer.Goals as goal
 
 pub push_as-requires-clause-rule : goal.push_as-requires-clause-rule
 push_as-requires-clause-rule g c =
-    let o = offering _ _ _ _ c.args.packet c.queue.view_is c.self.view_is c.requires.together c.requires.own c.requires.number c.requires.room in (
-      accepts _ _ _ _ (may-offer _ _ _ _ _ _ _ _ c.self.invariant.0 o.own o.number o.room) (places-within (view c.self.inside.pass).setup _ o.places c.self.invariant.0.some),
-      learns _ _,
-    )
+    let o = offering _ _ _ _ c.args.packet c.queue.view_is c.self.view_is c.requires.together c.requires.own c.requires.number c.requires.room in search (rules, accepts, may-offer, places-within, learns)
 
 pub note-requires : goal.note-requires
 note-requires g c =
-    let o = offering _ _ _ _ c.args.packet c.queue.view_is c.self.view_is c.requires.together c.requires.own c.requires.number c.requires.room in room-accepted _ _ _ _ _ _ _ _ c.self.invariant.0 o.room c.self.invariant.2
+    let o = offering _ _ _ _ c.args.packet c.queue.view_is c.self.view_is c.requires.together c.requires.own c.requires.number c.requires.room in search (rules, room-accepted)
 
 pub note-requires-in-Err : goal.note-requires-in-Err
 note-requires-in-Err g c =
-    let o = offering _ _ _ _ c.args.packet c.queue.view_is c.self.view_is c.requires.together c.requires.own c.requires.number c.requires.room in room-refused _ _ _ _ _ _ _ _ c.self.invariant.0 o.room c.self.invariant.3
+    let o = offering _ _ _ _ c.args.packet c.queue.view_is c.self.view_is c.requires.together c.requires.own c.requires.number c.requires.room in search (rules, room-refused)
 
 pub note-requires-in-None : goal.note-requires-in-None
 note-requires-in-None g c =
-    let o = offering _ _ _ _ c.args.packet c.queue.view_is c.self.view_is c.requires.together c.requires.own c.requires.number c.requires.room in room-accepted _ _ _ _ _ _ _ _ c.self.invariant.0 o.room c.self.invariant.2
+    let o = offering _ _ _ _ c.args.packet c.queue.view_is c.self.view_is c.requires.together c.requires.own c.requires.number c.requires.room in search (rules, room-accepted)
 
 pub note-requires-in-Some : goal.note-requires-in-Some
 note-requires-in-Some g c =
-    let o = offering _ _ _ _ c.args.packet c.queue.view_is c.self.view_is c.requires.together c.requires.own c.requires.number c.requires.room in room-accepted _ _ _ _ _ _ _ _ c.self.invariant.0 o.room c.self.invariant.2
+    let o = offering _ _ _ _ c.args.packet c.queue.view_is c.self.view_is c.requires.together c.requires.own c.requires.number c.requires.room in search (rules, room-accepted)
 
 pub note-requires-in-Some-2 : goal.note-requires-in-Some-2
 note-requires-in-Some-2 g c =
-    let o = offering _ _ _ _ c.args.packet c.queue.view_is c.self.view_is c.requires.together c.requires.own c.requires.number c.requires.room in room-evicted _ _ _ _ _ _ _ _ c.self.invariant.0 o.room c.self.invariant.4
+    let o = offering _ _ _ _ c.args.packet c.queue.view_is c.self.view_is c.requires.together c.requires.own c.requires.number c.requires.room in search (rules, room-evicted)
 
 pub invariant_of-self : goal.invariant_of-self
 invariant_of-self g c =
@@ -48,22 +44,14 @@ invariant_of-self g c =
     )
 
 pub invariant_of-self-in-Err : goal.invariant_of-self-in-Err
-invariant_of-self-in-Err g c =
-    let o = offering _ _ _ _ c.args.packet c.queue.view_is c.self.view_is c.requires.together c.requires.own c.requires.number c.requires.room in (
-      fits-refused _ _ _ _ _ _ _ _ _ c.args.packet c.self.invariant.0 o.own o.number o.room (o.kind ∙ c.in-TailDrop.is) c.in-Err.ensures.rule.1
-          (c.note-in-Err.ensures.items ∙ ap (λ (p : Packet). c.self.inside.refused.items ++ p ∷ []) c.in-Err.ensures.rule.0),
-      c.push_as.ensures.queue.2 ∙ c.self.invariant.1,
-      c.self.invariant.2,
-      le_trans c.self.invariant.3 c.note-in-Err.ensures.capacity,
-      c.self.invariant.4,
-    )
+invariant_of-self-in-Err g c = search (rules, fits-refused)
 
 pub force_push_as-requires-clause-push : goal.force_push_as-requires-clause-push
 force_push_as-requires-clause-push g c =
     let o = offering _ _ _ _ c.args.packet c.queue.view_is c.self.view_is c.requires.together c.requires.own c.requires.number c.requires.room in
     let may = may-offer _ _ _ _ _ _ _ _ c.self.invariant.0 o.own o.number o.room in let within = places-within (view c.self.inside.pass).setup _ o.places c.self.invariant.0.some in (
       accepts _ _ _ _ may within,
-      λ front w out. accepts _ _ w _ (offers-after (view c.self.inside.pass) w _ front may out.0) (within-after (view c.self.inside.pass) w _ front within out.0),
+      λ front w out. accepts _ _ w _ (offers-after (view c.self.inside.pass) w _ front may out.0) (search rules),
     )
 
 pub force_push_as-requires-clause-pop : goal.force_push_as-requires-clause-pop
@@ -90,7 +78,7 @@ invariant_of-self-in-Some g c =
       c.force_push_as.ensures.queue.2 ∙ c.self.invariant.1,
       le_trans c.self.invariant.2 c.note-in-Some.ensures.capacity,
       c.self.invariant.3,
-      le_trans c.self.invariant.4 c.note-in-Some-2.ensures.capacity,
+      search rules,
     )
 
 pub returns-in-Err-clause-lone : goal.returns-in-Err-clause-lone

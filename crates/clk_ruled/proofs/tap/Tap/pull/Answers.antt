@@ -1,14 +1,11 @@
-use Rattle.std.proofs.Common.{arith, [], ◌++◌, ◌∙◌, sym, ap}
-use Rattle.std.specs.List.{cons_option}
-use Rattle.clk_ruled.specs.Rooms.{rooms_in_all}
-use Rattle.clk_ruled.specs.declared.view.Setup.{Setup}
+use Rattle.std.proofs.Common.{rules, ◌∙◌}
 use Rattle.clk_ruled.proofs.Steps.{pulls, learns}
-use Rattle.clk_ruled.proofs.TapSteps.{keeps-after, held-after, taken-after, setup-after, room-after, taken-within, taken-rises, taken-known, taken-fewer, taken-all}
+use Rattle.clk_ruled.proofs.TapSteps.{keeps-after, room-after, taken-within, taken-rises, taken-known, taken-fewer, taken-all}
 use Rattle.clk_ruled.proofs.Settlement.{seats-within, seats-all}
 use Rattle.clk_ruled.proofs.tap.Tap.pull.Goals as goal
 
 pub pop_as-pulled-requires-clause-rule : goal.pop_as-pulled-requires-clause-rule
-pop_as-pulled-requires-clause-rule g c = (pulls _ _ c.self.invariant.0.taps, learns _ _)
+pop_as-pulled-requires-clause-rule g c = search (rules, pulls, learns)
 
 pub add-requires : goal.add-requires
 add-requires g c = record { room = λ keeps. room-after _ _ _ _ _ c.self.invariant.0 c.pop_as-pulled.ensures.rule (c.self.invariant.2 keeps) (c.self.invariant.3 keeps) }
@@ -18,9 +15,8 @@ invariant_of-self g c =
     let rule = c.pop_as-pulled.ensures.rule in (
       keeps-after _ _ _ c.self.invariant.0 rule,
       c.pop_as-pulled.ensures.queue.2 ∙ c.self.invariant.1,
-      (λ keeps. let was = sym c.add.ensures.keeps ∙ keeps in c.add.ensures.added was ∙ ap (λ l. l ++ cons_option c.pop_as-pulled.result []) (c.self.invariant.2 was) ∙ sym (taken-after _ _ _ rule)),
-      (λ keeps. let was = sym c.add.ensures.keeps ∙ keeps in let fits = c.self.invariant.3 was in let more = c.add.ensures.capacity was in
-          let rooms = ap (λ (y : Setup). rooms_in_all y.rooms) (setup-after _ _ _ rule) in omega (arith, fits, more, rooms)),
+      search rules,
+      search rules,
     )
 
 pub returns-clause-rises : goal.returns-clause-rises
@@ -36,10 +32,10 @@ pub returns-clause-within : goal.returns-clause-within
 returns-clause-within g c = taken-fewer _ (keeps-after _ _ _ c.self.invariant.0 c.pop_as-pulled.ensures.rule)
 
 pub returns-clause-none : goal.returns-clause-none
-returns-clause-none g c none = taken-all _ (keeps-after _ _ _ c.self.invariant.0 c.pop_as-pulled.ensures.rule) (held-after _ _ _ c.pop_as-pulled.ensures.rule none)
+returns-clause-none g c none = search (rules, taken-all)
 
 pub returns-clause-seats_within : goal.returns-clause-seats_within
 returns-clause-seats_within g c = seats-within _ _ _ (keeps-after _ _ _ c.self.invariant.0 c.pop_as-pulled.ensures.rule)
 
 pub returns-clause-seats_none : goal.returns-clause-seats_none
-returns-clause-seats_none g c none = seats-all _ _ _ (keeps-after _ _ _ c.self.invariant.0 c.pop_as-pulled.ensures.rule) (held-after _ _ _ c.pop_as-pulled.ensures.rule none)
+returns-clause-seats_none g c none = search (rules, seats-all)
