@@ -66,10 +66,10 @@ fn zeros_from(word: u64, place: u16) -> u16
     ensures within { place + result ≤ 64 }
     ensures zeros { (k : ℕ) → k < result → bit_at word (place + k) ≡ 0 }
 {
-    let rest = word >> place;
-    // Most often the first queue is in the set, and a branch is foretold, where a number of 0 would be waited for.
-    if rest % 2 == 1 {
+    // Most often the first queue is in the set, and a branch is predicted, where a number of 0 would be waited for.
+    if word & (1 << place) != 0 {
         return 0;
     }
+    let rest = word >> place;
     (64 - place).min(rest.trailing_zeros() as u16)
 }
