@@ -160,13 +160,23 @@ impl Router {
         ensures yes { result ≡ true → CanOffer self.now place }
         ensures no { result ≡ false → CanOffer self.now place → ⊥ }
     {
-        let Some(sender) = self.parts.senders.get(place) else {
+        if place >= self.parts.senders.len() {
             return false;
-        };
+        }
+        !self.has_ended(place)
+    }
+
+    /// Whether the sender at this place has offered 4,294,967,295 packets, so that it can't offer another.
+    pub fn has_ended(&self, place: usize) -> bool
+        requires { place < length self.now.setup.senders }
+        ensures ended { result ≡ true → CanOffer self.now place → ⊥ }
+        ensures goes_on { result ≡ false → CanOffer self.now place }
+    {
         // Its device always takes one more. There are 65,536 senders at most, by this law, which does nothing, and each has offered fewer
         // than 2^32 packets.
         are_few(self.senders());
-        sender.sent < u32::MAX
+        let sender = &self.parts.senders[place];
+        sender.sent == u32::MAX
     }
 
     /// How many packets the sender at this place has offered.
