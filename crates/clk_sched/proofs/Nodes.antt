@@ -10,3 +10,4 @@ pub mod Placed
 pub mod Ordered
 pub mod Logged
 pub mod Idle
+pub mod Resting

@@ -7,3 +7,5 @@ pub mod ShaperRow
 pub mod LooksDrr
 pub mod TurnDrr
 pub mod PastIdle
+pub mod RestDrr
+pub mod Resting

@@ -14,6 +14,7 @@ pub mod Places
 pub mod Pulling
 pub mod Ranks
 pub mod QueuesFrom
+pub mod Resting
 pub mod Session
 pub mod Tokens
 pub mod Turning

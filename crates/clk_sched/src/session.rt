@@ -14,6 +14,7 @@ mod log;
 mod nodes;
 pub(crate) mod packed;
 mod prio;
+mod resting;
 mod round_robin;
 mod shaper;
 mod state;

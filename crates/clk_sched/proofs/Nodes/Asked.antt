@@ -11,7 +11,7 @@ use Rattle.clk_sched.specs.declared.session.inputs.Inputs.{Inputs}
 use Rattle.clk_sched.specs.declared.session.stride.Rank.{Rank}
 use Rattle.clk_sched.specs.Tree.{Row, nodes}
 use Rattle.clk_sched.specs.inside.Places.{inputs_of, StandsIn, AreWired, IsAfter, edges_of, edges_at, option_edges_to, input_at, option_input, queue_of, queue_asked}
-use Rattle.clk_sched.specs.inside.Pulling.{Pulls, Asks, HasPulled, added, now_of, after}
+use Rattle.clk_sched.specs.inside.Pulling.{CanPull, Pulls, Asks, HasPulled, added, now_of, after}
 use Rattle.clk_sched.specs.inside.Ranks.{inputs_in}
 use Rattle.clk_sched.proofs.Lists.Members.{of-all, in-slice, some-below}
 use Rattle.clk_sched.proofs.Trees.Below.{lies-within}
@@ -39,6 +39,12 @@ child-after table x i child wired e = by_place (slice_get table x) refl e
 
 pub edges-scheduler : (table : List Inputs) (x i child : ℕ) → input_at table x i ≡ Some (Node child) → edges_at table x i ≡ suc (edges_of table child)
 edges-scheduler table x i child e = ap (option_edges_to table) e
+
+pub child-can : (a : Nodes) (x i child : ℕ) → CanPull a x (edges_at a.inputs.items x i) → input_at a.inputs.items x i ≡ Some (Node child) → (x < child) × CanPull a child (edges_of a.inputs.items child)
+child-can a x i child can e =
+    let after = child-after a.inputs.items x i child can.wired e in
+    let edges = edges-scheduler a.inputs.items x i child e in
+    let room = can.room in (after.0, record { wired = can.wired; fit = can.fit; there = after.1; room = omega (arith, edges, room); moment = can.moment })
 
 -- the queue that a visit asks at an input
 pub queue-visited : (table : List Inputs) (x i : ℕ) (input : Input) (v : Visit) → input_at table x i ≡ Some input → v.node ≡ x → v.input ≡ i → v.fresh ≡ true → queue_asked table v ≡ queue_of (Some input)

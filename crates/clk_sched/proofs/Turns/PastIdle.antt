@@ -37,7 +37,7 @@ read-written : (row : List Served) (i : ℕ) (x : Served) → i < length row →
 read-written row i x l = grind (arith, common_steps, elements, nat_tests)
 
 -- a row whose input at the cursor gave nothing
-abbrev emptied : Deficits → Served → List Served
+abbrev pub emptied : Deficits → Served → List Served
 emptied d s = slice_set d.row.items d.cursor (settled s None)
 
 limits-emptied : (d : Deficits) (s : Served) → slice_get d.row.items d.cursor ≡ Some s → KeepsLimits d.cursor (emptied d s)
@@ -56,7 +56,7 @@ module _ (d : Deficits) where
   abbrev pub here : Served
   here = (read-some d.row.items d.cursor d.cursor_within).0
 
-  reads : slice_get d.row.items d.cursor ≡ Some here
+  pub reads : slice_get d.row.items d.cursor ≡ Some here
   reads = (read-some d.row.items d.cursor d.cursor_within).1
 
   long : length (emptied d here) ≡ length d.row.items
@@ -77,7 +77,7 @@ module _ (d : Deficits) where
   after-long : length after ≡ length d.row.items
   after-long = length-set (emptied d here) next (with_quantum arriving) ∙ long
 
-  arrives-at : IsArrivedAt next (emptied d here) (with_items d.row after).items
+  pub arrives-at : IsArrivedAt next (emptied d here) (with_items d.row after).items
   arrives-at s e =
       items-with_items d.row after after-long
       ∙ ap (λ t. slice_set (emptied d here) next (with_quantum t)) (ap (λ o. unwrap_or o s) (sym (read-some (emptied d here) next within).1 ∙ e))
@@ -98,10 +98,10 @@ module _ (d : Deficits) where
     idle_without = limits.idle_without;
   }
 
-  over-long : length passed-over.row.items ≡ length d.row.items
+  pub over-long : length passed-over.row.items ≡ length d.row.items
   over-long = ap length (items-with_items d.row after after-long) ∙ after-long
 
-  settles-over : Settles d passed-over None false
+  pub settles-over : Settles d passed-over None false
   settles-over = record {
     length_is = over-long;
     moves = λ vain. refl;

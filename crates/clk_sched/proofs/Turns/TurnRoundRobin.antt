@@ -152,7 +152,7 @@ may-second a b x n first h can kept =
     )
 
 -- Both parts were asked, up to a place, and that was its turn.
-had-both : {S : Type 0} (gives : S → ℕ → Option Packet → S → Type 0) (a b : Nodes) (q r : S) (x n first next : ℕ) (o : Option (ℕ × Packet)) → Begins a.inputs.items x n first → CanPull a x (edges_of a.inputs.items x)
+pub had-both : {S : Type 0} (gives : S → ℕ → Option Packet → S → Type 0) (a b : Nodes) (q r : S) (x n first next : ℕ) (o : Option (ℕ × Packet)) → Begins a.inputs.items x n first → CanPull a x (edges_of a.inputs.items x)
     → HasAskedAll gives a b q r x (parts first n) o → IsWithin (parts first n) o → next ≡ begins_next n first (giver_at (parts first n) o) → next < n
     → HadTurn gives a b q r x (RoundRobin (record { input = first })) (RoundRobin (record { input = next })) (packet_of o)
 had-both gives a b q r x n first next o h can asked within is lower =

@@ -38,6 +38,10 @@ idle_visits idle = map (λ i. asking idle.pull idle.moment idle.node i None) (ra
 abbrev pub with_idle : Logged → IdleInputs → Logged
 with_idle log idle = record { items = log.items ++ idle_visits idle; spare = log.spare - idle.count; kind = log.kind }
 
+-- a log with some visits more
+abbrev pub with_visits : Logged → List Visit → Logged
+with_visits log visits = record { items = log.items ++ visits; spare = log.spare - length visits; kind = log.kind }
+
 -- a log in which a pull begins, with room for so many visits
 abbrev pub with_pull : Logged → ℕ → Logged
 with_pull log n = record { items = log.items; spare = n; kind = record log.kind { start = length log.items } }

@@ -52,6 +52,12 @@ impl AllVisits {
         }
     }
 
+    /// Adds visits that no code holds.
+    pub fn push_all(&mut self)
+        ghost visits: { List Visit }
+        ensures { self.new ≡ record { items = self.old.items ++ visits; spare = self.old.spare - length visits; gone = self.old.gone; start = self.old.start } }
+    {}
+
     /// Begins a pull, with room for so many visits.
     pub fn begin(&mut self, visits: &usize)
         ensures { self.new ≡ record { items = self.old.items; spare = visits.now; gone = self.old.gone; start = length self.old.items } }

@@ -81,7 +81,7 @@ impl Served {
 }
 
 impl Deficits {
-    ghost use Rattle.std.specs.Prelude.{◌%◌, ◌++◌, ℕ, List, [], ◌∷◌, is_some, IsSome, IfSome};
+    ghost use Rattle.std.specs.Prelude.{◌%◌, ◌++◌, ℕ, List, [], ◌∷◌, is_some, true, IsSome, IfSome};
     ghost use Rattle.std.specs.List.{AllByRecursion, list_any};
     ghost use Rattle.clk_packet.specs.Limits.{most_length};
     ghost use Rattle.clk_sched.specs.declared.visit.Visit.{Visit};
@@ -98,6 +98,7 @@ impl Deficits {
     ghost use Rattle.clk_sched.specs.inside.Holds.OfClass.{IsDrr};
     ghost use Rattle.clk_sched.specs.inside.Looking.{looking, HoldsNoneAhead, IsHead, Logs, Settles, LooksAt, AreIdleAhead};
     ghost use Rattle.clk_sched.specs.inside.Making.{MayGoOn, GoesOnInVain};
+    ghost use Rattle.clk_sched.specs.inside.Resting.{IsDrrAtRest};
     ghost use Rattle.clk_sched.specs.declared.session.state.State.TheVariants.{Drr};
 
     /// What a DRRSched with these quanta, one for each input, holds before its first visit.
@@ -127,6 +128,17 @@ impl Deficits {
             .as_slice()
             .iter()
             .any(|served| served.head.is_some())
+    }
+
+    /// Whether no head is held, and the deficit of the input whose turn it is is its quantum. A turn that gets nothing then changes nothing.
+    pub fn is_at_rest(&self) -> bool
+        ensures { result ≡ true → IsDrrAtRest self.now }
+    {
+        let served = self.at_cursor();
+        if served.deficit != served.quantum {
+            return false;
+        }
+        !self.holds_head()
     }
 
     /// Adds the heads held, by input, to other packets.
@@ -187,6 +199,7 @@ impl Deficits {
     {
         let inputs = self.row.len() as u16;
         let mut looks = 0;
+        let mut again = false;
         while looks < inputs {
             let head = self.head();
             match head {
@@ -197,11 +210,12 @@ impl Deficits {
                     looks += 1;
                 }
                 None => {
-                    let (got, passed) = self.look_by_asking(nodes, q, node);
+                    let (got, passed) = self.look_by_asking(nodes, q, node, again);
                     if passed {
                         return got;
                     }
                     looks += 1;
+                    again = got.is_none();
                     if got.is_none() && inputs - looks >= MANY {
                         looks += self.pass_over_idle(nodes, q, node, inputs - looks);
                     }
@@ -229,7 +243,7 @@ impl Deficits {
         self.visit(nodes, node, head, false)
     }
 
-    /// Asks the input whose turn it is, at which no head is held. Returns what was got, and whether it is passed.
+    /// Asks the input whose turn it is, at which no head is held. Returns what was got, and whether it is passed. `again` is as in `Nodes::ask`.
     #[cycle(pull)]
     #[inline]
     fn look_by_asking<Q: Ask>(
@@ -237,13 +251,14 @@ impl Deficits {
         nodes: &mut Nodes,
         q: &mut Q,
         node: u16,
+        again: bool,
     ) -> (Option<Packet>, bool)
         requires can_pull { CanPull nodes.old node (edges_at nodes.old.inputs.items node self.old.cursor) }
         requires within { IsSome (input_at nodes.old.inputs.items node self.old.cursor) }
         requires none_held { IsHead self.old None }
         ensures { LooksAt Q.gives nodes.old nodes.new q.old q.new node self.old self.new result.0 result.1 }
     {
-        let got = nodes.ask(q, node, self.cursor);
+        let got = nodes.ask(q, node, self.cursor, again);
         (got, self.visit(nodes, node, got, true))
     }
 

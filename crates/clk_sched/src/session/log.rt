@@ -53,7 +53,9 @@ impl Model for Log {
 impl Log {
     ghost use Rattle.std.specs.Prelude.{◌≡◌, ◌+◌, ◌^◌, ◌<◌, ◌≤◌, ◌||◌, true, false, [], drop, length, IfOk, OnOk, OnErr, IsOk};
     ghost use Rattle.clk_sched.specs.Packed.{logged};
-    ghost use Rattle.clk_sched.specs.inside.Logged.{kind_made, with_visit, with_idle, with_pull, with_none};
+    ghost use Rattle.clk_sched.specs.inside.Logged.{kind_made, with_visit, with_visits, with_idle, with_pull, with_none};
+    ghost use Rattle.std.specs.Prelude.{List};
+    ghost use Rattle.clk_sched.specs.declared.visit.Visit.{Visit};
 
     /// No visits so far. Visits will be kept as a list, packed, or not at all. If those of the latest pull are kept, there is memory for so
     /// many.
@@ -133,6 +135,16 @@ impl Log {
         ensures { self.new ≡ with_visit self.old visit.now }
     {
         self.all.push(visit);
+    }
+
+    /// Adds visits that aren't kept, and that no code holds: only contracts see them.
+    #[inline]
+    pub fn pass_all(&mut self)
+        ghost visits: { List Visit }
+        requires unkept { self.old.kind.keeps || (self.old.kind.packs || self.old.kind.latest) ≡ false }
+        ensures { self.new ≡ with_visits self.old visits }
+    {
+        self.all.push_all();
     }
 
     /// Adds a visit, for which there is room.

@@ -62,6 +62,20 @@ impl Nodes {
         }
     }
 
+    /// Pulls a node, or skips the pull if it is known to give nothing and to change nothing.
+    // A function of its own, so that a pull that gives a packet at once pays nothing for it.
+    #[cycle(pull)]
+    #[inline(never)]
+    fn pull_again<Q: Ask>(&mut self, q: &mut Q, node: u16) -> Option<Packet>
+        requires can_pull { CanPull self.old node (edges_of self.old.inputs.items node) }
+        ensures { WasPulled Q.gives self.old self.new q.old q.new node result }
+    {
+        if self.skip(q, node) {
+            return None;
+        }
+        self.pull(q, node)
+    }
+
     /// Takes the state of a node out for its turn. `Prio` stands in its place meanwhile.
     #[inline]
     pub fn take(&mut self, node: u16) -> State
@@ -104,7 +118,7 @@ impl Nodes {
                 place += idle;
                 continue;
             }
-            if let Some(packet) = self.look(q, node, order[place].input) {
+            if let Some(packet) = self.look(q, node, order[place].input, place > 0) {
                 return Some((place, packet));
             }
             place += 1;
@@ -161,7 +175,7 @@ impl Nodes {
         while place < count {
             place += self.pass_idle(q, node, first + place, count - place);
             if place < count {
-                if let Some(packet) = self.look(q, node, first + place) {
+                if let Some(packet) = self.look(q, node, first + place, place > 0) {
                     return Some((place, packet));
                 }
                 place += 1;
@@ -201,15 +215,15 @@ impl Nodes {
         }
     }
 
-    /// Asks what stands at an input of a node, records the visit, and returns what it got.
+    /// Asks what stands at an input of a node, records the visit, and returns what it got. `again` is as in `ask`.
     #[cycle(pull)]
     #[inline(always)]
-    pub fn look<Q: Ask>(&mut self, q: &mut Q, node: u16, input: u16) -> Option<Packet>
+    pub fn look<Q: Ask>(&mut self, q: &mut Q, node: u16, input: u16, again: bool) -> Option<Packet>
         requires can_pull { CanPull self.old node (edges_at self.old.inputs.items node input) }
         requires within { IsSome (input_at self.old.inputs.items node input) }
         ensures { HasAsked Q.gives self.old self.new q.old q.new node input result }
     {
-        let got = self.ask(q, node, input);
+        let got = self.ask(q, node, input, again);
         self.record(node, input, got);
         got
     }
@@ -255,10 +269,10 @@ impl Nodes {
         });
     }
 
-    /// Asks what stands at an input of a node.
+    /// Asks what stands at an input of a node. With `again`, as after an input that gave nothing, it looks whether it can be skipped.
     #[cycle(pull)]
     #[inline(always)]
-    pub fn ask<Q: Ask>(&mut self, q: &mut Q, node: u16, input: u16) -> Option<Packet>
+    pub fn ask<Q: Ask>(&mut self, q: &mut Q, node: u16, input: u16, again: bool) -> Option<Packet>
         requires can_pull { CanPull self.old node (edges_at self.old.inputs.items node input) }
         requires within { IsSome (input_at self.old.inputs.items node input) }
         ensures keeps { Keeps self.old self.new (edges_at self.old.inputs.items node input - 1) }
@@ -268,7 +282,12 @@ impl Nodes {
     {
         match self.inputs[node as usize].each[input as usize] {
             Input::Queue(leaf) => q.ask(leaf),
-            Input::Node(child) => self.pull(q, child),
+            Input::Node(child) => {
+                if again {
+                    return self.pull_again(q, child);
+                }
+                self.pull(q, child)
+            }
         }
     }
 }

@@ -21,7 +21,7 @@ pub fn pull_device<Q: Ask>(nodes: &mut Nodes, q: &mut Q) -> Option<Packet>
     requires one { IfSome (slice_get nodes.old.inputs.items 0) (λ p. length p.each.items ≡ 1) }
     ensures { WasPulled Q.gives nodes.old nodes.new q.old q.new 0 result }
 {
-    nodes.look(q, DEVICE, 0)
+    nodes.look(q, DEVICE, 0, false)
 }
 
 /// Pulls a PrioSched.

@@ -23,6 +23,7 @@ impl State {
     ghost use Rattle.clk_sched.specs.Limits.{end_of_moments};
     ghost use Rattle.clk_sched.specs.inside.Due.{OpensAt, HoldsHead};
     ghost use Rattle.clk_sched.specs.declared.session.state.State.TheVariants.{Prio};
+    ghost use Rattle.clk_sched.specs.inside.Resting.{IsAtRest};
 
     /// Whether this is the state of a PrioSched, which holds nothing.
     pub fn is_prio(&self) -> bool
@@ -43,6 +44,17 @@ impl State {
         match self {
             State::Shaper(bucket) => bucket.opens_at(moment),
             _ => moment,
+        }
+    }
+
+    /// Whether it is known that a turn in which a node with this state gets nothing leaves the state as it is.
+    pub fn is_at_rest(&self) -> bool
+        ensures { result ≡ true → IsAtRest self.now }
+    {
+        match self {
+            State::Drr(deficits) => deficits.is_at_rest(),
+            State::Shaper(_) => false,
+            _ => true,
         }
     }
 

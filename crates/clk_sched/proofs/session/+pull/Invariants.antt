@@ -51,6 +51,9 @@ decreases-shaper::Bucket::pull g l = rank (length l.nodes.now.inputs.items) l.no
 abbrev pub decreases-nodes::Nodes::pull : goal.decreases-nodes::Nodes::pull
 decreases-nodes::Nodes::pull g l = rank (length l.self.now.inputs.items) l.node 6
 
+abbrev pub decreases-nodes::Nodes::pull_again : goal.decreases-nodes::Nodes::pull_again
+decreases-nodes::Nodes::pull_again g l = rank (length l.self.now.inputs.items) l.node 7
+
 abbrev pub decreases-nodes::Nodes::ask_in_order-loop-place : goal.decreases-nodes::Nodes::ask_in_order-loop-place
 decreases-nodes::Nodes::ask_in_order-loop-place g l = length l.order - l.place
 
