@@ -1,10 +1,10 @@
 -- The bucket of a Shaper from turn to turn.
-use Rattle.std.proofs.Common.{◌≡◌, ℕ, ◌+◌, ◌-◌, ◌*◌, ◌≤◌, ◌<◌, ◌&&◌, min, nat_le, if◌then◌else◌, Bool, true, false, List, [], ◌∷◌, None, is_some, refl, ap, ap₂, mul-add, arith, rules}
+use Rattle.std.proofs.Common.{◌≡◌, ℕ, ◌+◌, ◌-◌, ◌*◌, ◌≤◌, ◌<◌, ◌&&◌, min, nat_le, nat_lt, if◌then◌else◌, Bool, true, false, List, [], ◌∷◌, None, is_some, refl, sym, ap, ap₂, ◌∙◌, mul-add, arith, rules}
 use Rattle.std.proofs.lemmas.Bool.Decides.{nat_tests}
 use Rattle.clk_sched.specs.declared.session.shaper.Bucket.{Bucket}
 use Rattle.clk_sched.specs.Turns.{Turn, giver}
 use Rattle.clk_sched.specs.Laws.Shaper.{has_passed, packets_passed, keeps_since_each, has_room}
-use Rattle.clk_sched.specs.inside.Holds.Shaper.{AreBefore, tokens_at, HoldsBucket, IsTaken}
+use Rattle.clk_sched.specs.inside.Holds.Shaper.{AreBefore, tokens_at, HoldsBucket, IsTaken, Tells}
 
 -- whether there is room follows from how many packets passed later
 pub room-same : (rate burst moment : ℕ) (later other earlier : List Turn) → packets_passed later ≡ packets_passed other → keeps_since_each rate burst moment later earlier ≡ keeps_since_each rate burst moment other earlier
@@ -43,3 +43,14 @@ bucket-none rate burst turns t b h none = search rules
 pub bucket-back : (rate burst : ℕ) (turns : List Turn) (t : Turn) (b c d : Bucket) → HoldsBucket rate burst turns b → AreBefore t.moment turns → IsTaken b c t.moment → giver t.visits ≡ None
     → d.rate ≡ c.rate → d.burst ≡ c.burst → d.filled ≡ c.filled → d.tokens ≡ min (c.tokens + 1) c.burst → HoldsBucket rate burst (t ∷ turns) d
 bucket-back rate burst turns t b c d h before taken none rate_is burst_is filled_is tokens_is = grind (arith, nat_tests, room-unpassed, mul-add)
+
+tells-same : (tokens fresh burst : ℕ) → 1 ≤ burst → nat_lt 0 (min (tokens + fresh) burst) ≡ nat_le (0 + 1) (tokens + fresh)
+tells-same tokens fresh burst some = grind (arith, nat_tests)
+
+-- There is a token exactly if there is room for a packet.
+pub bucket-tells : (b : Bucket) (moment : ℕ) → Tells b moment (nat_lt 0 (tokens_at b moment))
+bucket-tells b moment rate burst turns h before =
+    let some = b.holds_some in
+    let same = h.burst_is in
+    tells-same b.tokens (b.rate * (moment - b.filled)) b.burst some ∙ ap (λ r. nat_le (0 + 1) (b.tokens + r * (moment - b.filled))) h.rate_is
+    ∙ sym (h.room moment [] (h.filled moment before) (omega (arith, some, same)))

@@ -1,5 +1,4 @@
 -- Inputs that give nothing, since all queues below them are empty: what it visits below them, and what stays.
-use Rattle.std.proofs.lemmas.Grind.{common_steps}
 use Rattle.std.proofs.Common.{◌≡◌, ℕ, zero, suc, ◌+◌, ◌-◌, ◌<◌, ◌≤◌, nat_lt, Bool, true, false, List, [], ◌∷◌, ◌++◌, length, slice_get, Option, Some, None, IsSome, IfSome, refl, sym, ap, ap₂, ◌∙◌, subst, append-nil, append_assoc, arith, rules}
 use Rattle.std.specs.List.{AllByRecursion, flat_map}
 use Rattle.std.proofs.lemmas.List.{length-append}
@@ -12,16 +11,15 @@ use Rattle.clk_sched.specs.declared.session.inputs.Input.{Input}
 use Rattle.clk_sched.specs.declared.session.inputs.Input.TheVariants.{Queue, Node}
 use Rattle.clk_sched.specs.declared.session.inputs.Inputs.{Inputs}
 use Rattle.clk_sched.specs.declared.session.nodes.Nodes.{Nodes}
-use Rattle.clk_sched.specs.declared.session.state.State.{State}
 use Rattle.clk_sched.specs.Log.{asking}
 use Rattle.clk_sched.specs.Answers.{Answers}
 use Rattle.clk_sched.specs.inside.Places.{edges_of, edges_at, edges_in, input_at, option_input, queue_asked}
-use Rattle.clk_sched.specs.inside.Pulling.{Now, CanPull, Keeps, Asks, added, now_of}
+use Rattle.clk_sched.specs.inside.Pulling.{CanPull, Keeps, Asks, added, now_of}
 use Rattle.clk_sched.specs.inside.Looking.{Logs}
 use Rattle.clk_sched.specs.inside.Resting.{block_below, block_to, resting_block, IsAtRest, IsIdleAt, IsIdleTo, IsIdleInput, IsIdleNode, with_block}
 use Rattle.clk_sched.specs.inside.Turning.{HasAsked, HasAskedAll, IsIdle, WasPulled}
 use Rattle.clk_sched.proofs.Nodes.Asked.{child-can, edges-scheduler, queue-visited, asks-queue, asks-child}
-use Rattle.clk_sched.proofs.Nodes.Asking.{IsAsking, added-none, answers-then, asking-first, can-go_on, keeps-more, keeps-none}
+use Rattle.clk_sched.proofs.Nodes.Asking.{IsAsking, answers-then, asking-first, can-go_on, keeps-more, keeps-none}
 use Rattle.clk_sched.proofs.Nodes.InTwo.{asked-both}
 use Rattle.clk_sched.proofs.Nodes.Logged.{asked-logged, queue-answers}
 

@@ -5,7 +5,7 @@ use Rattle.std.proofs.lemmas.Bool.Decides.{nat_tests}
 use Rattle.std.proofs.lemmas.List.Concat.{flat_map-append}
 use Rattle.std.proofs.lemmas.List.FromFn.{map-range_with_len_more}
 use Rattle.std.proofs.Math.Nat.{mod-eq_of_lt, mod-add-mod, add-mod_right}
-use Rattle.std.proofs.Common.{append-nil, ◌≡◌, ◌≢◌, ℕ, zero, suc, ◌+◌, ◌%◌, ◌<◌, ◌≤◌, ◌==◌, ◌||◌, if◌then◌else◌, Bool, true, false, List, [], ◌∷◌, ◌++◌, length, map, is_some, slice_get, slice_set, Option, Some, None, refl, sym, ap, ap₂, ◌∙◌, subst, arith, rules}
+use Rattle.std.proofs.Common.{append-nil, ◌≡◌, ℕ, zero, suc, ◌+◌, ◌%◌, ◌<◌, ◌≤◌, ◌==◌, ◌||◌, if◌then◌else◌, Bool, true, false, List, [], ◌∷◌, ◌++◌, length, map, is_some, slice_get, slice_set, Option, Some, None, refl, sym, ap, ap₂, ◌∙◌, subst, arith, rules}
 use Rattle.std.specs.Global.{Box}
 use Rattle.std.specs.List.{flat_map, list_any, range_with_len}
 use Rattle.clk_packet.specs.declared.packet.Packet.{Packet}
@@ -23,9 +23,9 @@ use Rattle.clk_sched.specs.inside.Pulling.{CanPull}
 use Rattle.clk_sched.specs.inside.Resting.{IsDrrAtRest, IsIdleAt, IsIdleTo, with_block}
 use Rattle.clk_sched.specs.inside.Turning.{HadTurn}
 use Rattle.clk_sched.proofs.Classes.Deficits.{read-some}
-use Rattle.clk_sched.proofs.Lists.Numbers.{equal, differs}
+use Rattle.clk_sched.proofs.Lists.Numbers.{equal}
 use Rattle.clk_sched.proofs.Nodes.Placed.{set-here, set-other, some-same}
-use Rattle.clk_sched.proofs.Nodes.Resting.{RestsTo, IsReached, block-none, block-then, reached, reached-logs, visits_to}
+use Rattle.clk_sched.proofs.Nodes.Resting.{RestsTo, block-none, block-then, reached, reached-logs, visits_to}
 use Rattle.clk_sched.proofs.Turns.LooksDrr.{looks-at-asked}
 use Rattle.clk_sched.proofs.Turns.PastIdle.{emptied, here, reads, next, within, arrives-at, over-long, settles-over, passed-over, passed-all}
 use Rattle.clk_sched.proofs.Turns.TurnDrr.{HasEnded, making-first, making-can, making-next, making-all, had-ended}

@@ -26,7 +26,7 @@ use Rattle.clk_sched.proofs.Nodes.InOrder.{IsWithin, packet_of, HasTurnedBy, tur
 use Rattle.clk_sched.proofs.Nodes.Ordered.{IsOrderAt, can-ask, inputs-asked, keeps-asked, row-order}
 
 -- by what a Shaper holds, a scheduler of no other class has a turn
-shaper-alone : (a b : Nodes) (x : ℕ) (s : Bucket) (now : State) (got : Option Packet) → ((rate burst : ℕ) → TakesTurn a b x (shaper rate burst) (Shaper s) now got) → (class : Scheduler) → TakesTurn a b x class (Shaper s) now got
+pub shaper-alone : (a b : Nodes) (x : ℕ) (s : Bucket) (now : State) (got : Option Packet) → ((rate burst : ℕ) → TakesTurn a b x (shaper rate burst) (Shaper s) now got) → (class : Scheduler) → TakesTurn a b x class (Shaper s) now got
 shaper-alone a b x s now got h (shaper rate burst) row history ready holds = h rate burst row history ready holds
 shaper-alone a b x s now got h class row history ready holds = absurd holds
 

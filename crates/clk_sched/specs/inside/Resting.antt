@@ -1,5 +1,5 @@
 -- Nodes that a pull leaves as they are, since all queues below them are empty: what it visits.
-use Rattle.std.specs.Prelude.{◌≡◌, ℕ, zero, suc, ◌+◌, ◌-◌, ◌%◌, ◌≤◌, false, List, [], ◌∷◌, ◌++◌, length, map, ⊤, Option, Some, None, IfSome, is_some, slice_get}
+use Rattle.std.specs.Prelude.{◌≡◌, ℕ, zero, suc, ◌+◌, ◌-◌, ◌%◌, ◌≤◌, nat_lt, false, if◌then◌else◌, List, [], ◌∷◌, ◌++◌, length, map, ⊤, Option, Some, None, IfSome, is_some, slice_get}
 use Rattle.std.specs.List.{flat_map, range_with_len, list_any}
 use Rattle.clk_packet.specs.declared.packet.Packet.{Packet}
 use Rattle.clk_sched.specs.declared.visit.Visit.{Visit}
@@ -12,6 +12,7 @@ use Rattle.clk_sched.specs.declared.session.nodes.Nodes.{Nodes}
 use Rattle.clk_sched.specs.declared.session.state.State.{State}
 use Rattle.clk_sched.specs.declared.session.state.State.TheVariants.{RoundRobin, Drr, Stride, Shaper}
 use Rattle.clk_sched.specs.Log.{asking}
+use Rattle.clk_sched.specs.inside.Holds.Shaper.{tokens_at}
 use Rattle.clk_sched.specs.inside.Logged.{with_visits}
 use Rattle.clk_sched.specs.inside.Places.{input_at}
 use Rattle.clk_sched.specs.inside.Pulling.{Now, now_of}
@@ -22,23 +23,23 @@ pub record IsDrrAtRest (d : Deficits) : Type 0 where
   pub none_held : list_any (λ (s : Served). is_some s.head) d.row.items ≡ false
   pub arrived : (s : Served) → slice_get d.row.items d.cursor ≡ Some s → s.deficit ≡ s.quantum
 
--- A turn in which a node with this state gets nothing leaves the state as it is. Of a Shaper this is not said.
+-- A turn in which a node with this state gets nothing leaves the state as it is, or a Shaper with one that tells the same.
 abbrev pub IsAtRest : State → Type 0
 IsAtRest (Drr d) = IsDrrAtRest d.value
-IsAtRest (Shaper b) = ⊥
 IsAtRest s = ⊤
 
--- the order in which a node with this state, over so many inputs, asks these in a turn in which it gets nothing
-abbrev pub resting_order : State → ℕ → List ℕ
-resting_order (RoundRobin b) inputs = range_with_len b.input (inputs - b.input) ++ range_with_len 0 b.input
-resting_order (Drr d) inputs = map (λ k. (d.value.cursor + k) % inputs) (range_with_len 0 inputs)
-resting_order (Stride p) inputs = inputs_in p.value.row.items
-resting_order s inputs = range_with_len 0 inputs
+-- the order in which a node with this state, over so many inputs, asks these in a turn at a moment in which it gets nothing
+abbrev pub resting_order : State → ℕ → ℕ → List ℕ
+resting_order (RoundRobin b) moment inputs = range_with_len b.input (inputs - b.input) ++ range_with_len 0 b.input
+resting_order (Drr d) moment inputs = map (λ k. (d.value.cursor + k) % inputs) (range_with_len 0 inputs)
+resting_order (Stride p) moment inputs = inputs_in p.value.row.items
+resting_order (Shaper b) moment inputs = if nat_lt 0 (tokens_at b moment) then 0 ∷ [] else []
+resting_order s moment inputs = range_with_len 0 inputs
 
-abbrev pub order_at : Option State → Option Inputs → List ℕ
-order_at None p = []
-order_at (Some s) None = []
-order_at (Some s) (Some p) = resting_order s (length p.each.items)
+abbrev pub order_at : ℕ → Option State → Option Inputs → List ℕ
+order_at moment None p = []
+order_at moment (Some s) None = []
+order_at moment (Some s) (Some p) = resting_order s moment (length p.each.items)
 
 -- the visits below an input, by those of each node
 abbrev pub block_below : (ℕ → List Visit) → Option Input → List Visit
@@ -53,7 +54,7 @@ block_to block table now x i = block_below block (input_at table x i) ++ asking 
 -- The visits of a pull of node x that gets nothing, at most so many levels deep.
 abbrev pub resting_block : ℕ → List Inputs → List State → Now → ℕ → List Visit
 resting_block zero table states now x = []
-resting_block (suc deep) table states now x = flat_map (block_to (λ m. resting_block deep table states now m) table now x) (order_at (slice_get states x) (slice_get table x))
+resting_block (suc deep) table states now x = flat_map (block_to (λ m. resting_block deep table states now m) table now x) (order_at now.moment (slice_get states x) (slice_get table x))
 
 -- nothing comes from what stands at an input
 abbrev pub IsIdleAt : {S : Type 0} → (S → ℕ → Option Packet → S → Type 0) → S → (ℕ → Type 0) → Option Input → Type 0

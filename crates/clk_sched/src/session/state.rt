@@ -53,7 +53,6 @@ impl State {
     {
         match self {
             State::Drr(deficits) => deficits.is_at_rest(),
-            State::Shaper(_) => false,
             _ => true,
         }
     }
