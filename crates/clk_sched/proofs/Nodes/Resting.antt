@@ -1,24 +1,27 @@
 -- Inputs that give nothing, since all queues below them are empty: what it visits below them, and what stays.
-use Rattle.std.proofs.Common.{◌≡◌, ℕ, zero, suc, ◌+◌, ◌-◌, ◌<◌, ◌≤◌, nat_lt, Bool, true, false, List, [], ◌∷◌, ◌++◌, length, slice_get, Option, Some, None, IsSome, IfSome, refl, sym, ap, ap₂, ◌∙◌, subst, append-nil, append_assoc, arith, rules}
+use Rattle.std.proofs.Common.{◌≡◌, ℕ, zero, suc, ◌+◌, ◌-◌, ◌<◌, ◌≤◌, nat_lt, Bool, true, false, List, [], ◌∷◌, ◌++◌, length, slice_get, Option, Some, None, IsSome, IfSome, MatchOption, refl, sym, ap, ap₂, ◌∙◌, subst, append-nil, append_assoc, arith, rules}
 use Rattle.std.specs.List.{AllByRecursion, flat_map}
 use Rattle.std.proofs.lemmas.List.{length-append}
 use Rattle.std.proofs.lemmas.Bool.{false≢true}
 use Rattle.std.proofs.lemmas.Bool.Decides.{nat_tests}
-use Rattle.std.proofs.lemmas.Option.{slice_get_past}
 use Rattle.clk_packet.specs.declared.packet.Packet.{Packet}
 use Rattle.clk_sched.specs.declared.visit.Visit.{Visit}
+use Rattle.clk_sched.specs.declared.session.inputs.Below.{Below}
 use Rattle.clk_sched.specs.declared.session.inputs.Input.{Input}
 use Rattle.clk_sched.specs.declared.session.inputs.Input.TheVariants.{Queue, Node}
 use Rattle.clk_sched.specs.declared.session.inputs.Inputs.{Inputs}
 use Rattle.clk_sched.specs.declared.session.nodes.Nodes.{Nodes}
+use Rattle.clk_sched.specs.declared.session.state.State.{State}
+use Rattle.clk_sched.specs.declared.session.state.State.{State}
 use Rattle.clk_sched.specs.Log.{asking}
 use Rattle.clk_sched.specs.Answers.{Answers}
-use Rattle.clk_sched.specs.inside.Places.{edges_of, edges_at, edges_in, input_at, option_input, queue_asked}
+use Rattle.clk_sched.specs.inside.Places.{AreWired, IsWithin, edges_of, edges_at, edges_in, input_at, option_input, queue_asked}
 use Rattle.clk_sched.specs.inside.Pulling.{CanPull, Keeps, Asks, added, now_of}
 use Rattle.clk_sched.specs.inside.Looking.{Logs}
-use Rattle.clk_sched.specs.inside.Resting.{block_below, block_to, resting_block, IsAtRest, IsIdleAt, IsIdleTo, IsIdleInput, IsIdleNode, with_block}
-use Rattle.clk_sched.specs.inside.Turning.{HasAsked, HasAskedAll, IsIdle, WasPulled}
-use Rattle.clk_sched.proofs.Nodes.Asked.{child-can, edges-scheduler, queue-visited, asks-queue, asks-child}
+use Rattle.clk_sched.specs.inside.Resting.{block_below, block_to, resting_block, IsAtRest, AreAtRest, IsIdleAt, IsIdleTo, IsIdleNode, with_block}
+use Rattle.clk_sched.specs.inside.Turning.{HasAsked, HasAskedAll, WasPulled}
+use Rattle.clk_sched.proofs.Lists.Members.{of-all, in-slice}
+use Rattle.clk_sched.proofs.Nodes.Asked.{child-after, child-can, edges-scheduler, queue-visited, asks-queue, asks-child}
 use Rattle.clk_sched.proofs.Nodes.Asking.{IsAsking, answers-then, asking-first, can-go_on, keeps-more, keeps-none}
 use Rattle.clk_sched.proofs.Nodes.InTwo.{asked-both}
 use Rattle.clk_sched.proofs.Nodes.Logged.{asked-logged, queue-answers}
@@ -116,29 +119,46 @@ reached-all gives a q deep x (i ∷ order) rests low can there idle =
     (asked-both gives a b (with_block b (flat_map (visits_to deep a x) order)) q q q x (i ∷ []) order None
     (record { keeps = keeps-more a b _ _ first.keeps (omega arith); answers = first.answers; asks = first.asks }) others)
 
--- What stands at an input of a node, where the node has that input, is idle.
-pub idle-queue : {S : Type 0} (gives : S → ℕ → Option Packet → S → Type 0) (n : Nodes) (q : S) (x i : ℕ) → IsIdle gives n q x i → IsIdleInput gives n q x i
-idle-queue gives n q x i h deep low = subst (IsIdleAt gives q (λ m. IsIdleTo gives deep n.inputs.items n.states.items q m)) (sym h.stands) h.gives_none
+-- A node whose leaves are all among queues that are known to be empty, and that is at rest as all nodes below it.
+module _ {S : Type 0} (gives : S → ℕ → Option Packet → S → Type 0) (n : Nodes) (q : S) (x : ℕ) (b : Below) (wired : AreWired n.inputs.items) (leaves : ℕ) (wide : b.last < b.first + leaves)
+    (empty : (k : ℕ) → k < leaves → gives q (b.first + k) None q) (rest : AreAtRest n.states.items x b.nodes) where
+  -- what stands at an input of a node within that
+  queue-idle : (leaf : ℕ) → b.first ≤ leaf → leaf ≤ b.last → gives q leaf None q
+  queue-idle leaf low high = let same : b.first + (leaf - b.first) ≡ leaf = omega (arith, low) in subst (λ l. gives q l None q) same (empty (leaf - b.first) (omega (arith, low, high, wide)))
 
-idle-past : {S : Type 0} (gives : S → ℕ → Option Packet → S → Type 0) (n : Nodes) (q : S) (x i : ℕ) (p : Inputs) → slice_get n.inputs.items x ≡ Some p → length p.each.items ≤ i → IsIdleInput gives n q x i
-idle-past gives n q x i p e l deep low =
-    let none : input_at n.inputs.items x i ≡ None = ap (λ o. option_input o i) e ∙ slice_get_past p.each.items i l in
-    subst (IsIdleAt gives q (λ m. IsIdleTo gives deep n.inputs.items n.states.items q m)) (sym none) tt
+  abbrev IdleWithin : ℕ → Type 0
+  IdleWithin deep = (y : ℕ) (p : Inputs) → slice_get n.inputs.items y ≡ Some p → x ≤ y → y + p.below.nodes ≤ x + b.nodes → b.first ≤ p.below.first → p.below.last ≤ b.last → IsIdleTo gives deep n.inputs.items n.states.items q y
 
--- All inputs of a node at rest are idle, and so is the node.
-pub idle-node : {S : Type 0} (gives : S → ℕ → Option Packet → S → Type 0) (n : Nodes) (q : S) (x count : ℕ) (p : Inputs) → x < length n.inputs.items → slice_get n.inputs.items x ≡ Some p → count ≡ length p.each.items
-    → IfSome (slice_get n.states.items x) IsAtRest → ((i : ℕ) → i < count → IsIdleInput gives n q x i) → IsIdleNode gives n q x
-idle-node gives n q x count p there e all rest each zero low = absurd (omega (arith, low, there))
-idle-node gives n q x count p there e all rest each (suc deep) low = (rest, λ i. by_place i (nat_lt i count) refl deep (omega (arith, low)))
+  idle-step : (deep : ℕ) → IdleWithin deep → IdleWithin (suc deep)
+  idle-step deep inner y p e after most low high = (rest y after (omega (arith, most)), λ i. by_input i (input_at n.inputs.items y i) refl)
+    where
+      stands : (i : ℕ) (input : Input) → input_at n.inputs.items y i ≡ Some input → IsWithin n.inputs.items y p.below input
+      stands i input k = of-all (IsWithin n.inputs.items y p.below) input p.each.items (wired y p e).within (in-slice p.each.items i input (sym (ap (λ o. option_input o i) e) ∙ k))
+
+      below_it : (m : ℕ) → y < m → (o : Option Inputs) → slice_get n.inputs.items m ≡ o
+          → MatchOption o ⊥ (λ (c : Inputs). (p.below.first ≤ c.below.first) × (c.below.last ≤ p.below.last) × (m + c.below.nodes ≤ y + p.below.nodes)) → IsIdleTo gives deep n.inputs.items n.states.items q m
+      below_it m past None f h = absurd h
+      below_it m past (Some c) f h =
+          inner m c f (omega (arith, after, past)) (let few = h.2 in omega (arith, most, few)) (let first = h.0 in omega (arith, low, first)) (let last = h.1 in omega (arith, high, last))
+
+      by_input : (i : ℕ) (o : Option Input) → input_at n.inputs.items y i ≡ o → IsIdleAt gives q (λ m. IsIdleTo gives deep n.inputs.items n.states.items q m) o
+      by_input i None k = tt
+      by_input i (Some (Queue leaf)) k = let h = stands i (Queue leaf) k in queue-idle leaf (let l = h.0 in omega (arith, low, l)) (let l = h.1 in omega (arith, high, l))
+      by_input i (Some (Node m)) k = below_it m (child-after n.inputs.items y i m wired k).0 (slice_get n.inputs.items m) refl (stands i (Node m) k)
+
+  idle-within : (deep : ℕ) → IdleWithin deep
+  idle-within zero y p e after most low high = tt
+  idle-within (suc deep) y p e after most low high = idle-step deep (λ z c f a m l h. idle-within deep z c f a m l h) y p e after most low high
+
+  pub idle-node : (p : Inputs) → slice_get n.inputs.items x ≡ Some p → p.below ≡ b → IsIdleNode gives n q x
+  idle-node p e is deep low =
+      let same : (x + p.below.nodes ≤ x + b.nodes) × (b.first ≤ p.below.first) × (p.below.last ≤ b.last) = subst (λ (c : Below). (x + c.nodes ≤ x + b.nodes) × (b.first ≤ c.first) × (c.last ≤ b.last)) (sym is) (omega arith, omega arith, omega arith) in
+      idle-within deep x p e (omega arith) same.0 same.1 same.2
+
+-- one node more
+pub rest-more : (states : List State) (x k : ℕ) → ((y : ℕ) → x ≤ y → y < x + k → IfSome (slice_get states y) IsAtRest) → IfSome (slice_get states (x + k)) IsAtRest → (y : ℕ) → x ≤ y → y < x + (k + 1) → IfSome (slice_get states y) IsAtRest
+rest-more states x k each next y low high = by_place (nat_lt y (x + k)) refl
   where
-    by_place : (i : ℕ) (b : Bool) → nat_lt i count ≡ b → IsIdleInput gives n q x i
-    by_place i true is = each i (grind (arith, nat_tests))
-    by_place i false is = let past : count ≤ i = grind (arith, nat_tests) in idle-past gives n q x i p e (omega (arith, all, past))
-
--- one input more
-pub idle-one_more : {S : Type 0} (gives : S → ℕ → Option Packet → S → Type 0) (n : Nodes) (q : S) (x k : ℕ) → ((i : ℕ) → i < k → IsIdleInput gives n q x i) → IsIdleInput gives n q x k → (i : ℕ) → i < k + 1 → IsIdleInput gives n q x i
-idle-one_more gives n q x k each next i l = by_place (nat_lt i k) refl
-  where
-    by_place : (b : Bool) → nat_lt i k ≡ b → IsIdleInput gives n q x i
-    by_place true is = each i (grind (arith, nat_tests))
-    by_place false is = let same : k ≡ i = let past : k ≤ i = grind (arith, nat_tests) in omega (arith, past) in subst (IsIdleInput gives n q x) same next
+    by_place : (b : Bool) → nat_lt y (x + k) ≡ b → IfSome (slice_get states y) IsAtRest
+    by_place true is = each y low (grind (arith, nat_tests))
+    by_place false is = let same : x + k ≡ y = let past : x + k ≤ y = grind (arith, nat_tests) in omega (arith, past, high) in subst (λ z. IfSome (slice_get states z) IsAtRest) same next

@@ -5,17 +5,18 @@ use Rattle.std.proofs.lemmas.List.{length-map}
 use Rattle.std.proofs.lemmas.Option.{slice_get_within}
 use Rattle.std.specs.List.{AllByRecursion}
 use Rattle.clk_packet.specs.Limits.{most_inputs}
+use Rattle.clk_sched.specs.declared.session.inputs.Below.{Below}
 use Rattle.clk_sched.specs.declared.session.inputs.Inputs.{Inputs}
 use Rattle.clk_sched.specs.declared.session.nodes.Nodes.{Nodes}
 use Rattle.clk_sched.specs.declared.session.state.State.{State}
 use Rattle.clk_packet.specs.Scheduler.{Scheduler, prio, HasArguments}
 use Rattle.clk_sched.specs.Tree.{Row, end, leaf, node, Tree, root, nodes, width, IsWellFormed}
-use Rattle.clk_sched.specs.inside.Places.{inputs_of, EachHasInputs, edges_to_all, IsAfter, IsWired}
+use Rattle.clk_sched.specs.inside.Places.{inputs_of, EachHasInputs, edges_to_all, IsAfter, IsWithin, IsWired}
 use Rattle.clk_sched.specs.inside.Pulling.{EachHolds}
 use Rattle.clk_sched.specs.Session.{elements}
 use Rattle.clk_sched.specs.inside.Session.{IsLaidOut}
 use Rattle.clk_sched.specs.inside.Holds.OfClass.{Fits, Holds}
-use Rattle.clk_sched.specs.inside.LaidOut.{Entry, entry, entry_over, entries, Kind, kinds, AreFirst}
+use Rattle.clk_sched.specs.inside.LaidOut.{Entry, below_row, first_leaf, last_leaf, entry, entry_over, entries, Kind, kinds, AreFirst}
 
 -- how many there are of each
 
@@ -83,6 +84,8 @@ record IsPlaced (table : List Inputs) (states : List State) (x : ℕ) (class : S
   arguments : HasArguments class (width row)
   after : AllByRecursion (IsAfter (length table) x) (inputs_of (suc x) row)
   edges : elements row ≡ edges_to_all table (inputs_of (suc x) row)
+  within : AllByRecursion (IsWithin table x (below_row row)) (inputs_of (suc x) row)
+  last : x + nodes row < length table
 
 -- each scheduler of a row is in its place
 abbrev ArePlaced : List Inputs → List State → ℕ → Row → Type 0
@@ -106,6 +109,20 @@ edges-all table next end h = refl
 edges-all table next (leaf q row) h = omega (arith, edges-all table next row h)
 edges-all table next (node class inputs row) h = search (rules, entries-after, (edges-all table (suc (next + nodes inputs)) row (entries-after table next inputs row h.1).1))
 
+match-weaker : {X : Type 0} (P Q : X → Type 0) (o : Option X) → ((x : X) → P x → Q x) → MatchOption o ⊥ P → MatchOption o ⊥ Q
+match-weaker P Q o f h = search rules
+
+-- What stands at the inputs of a row is within what is told of the row.
+within-all : (table : List Inputs) (x next : ℕ) (row : Row) (b : Below) → b.first ≤ first_leaf row → last_leaf row ≤ b.last → next + nodes row ≤ suc (x + b.nodes) → Sits IsEntry table next (entries next row)
+    → AllByRecursion (IsWithin table x b) (inputs_of next row)
+within-all table x next end b low high most h = tt
+within-all table x next (leaf q row) b low high most h = ((omega (arith, low), omega (arith, high)), within-all table x next row b (omega (arith, low)) (omega (arith, high)) most h)
+within-all table x next (node class inputs row) b low high most h = (
+  match-weaker (IsEntry (entry_over next inputs)) (λ (p : Inputs). (b.first ≤ p.below.first) × (p.below.last ≤ b.last) × (next + p.below.nodes ≤ x + b.nodes)) (slice_get table next)
+      (λ p e. subst (λ (c : Below). (b.first ≤ c.first) × (c.last ≤ b.last) × (next + c.nodes ≤ x + b.nodes)) (sym (ap (λ (q : Entry). q.1) e)) (omega (arith, low), omega (arith, high), omega (arith, most))) h.0,
+  within-all table x (suc (next + nodes inputs)) row b (omega (arith, low)) (omega (arith, high)) (omega (arith, most)) (entries-after table next inputs row h.1).1,
+)
+
 placed : (table : List Inputs) (states : List State) (next : ℕ) (row : Row) → IsWellFormed row → next + nodes row ≤ length table → Sits IsEntry table next (entries next row) → Sits IsFirst states next (kinds row)
     → ArePlaced table states next row
 placed table states next end formed size e f = tt
@@ -121,14 +138,13 @@ placed table states next (node class inputs row) formed size e f =
         arguments = formed.1;
         after = after-all (length table) next (suc next) inputs (omega arith) (omega arith);
         edges = edges-all table (suc next) inputs es.0;
+        within = within-all table next (suc next) inputs (below_row inputs) (omega arith) (omega arith) (omega arith) es.0;
+        last = omega arith;
       },
       placed table states (suc next) inputs formed.2 (omega arith) es.0 fs.0,
       placed table states (suc (next + nodes inputs)) row formed.3 (omega arith) es.1
           (subst (λ n. Sits IsFirst states n (kinds row)) (let k = length-kinds inputs in let s : suc next + length (kinds inputs) ≡ suc (next + nodes inputs) = omega (arith, k) in s) fs.1),
     )
-
-match-weaker : {X : Type 0} (P Q : X → Type 0) (o : Option X) → ((x : X) → P x → Q x) → MatchOption o ⊥ P → MatchOption o ⊥ Q
-match-weaker P Q o f h = search rules
 
 has-inputs : (table : List Inputs) (states : List State) (x : ℕ) (class : Scheduler) (row : Row) → IsPlaced table states x class row → MatchOption (slice_get table x) ⊥ (λ (p : Inputs). p.each.items ≡ inputs_of (suc x) row)
 has-inputs table states x class row h = match-weaker (IsEntry (entry_over x row)) (λ (p : Inputs). p.each.items ≡ inputs_of (suc x) row) (slice_get table x) (λ p e. ap (λ (q : Entry). q.0) e) h.inputs
@@ -172,7 +188,17 @@ at : {X : Type 0} (P : X → Type 0) (o : Option X) (x : X) → o ≡ Some x →
 at P o x e h = subst (λ u. MatchOption u ⊥ P) e h
 
 wired : (table : List Inputs) (states : List State) (x : ℕ) (p : Inputs) → slice_get table x ≡ Some p → Found table states x → IsWired table x p
-wired table states x p e f = search (rules, at, placed, length-inputs)
+wired table states x p e f =
+    let here : entry p ≡ entry_over x f.row = at (IsEntry (entry_over x f.row)) (slice_get table x) p e f.placed.inputs in
+    let each : p.each.items ≡ inputs_of (suc x) f.row = ap (λ (q : Entry). q.0) here in
+    let below : p.below ≡ below_row f.row = ap (λ (q : Entry). q.1) here in
+    record {
+      few = subst (λ n. n ≤ most_inputs) (sym (ap length each ∙ length-inputs (suc x) f.row)) f.placed.few;
+      after = subst (AllByRecursion (IsAfter (length table) x)) (sym each) f.placed.after;
+      edges = ap (λ (b : Below). b.edges) below ∙ f.placed.edges ∙ ap (edges_to_all table) (sym each);
+      within = subst (AllByRecursion (IsWithin table x p.below)) (sym each) (subst (λ (b : Below). AllByRecursion (IsWithin table x b) (inputs_of (suc x) f.row)) (sym below) f.placed.within);
+      last = subst (λ (b : Below). x + b.nodes < length table) (sym below) f.placed.last;
+    }
 
 fits : (table : List Inputs) (states : List State) (x : ℕ) (p : Inputs) (s : State) → slice_get table x ≡ Some p → slice_get states x ≡ Some s → Found table states x → Fits s (length p.each.items)
 fits table states x p s e g f = search (rules, at, placed, length-inputs)

@@ -1,8 +1,9 @@
 -- How a tree is laid out in tables by node number.
-use Rattle.std.specs.Prelude.{◌≡◌, ℕ, ◌+◌, ◌≤◌, List, [], ◌∷◌, ◌++◌, length, map, suc, ⊤}
+use Rattle.std.specs.Prelude.{◌≡◌, ℕ, ◌+◌, ◌≤◌, List, [], ◌∷◌, ◌++◌, length, map, max, min, suc, ⊤}
 use Rattle.clk_packet.specs.Limits.{most_inputs}
 use Rattle.clk_sched.specs.declared.session.inputs.Input.{Input}
 use Rattle.clk_sched.specs.declared.session.inputs.Input.TheVariants.{Queue, Node}
+use Rattle.clk_sched.specs.declared.session.inputs.Below.{Below}
 use Rattle.clk_sched.specs.declared.session.inputs.Inputs.{Inputs}
 use Rattle.clk_sched.specs.declared.session.layout.Tables.{Tables}
 use Rattle.clk_sched.specs.declared.session.state.State.{State}
@@ -27,16 +28,36 @@ abbrev pub input_of : ℕ → Tree → Input
 input_of next (queue q) = Queue q
 input_of next (scheduler class inputs) = Node next
 
--- What a table says of a node: what stands at its inputs, and how many edges there are from it and below.
+-- the least leaf of a row, and the greatest
+abbrev pub first_leaf : Row → ℕ
+first_leaf end = 65535
+first_leaf (leaf q row) = min q (first_leaf row)
+first_leaf (node class inputs row) = min (first_leaf inputs) (first_leaf row)
+
+abbrev pub last_leaf : Row → ℕ
+last_leaf end = 0
+last_leaf (leaf q row) = max q (last_leaf row)
+last_leaf (node class inputs row) = max (last_leaf inputs) (last_leaf row)
+
+-- what is below a node over a row: each queue and each scheduler below has one edge to it
+abbrev pub below_row : Row → Below
+below_row row = record { edges = elements row; nodes = nodes row; first = first_leaf row; last = last_leaf row }
+
+-- what is at an input and below it, if this tree stands there
+abbrev pub below_tree : Tree → Below
+below_tree (queue q) = record { edges = 1; nodes = 0; first = q; last = q }
+below_tree (scheduler class inputs) = record { edges = suc (elements inputs); nodes = suc (nodes inputs); first = first_leaf inputs; last = last_leaf inputs }
+
+-- What a table says of a node: what stands at its inputs, and what is below it.
 abbrev pub Entry : Type 0
-Entry = List Input × ℕ
+Entry = List Input × Below
 
 abbrev pub entry : Inputs → Entry
-entry p = (p.each.items, p.edges)
+entry p = (p.each.items, p.below)
 
--- the entry of node `next` over a row: each queue and each scheduler below has one edge to it
+-- the entry of node `next` over a row
 abbrev pub entry_over : ℕ → Row → Entry
-entry_over next inputs = (inputs_of (suc next) inputs, elements inputs)
+entry_over next inputs = (inputs_of (suc next) inputs, below_row inputs)
 
 -- the entries of the schedulers of a row, which are numbered from `next` on
 abbrev pub entries : ℕ → Row → List Entry

@@ -5,6 +5,7 @@ use Rattle.clk_packet.specs.Limits.{most_inputs}
 use Rattle.clk_sched.specs.declared.visit.Visit.{Visit}
 use Rattle.clk_sched.specs.declared.session.inputs.Input.{Input}
 use Rattle.clk_sched.specs.declared.session.inputs.Input.TheVariants.{Queue, Node}
+use Rattle.clk_sched.specs.declared.session.inputs.Below.{Below}
 use Rattle.clk_sched.specs.declared.session.inputs.Inputs.{Inputs}
 use Rattle.clk_sched.specs.declared.session.state.State.{State}
 use Rattle.clk_sched.specs.Tree.{Row, end, leaf, node, nodes}
@@ -34,7 +35,7 @@ pub record StandsIn (table : List Inputs) (x : ℕ) (row : Row) : Type 0 where
 
 abbrev pub option_edges : Option Inputs → ℕ
 option_edges None = 0
-option_edges (Some p) = p.edges
+option_edges (Some p) = p.below.edges
 
 -- how many edges there are from a node and below it
 abbrev pub edges_of : List Inputs → ℕ → ℕ
@@ -75,11 +76,19 @@ abbrev pub IsAfter : ℕ → ℕ → Input → Type 0
 IsAfter size x (Queue q) = ⊤
 IsAfter size x (Node m) = (x < m) × (m < size)
 
--- Each node of a table has schedulers after it at its inputs, and tells how many edges there are from it and below.
+-- What stands at an input is within what a table says of the node above it, node x: leaves, and node numbers.
+abbrev pub IsWithin : List Inputs → ℕ → Below → Input → Type 0
+IsWithin table x below (Queue q) = (below.first ≤ q) × (q ≤ below.last)
+IsWithin table x below (Node m) =
+    MatchOption (slice_get table m) ⊥ (λ (p : Inputs). (below.first ≤ p.below.first) × (p.below.last ≤ below.last) × (m + p.below.nodes ≤ x + below.nodes))
+
+-- Each node of a table has schedulers after it at its inputs, and tells how many edges there are from it and below, and what is below.
 pub record IsWired (table : List Inputs) (x : ℕ) (p : Inputs) : Type 0 where
   pub few : length p.each.items ≤ most_inputs
   pub after : AllByRecursion (IsAfter (length table) x) p.each.items
-  pub edges : p.edges ≡ edges_to_all table p.each.items
+  pub edges : p.below.edges ≡ edges_to_all table p.each.items
+  pub within : AllByRecursion (IsWithin table x p.below) p.each.items
+  pub last : x + p.below.nodes < length table
 
 abbrev pub AreWired : List Inputs → Type 0
 AreWired table = (x : ℕ) (p : Inputs) → slice_get table x ≡ Some p → IsWired table x p

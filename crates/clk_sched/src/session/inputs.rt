@@ -26,28 +26,41 @@ impl Input {
     }
 }
 
+/// What is below a node, or at an input and below it.
+#[derive(Clone, Copy, Debug)]
+pub struct Below {
+    /// How many inputs there are.
+    pub edges: u16,
+    /// How many schedulers there are.
+    pub nodes: u16,
+    /// The least leaf.
+    pub first: u16,
+    /// The greatest leaf.
+    pub last: u16,
+}
+
 /// The inputs of a node.
 #[derive(Drop)]
 pub struct Inputs {
     /// What stands at each.
     pub each: Vec<Input>,
-    /// How many inputs the node and the schedulers below it have.
-    pub edges: u16,
+    /// What is below the node, its inputs included.
+    pub below: Below,
     /// The leaf of the first input, if it is known that all inputs are queues with consecutive leaves.
     queues_from: Option<u16>,
     ghost follow: { IfSome queues_from (λ leaf. AreQueuesFrom leaf each.items) } by { Prim.hlevel props },
 }
 
 impl Inputs {
-    /// These inputs of a node. `edges` counts the inputs of the node and of the schedulers below it.
-    pub fn new(each: Vec<Input>, edges: u16) -> Inputs
+    /// These inputs of a node, and what is below it.
+    pub fn new(each: Vec<Input>, below: Below) -> Inputs
         ensures each { result.each ≡ each }
-        ensures edges { result.edges ≡ edges }
+        ensures below { result.below ≡ below }
     {
         let queues_from = queues_from(&each);
         Inputs {
             each,
-            edges,
+            below,
             queues_from,
         }
     }

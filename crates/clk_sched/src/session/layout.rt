@@ -11,11 +11,11 @@ ghost use Rattle.clk_packet.specs.Scheduler.{scheduler_view};
 ghost use Rattle.clk_sched.specs.inside.Logged.{kind_made};
 ghost use Rattle.clk_sched.specs.inside.Places.{edges_of, inputs_of};
 ghost use Rattle.clk_sched.specs.inside.Holds.OfClass.{Holds};
-ghost use Rattle.clk_sched.specs.inside.LaidOut.{elements_of, input_of, entries, entries_of, kinds, kinds_of, Adds, AddsNode, FitsInputs};
+ghost use Rattle.clk_sched.specs.inside.LaidOut.{elements_of, input_of, below_row, below_tree, entries, entries_of, kinds, kinds_of, Adds, AddsNode, FitsInputs};
 ghost use Rattle.clk_sched.specs.inside.Session.{IsLaidOut};
 
 use crate::session::drr::Deficits;
-use crate::session::inputs::{Input, Inputs};
+use crate::session::inputs::{Below, Input, Inputs};
 use crate::session::keeps::Keeps;
 use crate::session::log::Log;
 use crate::session::nodes::Nodes;
@@ -28,6 +28,14 @@ use crate::tree::{Node, Tree};
 use clk_packet::{Fault, MAX_ELEMENTS, Scheduler};
 use std::alloc::{AllocError, Global};
 use std::slice;
+
+/// What is below no input.
+const NOTHING: Below = Below {
+    edges: 0,
+    nodes: 0,
+    first: u16::MAX,
+    last: 0,
+};
 
 /// The tables of nodes, by number, as they are filled.
 #[derive(Drop)]
@@ -59,7 +67,7 @@ pub fn lay_out(alloc: Global, tree: &Tree, keeps: Keeps) -> Result<Nodes, Fault>
     };
     // The device is node 0: it stands over this tree as a PrioSched over one input.
     lay_node(alloc, &mut tables, State::Prio, slice::from_ref(tree))?;
-    let edges = usize::from(tables.inputs[DEVICE as usize].edges);
+    let edges = usize::from(tables.inputs[DEVICE as usize].below.edges);
     Ok(Nodes {
         inputs: tables.inputs,
         states: tables.states,
@@ -92,21 +100,35 @@ fn room_after_each(trees: &[Tree], room: u16) -> Option<u16>
     room_after_each(rest, room_after(first, room)?)
 }
 
-/// Lays a tree out. Returns what stands for it at an input, and how many edges there are to it and below.
+/// Lays a tree out. Returns what stands for it at an input, and what is there and below.
 #[cycle(lay)]
-fn lay(alloc: Global, tables: &mut Tables, tree: &Tree) -> Result<(Input, u16), AllocError>
+fn lay(alloc: Global, tables: &mut Tables, tree: &Tree) -> Result<(Input, Below), AllocError>
     requires room { length tables.old.inputs.items + elements_of tree.now ≤ most_elements }
     ensures adds { IfOk result (λ r. Adds tables.old tables.new (entries_of (length tables.old.inputs.items) tree.now) (kinds_of tree.now)) }
     ensures input { IfOk result (λ r. r.0 ≡ input_of (length tables.old.inputs.items) tree.now) }
-    ensures edges { IfOk result (λ r. r.1 ≡ elements_of tree.now) }
+    ensures below { IfOk result (λ r. r.1 ≡ below_tree tree.now) }
 {
     match &tree.node {
-        Node::Leaf(q) => Ok((Input::Queue(*q), 1)),
+        Node::Leaf(q) => {
+            let below = Below {
+                edges: 1,
+                nodes: 0,
+                first: *q,
+                last: *q,
+            };
+            Ok((Input::Queue(*q), below))
+        }
         Node::Inner(scheduler, inputs) => {
             let number = tables.inputs.len() as u16;
             let state = first_state(alloc, scheduler)?;
-            let edges = lay_node(alloc, tables, state, inputs)?;
-            Ok((Input::Node(number), 1 + edges))
+            let inner = lay_node(alloc, tables, state, inputs)?;
+            let below = Below {
+                edges: 1 + inner.edges,
+                nodes: 1 + inner.nodes,
+                first: inner.first,
+                last: inner.last,
+            };
+            Ok((Input::Node(number), below))
         }
     }
 }
@@ -128,45 +150,51 @@ fn first_state(alloc: Global, scheduler: &Scheduler) -> Result<State, AllocError
     }
 }
 
-/// Adds a node with this state over these trees, and lays the trees out after it. Returns how many edges there are from the node and below.
+/// Adds a node with this state over these trees, and lays the trees out after it. Returns what is below the node.
 #[cycle(lay)]
 fn lay_node(
     alloc: Global,
     tables: &mut Tables,
     state: State,
     trees: &[Tree],
-) -> Result<u16, AllocError>
+) -> Result<Below, AllocError>
     requires room { length tables.old.inputs.items + elements (row trees.now) < most_elements }
-    ensures adds { IfOk result (λ edges. AddsNode tables.old tables.new state (row trees.now)) }
-    ensures edges { IfOk result (λ edges. edges ≡ elements (row trees.now)) }
+    ensures adds { IfOk result (λ below. AddsNode tables.old tables.new state (row trees.now)) }
+    ensures below { IfOk result (λ below. below ≡ below_row (row trees.now)) }
 {
     let number = tables.inputs.len();
     tables.states.push(state)?;
     // This takes the node's number, until what stands at its inputs is known.
-    tables.inputs.push(Inputs::new(Vec::new(alloc), 0))?;
+    tables.inputs.push(Inputs::new(Vec::new(alloc), NOTHING))?;
     let mut each = Vec::with_capacity(alloc, trees.len())?;
-    let edges = lay_inputs(alloc, tables, &mut each, trees)?;
-    tables.inputs[number] = Inputs::new(each, edges);
-    Ok(edges)
+    let below = lay_inputs(alloc, tables, &mut each, trees)?;
+    tables.inputs[number] = Inputs::new(each, below);
+    Ok(below)
 }
 
-/// Lays these trees out, and adds what stands for each to the inputs of a node. Returns how many edges there are to them and below.
+/// Lays these trees out, and adds what stands for each to the inputs of a node. Returns what is there and below.
 #[cycle(lay)]
 fn lay_inputs(
     alloc: Global,
     tables: &mut Tables,
     each: &mut Vec<Input>,
     trees: &[Tree],
-) -> Result<u16, AllocError>
+) -> Result<Below, AllocError>
     requires room { length tables.old.inputs.items + elements (row trees.now) ≤ most_elements }
-    ensures adds { IfOk result (λ edges. Adds tables.old tables.new (entries (length tables.old.inputs.items) (row trees.now)) (kinds (row trees.now))) }
-    ensures each { IfOk result (λ edges. each.new.items ≡ each.old.items ++ inputs_of (length tables.old.inputs.items) (row trees.now)) }
-    ensures edges { IfOk result (λ edges. edges ≡ elements (row trees.now)) }
+    ensures adds { IfOk result (λ below. Adds tables.old tables.new (entries (length tables.old.inputs.items) (row trees.now)) (kinds (row trees.now))) }
+    ensures each { IfOk result (λ below. each.new.items ≡ each.old.items ++ inputs_of (length tables.old.inputs.items) (row trees.now)) }
+    ensures below { IfOk result (λ below. below ≡ below_row (row trees.now)) }
 {
     let [first, rest @ ..] = trees else {
-        return Ok(0);
+        return Ok(NOTHING);
     };
-    let (input, edges) = lay(alloc, tables, first)?;
+    let (input, here) = lay(alloc, tables, first)?;
     each.push(input)?;
-    Ok(edges + lay_inputs(alloc, tables, each, rest)?)
+    let others = lay_inputs(alloc, tables, each, rest)?;
+    Ok(Below {
+        edges: here.edges + others.edges,
+        nodes: here.nodes + others.nodes,
+        first: here.first.min(others.first),
+        last: here.last.max(others.last),
+    })
 }

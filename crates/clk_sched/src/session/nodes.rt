@@ -96,7 +96,8 @@ impl Nodes {
         forget(replace(&mut self.states[node as usize], state));
     }
 
-    /// Asks inputs of a node in this order until one gives a packet, and returns its place in the order and the packet.
+    /// Asks inputs of a node in this order until one gives a packet, and returns its place in the order and the packet. `again` is as in
+    /// `ask`, for the first.
     #[cycle(pull)]
     #[inline(always)]
     pub fn ask_in_order<Q: Ask>(
@@ -104,6 +105,7 @@ impl Nodes {
         q: &mut Q,
         node: u16,
         order: &[Rank],
+        again: bool,
     ) -> Option<(usize, Packet)>
         requires can_pull { CanPull self.old node (edges_in self.old.inputs.items node (inputs_in order.now)) }
         requires within { AllByRecursion (λ i. IsSome (input_at self.old.inputs.items node i)) (inputs_in order.now) }
@@ -118,7 +120,7 @@ impl Nodes {
                 place += idle;
                 continue;
             }
-            if let Some(packet) = self.look(q, node, order[place].input, place > 0) {
+            if let Some(packet) = self.look(q, node, order[place].input, again || place > 0) {
                 return Some((place, packet));
             }
             place += 1;

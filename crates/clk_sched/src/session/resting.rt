@@ -1,15 +1,14 @@
 //! Nodes that give nothing and change nothing, since all queues below them are empty.
 
 use crate::ask::Ask;
-use crate::session::inputs::Input;
 use crate::session::nodes::Nodes;
 
 impl Nodes {
-    ghost use Rattle.std.specs.Prelude.{◌≡◌, ◌<◌, ◌+◌, ◌||◌, true, false, length, List, None, IsSome, MatchBool};
+    ghost use Rattle.std.specs.Prelude.{◌≡◌, ◌<◌, ◌+◌, ◌||◌, true, false, length, List, None, MatchBool};
     ghost use Rattle.clk_sched.specs.declared.visit.Visit.{Visit};
-    ghost use Rattle.clk_sched.specs.inside.Places.{AreWired, AllFit, edges_of, input_at};
+    ghost use Rattle.clk_sched.specs.inside.Places.{AreWired, AllFit, edges_of};
     ghost use Rattle.clk_sched.specs.inside.Pulling.{CanPull};
-    ghost use Rattle.clk_sched.specs.inside.Resting.{IsIdleNode, IsIdleInput, with_block};
+    ghost use Rattle.clk_sched.specs.inside.Resting.{IsIdleNode, AreAtRest, with_block};
     ghost use Rattle.clk_sched.specs.inside.Turning.{WasPulled};
 
     /// Skips a pull of a node, if visits aren't kept and the pull is known to give nothing and to change nothing. Returns whether it did.
@@ -38,40 +37,39 @@ impl Nodes {
     }
 
     /// Whether all queues below a node are known to be empty, and it and all nodes below it are at rest.
-    #[cycle(idle)]
+    // Queues between the least and the greatest leaf that stand elsewhere count too. Mostly there are none.
+    #[inline(always)]
     fn is_idle<Q: Ask>(&self, q: &Q, node: u16) -> bool
         requires there { node < length self.now.inputs.items }
         requires wired { AreWired self.now.inputs.items }
         requires fit { AllFit self.now.inputs.items self.now.states.items }
         ensures { result ≡ true → IsIdleNode Q.gives self.now q.now node }
     {
-        if !self.states[node as usize].is_at_rest() {
+        let below = self.inputs[node as usize].below;
+        if below.last < below.first {
             return false;
         }
-        let inputs = self.inputs[node as usize].each.len() as u16;
-        if self.inputs[node as usize].queues_from().is_some() {
-            return self.idle_from(q, node, 0, inputs) == inputs;
+        let Some(leaves) = (below.last - below.first).checked_add(1) else {
+            return false;
+        };
+        if q.idle_from(below.first, leaves) < leaves {
+            return false;
         }
-        for input in 0..inputs {
-            if !self.is_idle_at(q, node, input) {
+        self.are_at_rest(node, below.nodes)
+    }
+
+    /// Whether a node and so many after it are at rest.
+    #[inline]
+    fn are_at_rest(&self, node: u16, after: u16) -> bool
+        requires { node + after < length self.now.states.items }
+        ensures { result ≡ true → AreAtRest self.now.states.items node after }
+    {
+        let count = after as usize + 1;
+        for place in 0..count {
+            if !self.states[node as usize + place].is_at_rest() {
                 return false;
             }
         }
         true
-    }
-
-    /// Whether what stands at an input of a node is a queue known to be empty, or a node over such queues that is at rest.
-    #[cycle(idle)]
-    fn is_idle_at<Q: Ask>(&self, q: &Q, node: u16, input: u16) -> bool
-        requires within { IsSome (input_at self.now.inputs.items node input) }
-        requires there { node < length self.now.inputs.items }
-        requires wired { AreWired self.now.inputs.items }
-        requires fit { AllFit self.now.inputs.items self.now.states.items }
-        ensures { result ≡ true → IsIdleInput Q.gives self.now q.now node input }
-    {
-        match self.inputs[node as usize].each[input as usize] {
-            Input::Queue(leaf) => q.idle_from(leaf, 1) == 1,
-            Input::Node(child) => self.is_idle(q, child),
-        }
     }
 }

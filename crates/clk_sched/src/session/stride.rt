@@ -52,6 +52,8 @@ impl Rank {
 pub struct Passes {
     row: SmallVec<Rank, 2>,
     strides: SmallVec<u32, 4>,
+    // Whether inputs before the winner were asked when a packet was last given. Then the first may well be idle.
+    vain: bool,
     ghost ranks: { All (IsRankOf (length strides.items)) row.items },
     ghost least: { first_pass row.items ≡ 0 },
     ghost rising: { HasRisingPasses row.items } by { HasRisingPasses-prop row.items },
@@ -77,7 +79,11 @@ impl Passes {
     {
         let row = first_row(alloc, tickets.len() as u16)?;
         let strides = strides_of(alloc, tickets)?;
-        Ok(Passes { row, strides })
+        Ok(Passes {
+            row,
+            strides,
+            vain: false,
+        })
     }
 
     /// The inputs in rising order of (pass, index).
@@ -98,6 +104,7 @@ impl Passes {
             → HoldsPasses tickets (t ∷ turns) self.new }
         ensures inputs { length self.new.row.items ≡ length self.old.row.items }
     {
+        self.vain = place > 0;
         let row = self.row.as_mut_slice();
         let winner = row[place];
         let stride = self.strides[usize::from(winner.input)];
@@ -138,7 +145,7 @@ impl Passes {
         requires fits { IfSome (slice_get nodes.old.inputs.items node) (λ p. FitsPasses (length p.each.items) self.old) }
         ensures { (held holds : Box Passes) → held.value ≡ self.old → holds.value ≡ self.new → HadTurn Q.gives nodes.old nodes.new q.old q.new node (Stride held) (Stride holds) result }
     {
-        match nodes.ask_in_order(q, node, self.row()) {
+        match nodes.ask_in_order(q, node, self.row(), self.vain) {
             Some((place, packet)) => {
                 self.won(place);
                 Some(packet)

@@ -103,7 +103,15 @@ nodes::Nodes::ask_in_order-loop-place-preserved-then-idle-gt0 g t c =
     )
 
 pub nodes::Nodes::ask_in_order-look-requires : goal.nodes::Nodes::ask_in_order-look-requires
-nodes::Nodes::ask_in_order-look-requires g t c = grind (arith, common_steps, asking-still, asking-ready, length-map, entry-input)
+nodes::Nodes::ask_in_order-look-requires g t c =
+    let k = c.loop-place.place in
+    let now = c.pass_idle_of-idle.new.self in
+    let test = c.loop-place-test.true in
+    let h = asking-still g.Q.Ask.gives c.args.self.now c.loop-place.self now c.args.q.now c.loop-place.q c.args.node k c.pass_idle_of-idle.result c.args.order.now (omega arith) c.loop-place.invariant.1 c.pass_idle_of-idle.ensures.asked in
+    let ready = asking-ready g.Q.Ask.gives c.args.self.now now c.args.q.now c.loop-place.q c.args.node k (rank_at c.args.order.now k).input (inputs_in c.args.order.now) c.requires.can_pull c.requires.within h (subst (λ n. k < n) (sym (length-map c.args.order.now (λ (r : Rank). r.input))) test) (entry-input c.args.order.now k test) in
+    let same = ap length h.keeps.inputs in
+    let less = c.decreases in
+    λ κs le. (omega (arith, same, less), (search, (ready.0, ready.1)))
 
 pub nodes::Nodes::ask_in_order-returns-in-Some-clause-asked : goal.nodes::Nodes::ask_in_order-returns-in-Some-clause-asked
 nodes::Nodes::ask_in_order-returns-in-Some-clause-asked g t c =
