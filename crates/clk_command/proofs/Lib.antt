@@ -1,5 +1,4 @@
 -- Lemmas that answers cite.
 mod LiveLemmas
 mod RunningLemmas
-mod WordLemmas
 mod TaskLemmas

@@ -23,7 +23,7 @@ use Rattle.clk_command.specs.Running.{EndsIn, HasRecord, LiveWrites, Tells}
 use Rattle.clk_command.proofs.TaskLemmas.{front-later}
 use Rattle.clk_command.specs.Tasks.{AreTogether, IsPlanIn, LivesWithVisits, WroteBoth}
 use Rattle.clk_report.specs.VisitCsv.{visits_text}
-use Rattle.clk_command.specs.declared.pace.Pace.{Pace}
+use Rattle.clk_words.specs.declared.pace.Pace.{Pace}
 
 -- the record of what can happen over a plan, and of its closing, ends in the report of all
 record-ends : (plan : List Planned) (trees : List Tree) (events closed : List Event) → PlanRecordsMeanTheirCourse plan trees → CanHappen (plan_setup trees plan) (events ++ closed)

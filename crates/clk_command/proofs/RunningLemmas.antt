@@ -15,7 +15,7 @@ use Rattle.clk_drain.specs.Outcome.{Device}
 use Rattle.clk_drain.specs.Run.{AreDevicesFrom, IsRunWith}
 use Rattle.clk_report.specs.Devices.{all_emitted}
 use Rattle.clk_report.specs.Report.{report_text}
-use Rattle.clk_command.specs.declared.pace.Pace.{Pace}
+use Rattle.clk_words.specs.declared.pace.Pace.{Pace}
 use Rattle.clk_command.specs.Running.{RunWrites, Tells}
 
 -- devices from a number on are as many as a plan has from there

@@ -1,9 +1,12 @@
 -- What is read of a tree's text, and what follows for what is done over it.
-use Rattle.std.proofs.Common.{◌+◌, ◌≡◌, ℕ, Bool, true, false, nat_lt, List, [], ◌++◌, append_assoc, length, take, option_map, Option, Some, None, Result, Ok, Err, IfSome, OnOk, refl, sym, ap, subst, ◌∙◌, inl, inr, arith}
+use Rattle.std.proofs.Common.{◌+◌, ◌≡◌, ◌≢◌, if◌then◌else◌, Decides, ℕ, Bool, true, false, nat_lt, List, [], ◌++◌, append_assoc, length, take, option_map, Option, Some, None, Result, Ok, Err, IfSome, OnOk, refl, sym, ap, subst, ◌∙◌, inl, inr, arith}
 use Rattle.std.specs.Io.KnownBytes.{Appends}
 use Rattle.std.proofs.KnownBytes.{Appends-trans, Keeps-refl}
 use Rattle.std.proofs.lemmas.Bool.Decides.{nat_tests}
 use Rattle.std.proofs.lemmas.List.{take_all, length-take}
+use Rattle.std.proofs.lemmas.Slice.Eq.{bytes_eq-Decides}
+use Rattle.std.specs.Str.{bytes_eq}
+use Rattle.clap.specs.Walk.{Text}
 use Rattle.clk_packet.specs.declared.fault.Fault.{Fault}
 use Rattle.clk_packet.specs.declared.fault.Fault.TheVariants.{TooLarge}
 use Rattle.clk_syntax.specs.Faults.{text_fault}
@@ -13,11 +16,14 @@ use Rattle.clk_syntax.specs.Reading.{HasFault}
 use Rattle.clk_packet.proofs.Callers.Written.{of-weaker, wrote-whole, wrote-front}
 use Rattle.clk_packet.specs.Bytes.{AppendsFront, OfBytes, Takes, Wrote}
 use Rattle.clk_packet.specs.Written.{WroteWhat}
-use Rattle.clk_command.specs.Tasks.{AreTogether, DoesWork, GoesOut, IsPlanIn, LivesOver, LivesWithVisits, ReportsOver, ReportsWithVisits, WritesOver, WritesWithVisits, WroteBoth}
-use Rattle.clk_command.specs.Words.{is_recorded, text_of, visits_follow, work}
-use Rattle.clk_command.specs.declared.pace.Pace.{Pace}
-use Rattle.clk_command.specs.declared.words.Job.{Job}
-use Rattle.clk_command.specs.declared.words.Job.TheVariants.{Run, Live}
+use Rattle.clk_command.specs.InputLimits.{most_of_input, most_of_work}
+use Rattle.clk_command.specs.Tasks.{AreTogether, bytes_at, Does, DoesWork, ExplainsTask, ExplainsWork, GoesOut, IsPlanIn, LivesOver, LivesWithVisits, ReportsOver, ReportsWithVisits, WritesOver, WritesWithVisits, WroteBoth}
+use Rattle.clk_words.specs.Words.{AreApart, dash, is_recorded, task, text_of, visits_follow, work}
+use Rattle.clk_words.specs.declared.words.Asked.{Asked}
+use Rattle.clk_words.specs.declared.words.Asked.TheVariants.{Over}
+use Rattle.clk_words.specs.declared.pace.Pace.{Pace}
+use Rattle.clk_words.specs.declared.words.Job.{Job}
+use Rattle.clk_words.specs.declared.words.Job.TheVariants.{Run, Live}
 use Rattle.std.specs.Borrow.{Bor}
 
 -- a text without a fault of its own isn't too long
@@ -166,3 +172,32 @@ pub does-live : (job : Job) (pace : Pace) (script visits : Option (Bor (List ℕ
     (λ text rows. LivesWithVisits tree trace pace text lines rows) all × P all
     → DoesWork (work job) tree trace P
 does-live job pace script visits tree trace P is h = subst (λ (j : Job). DoesWork (work j) tree trace P) (sym is) (h.0, h.1, pace, refl, refl, h.2, h.3)
+
+-- where the tree is standard input, the second input is a file
+standard-tree : (tree path : Text) (input : Option (List ℕ)) → tree ≡ dash → (tree ≡ dash → path ≢ dash) → (bytes_at tree input ≡ input) × (bytes_at path input ≡ None)
+standard-tree tree path input is apart = (rw is refl, by_test (bytes_eq path dash) (bytes_eq-Decides path dash))
+  where
+    by_test : (b : Bool) → Decides b (path ≡ dash) → (if b then input else None) ≡ None
+    by_test true d = absurd (apart is (d.0 refl))
+    by_test false d = refl
+
+-- so the task did what its work did over the two, has its faults, and reads no more of standard input
+pub does-standard : (asked : Asked) (tree path : Bor Text) (job : Job) (input : Option (List ℕ)) (P : List ℕ → Type 0) → asked ≡ Over tree path job → tree.now ≡ dash → AreApart (task asked)
+    → DoesWork (work job) input None P → Does (task asked) input P
+does-standard asked tree path job input P e is apart h =
+    let at = standard-tree tree.now path.now input is (subst (λ (a : Asked). AreApart (task a)) e apart).0 in
+    let done : Does (task (Over tree path job)) input P = rw (at.0, at.1) h in
+    subst (λ (a : Asked). Does (task a) input P) (sym e) done
+
+pub explains-standard : (asked : Asked) (tree path : Bor Text) (job : Job) (input : Option (List ℕ)) (fault : Fault) → asked ≡ Over tree path job → tree.now ≡ dash → AreApart (task asked)
+    → ExplainsWork (work job) input None fault → ExplainsTask (task asked) input fault
+explains-standard asked tree path job input fault e is apart h =
+    let at = standard-tree tree.now path.now input is (subst (λ (a : Asked). AreApart (task a)) e apart).0 in
+    let has : ExplainsTask (task (Over tree path job)) input fault = rw (at.0, at.1) h in
+    subst (λ (a : Asked). ExplainsTask (task a) input fault) (sym e) has
+
+pub takes-standard : (asked : Asked) (tree path : Bor Text) (job : Job) (old new : Option (List ℕ)) → asked ≡ Over tree path job → tree.now ≡ dash
+    → Takes (most_tree_bytes + 1) old new → Takes (most_of_input (task asked) + 1) old new
+takes-standard asked tree path job old new e is h =
+    let most : most_of_input (task (Over tree path job)) ≡ most_tree_bytes = ap (λ (b : Bool). if b then most_tree_bytes else most_of_work (work job)) (ap (λ t. bytes_eq t dash) is) in
+    subst (λ (a : Asked). Takes (most_of_input (task a) + 1) old new) (sym e) (subst (λ n. Takes (n + 1) old new) (sym most) h)

@@ -3,4 +3,4 @@ pub mod Running
 pub mod Linting
 pub mod Tasks
 pub mod Examples
-pub mod Words
+pub mod InputLimits

@@ -16,7 +16,7 @@ use Rattle.clk_router.specs.Course.{Course}
 use Rattle.clk_script.specs.Meaning.{MeansOverWith, ending_text}
 use Rattle.clk_live_run.specs.Recorded.{run_record}
 use Rattle.clk_live_run.specs.Run.{IsFaultOfLive, LiveRunOf}
-use Rattle.clk_command.specs.declared.pace.Pace.{Pace}
+use Rattle.clk_words.specs.declared.pace.Pace.{Pace}
 
 -- A trace has no fault, and says that each sender sends this.
 pub record Tells (trace : List ℕ) (traces : List (List Packet)) : Type 0 where

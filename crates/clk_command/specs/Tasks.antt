@@ -18,8 +18,8 @@ use Rattle.clk_packet.specs.Bytes.{AppendsFront, OfBytes}
 use Rattle.clk_script.specs.Meaning.{MeansOver, MeansOverWith, ExplainsPlan}
 use Rattle.clk_command.specs.Running.{RunWrites, ExplainsRun, EndsIn, ExplainsLive, LiveWrites}
 use Rattle.clk_command.specs.Linting.{ExplainsLint, LintWrites}
-use Rattle.clk_command.specs.Words.{Task, builtin, check, lint, over, Work, lint_trace, script, run, live, dash, is_recorded, visits_follow}
-use Rattle.clk_command.specs.declared.pace.Pace.{Pace}
+use Rattle.clk_words.specs.Words.{Task, builtin, check, lint, over, Work, lint_trace, script, run, live, dash, is_recorded, visits_follow}
+use Rattle.clk_words.specs.declared.pace.Pace.{Pace}
 use Rattle.clk_command.specs.declared.builtin.TheConstants.{TEXT}
 
 -- The text of a tree, whose bytes these are, denotes the plan.

@@ -1,18 +1,13 @@
 //! Which files a task may have: at most one input is standard input, and files that are written are others than those that are read. Visits
 //! may go to standard output.
 
-ghost use Rattle.std.specs.Prelude.{◌≡◌, ◌≢◌, ◌∷◌, [], ℕ, List, None, Some, true, false, map, option_map, IfSome, IsSome};
-ghost use Rattle.std.specs.List.{AllByRecursion};
-ghost use Rattle.std.specs.Str.{bytes_eq};
-ghost use Rattle.clk_command.specs.Words.{dash, go_to_file, task, work, text_of, writes_file, AreApart, GoApartFrom, IsApartFrom, MayClash, WritesApart};
+ghost use Rattle.std.specs.Prelude.{◌≡◌, ◌≢◌, ◌∷◌, [], None, Some, true, false, map, option_map, IsSome};
+ghost use Rattle.clk_words.specs.Words.{go_to_file, task, work, text_of, writes_file, AreApart, GoApartFrom, IsApartFrom, MayClash, WritesApart};
 
-use crate::words::{Asked, Job};
+use clk_words::{Asked, DASH, Job, is_standard};
 use std::fs;
 use std::os::unix::fs::MetadataExt;
 use std::rt::Files;
-
-/// The path that stands for standard input, and for standard output as the path of visits.
-const DASH: &str = "-";
 
 /// Why no task can have the files that the words name.
 #[derive(Clone, Copy)]
@@ -21,14 +16,6 @@ pub enum Clash<'a> {
     TwoInputs,
     /// The file at this path would be overwritten, though another of the words names it too, or the path stands for standard input.
     Overwritten(&'a str),
-}
-
-/// Whether a path stands for standard input, or for standard output if it is the path of visits.
-pub fn is_standard(path: &str) -> bool
-    ensures tested { result ≡ bytes_eq path.now dash }
-    ensures dash { result ≡ true → path.now ≡ dash }
-{
-    path == DASH
 }
 
 /// Why a task can't have the files that the words name, if it can't.

@@ -14,26 +14,24 @@ ghost use Rattle.clk_syntax.specs.Limits.{most_tree_bytes};
 ghost use Rattle.clk_tree.specs.Plan.{Denotes};
 ghost use Rattle.clk_packet.specs.Written.{WroteWhat};
 ghost use Rattle.clk_command.specs.Tasks.{Does, DoesWork, ExplainsWork, ExplainsRunOver, ExplainsScriptOver, ExplainsTask, ExplainsTree, GoesOut, IsQuestion, IsMistake, ExplainsLiveOver, LivesOver, LivesWithVisits, WritesOver, WritesWithVisits, ReportsOver, ReportsWithVisits, builtin_text};
-ghost use Rattle.clk_command.specs.Words.{answers_alone, builtin, go_to_file, is_explained, is_recorded, writes_output_alone, most_of_input, most_of_work, program_words, reads_input, task, task_in, text_of, visits_follow, work, AreApart, MayClash};
+ghost use Rattle.clk_command.specs.InputLimits.{most_of_input, most_of_work};
+ghost use Rattle.clk_words.specs.Words.{answers_alone, builtin, go_to_file, is_explained, is_recorded, writes_output_alone, program_words, reads_input, task, task_in, text_of, visits_follow, work, AreApart, MayClash};
 
-use crate::apart::{Clash, clash_of, is_standard};
+use crate::apart::{Clash, clash_of};
 use crate::builtin;
-use crate::explaining::{Inputs, explain_fault, input_of, tree_of};
-use crate::files::Opener;
-use crate::heard::{Heard, Recalls};
 use crate::linting::{lint_over, lint_tree};
 use crate::over::{
     check_tree, live_over, live_with_visits, run_over, run_with_visits, script_over,
     script_with_visits,
 };
-use crate::pace::Pace;
 use crate::together::{live_then_visits, run_then_visits, script_then_visits};
-use crate::words::{Asked, Job, asked_by};
 use clap::Error;
 use clap::error::ErrorKind;
+use clk_files::{Heard, Inputs, Opener, Recalls, explain_fault, input_of, tree_of};
 use clk_packet::{Fault, Sink, Source, ToWrite, write_all};
 use clk_script::run_script;
 use clk_tree::Plan;
+use clk_words::{Asked, Job, Pace, asked_by, is_standard};
 use std::alloc::Global;
 use std::cell::Cell;
 use std::io;

@@ -10,7 +10,6 @@ ghost use Rattle.clk_live_run.specs.Recorded.{failures_with};
 ghost use Rattle.clk_command.specs.Running.{EndsIn, ExplainsLive, HasRecord, LiveWrites};
 
 use crate::kept::Kept;
-use crate::pace::Pace;
 use clk_gate::Free;
 use clk_live::Live;
 use clk_live_run::{LiveOutcome, report_accounts, run_live};
@@ -19,6 +18,7 @@ use clk_script::{
     Replay, plans_have_at_most_one_meaning, records_of_plans_mean_their_course, run_script_logged,
 };
 use clk_tree::Plan;
+use clk_words::Pace;
 use std::alloc::Global;
 use std::io;
 use std::sync::Wait;

@@ -15,7 +15,6 @@ ghost use Rattle.clk_command.specs.Tasks.{IsPlanIn, IsCanonicalOf, ExplainsTree,
 ghost use Rattle.clk_command.specs.Running.{HasRecord};
 
 use crate::live::{Replayed, live_trace, replayed_trace};
-use crate::pace::Pace;
 use crate::running::run_trace;
 use clk_live_run::report_accounts;
 use clk_packet::{Fault, Sink, Source, read_up_to, write_all};
@@ -24,6 +23,7 @@ use clk_sched::PackedLog;
 use clk_script::{Replay, run_script, run_script_logged};
 use clk_syntax::MAX_TREE_BYTES;
 use clk_tree::Plan;
+use clk_words::Pace;
 use std::alloc::Global;
 use std::sync::Wait;
 use std::thread::Threads;

@@ -7,12 +7,12 @@ ghost use Rattle.clk_sched.specs.Packed.{logged};
 ghost use Rattle.clk_packet.specs.Written.{WroteWhat};
 ghost use Rattle.clk_command.specs.Running.{ExplainsRun, RunWrites};
 
-use crate::pace::Pace;
 use clk_drain::{Free, Outcome, run_with};
 use clk_packet::{Fault, Sink, Source, Traces, keep_freed};
 use clk_report::report;
 use clk_sched::PackedLog;
 use clk_tree::Plan;
+use clk_words::Pace;
 use std::alloc::Global;
 use std::sync::Wait;
 use std::thread::Threads;

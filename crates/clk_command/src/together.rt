@@ -12,10 +12,10 @@ ghost use Rattle.clk_command.specs.Tasks.{AreTogether, ExplainsScriptOver, Expla
 
 use crate::live::Replayed;
 use crate::over::{live_replayed, run_logged, script_logged};
-use crate::pace::Pace;
 use clk_live_run::report_accounts;
 use clk_packet::{Fault, Sink, Source, write_all};
 use clk_report::visits_csv;
+use clk_words::Pace;
 use std::alloc::Global;
 use std::sync::Wait;
 use std::thread::Threads;

@@ -1,0 +1,2 @@
+-- Lemmas that answers cite.
+mod WordLemmas

@@ -1,0 +1,2 @@
+-- What the words of the command line ask for.
+pub mod Words
