@@ -1,44 +1,23 @@
 -- What closing a session over its lines comes to.
-use Rattle.std.proofs.Common.{◌≡◌, ℕ, ◌+◌, ◌-◌, ◌||◌, Bool, true, false, List, [], ◌∷◌, length, map, max, Result, Ok, Err, IfOk, Vec, refl, sym, ap, ◌∙◌, subst}
-use Rattle.std.specs.declared.alloc.Global.{Global}
+use Rattle.std.proofs.Common.{◌≡◌, ℕ, true, List, [], ◌∷◌, map, max, refl, sym, ◌∙◌, subst, rules}
 use Rattle.std.specs.List.{AllByRecursion}
-use Rattle.clk_packet.specs.declared.fault.Fault.{Fault}
 use Rattle.clk_packet.specs.declared.packet.Packet.{Packet}
 use Rattle.clk_packet.specs.declared.tally.Tally.{Tally}
-use Rattle.clk_packet.specs.Lists.{are_distinct}
 use Rattle.clk_sched.specs.Tree.{Tree, leaves_distinct}
 use Rattle.clk_sched.specs.Conservation.{ConservesPackets, ConservesCounts, MakesNothing}
-use Rattle.clk_sched.specs.declared.visit.Visit.{Visit}
-use Rattle.clk_sched.specs.declared.session.packed.PackedLog.{PackedLog}
-use Rattle.clk_sched.specs.Packed.{logged}
 use Rattle.clk_sched.specs.Results.{emitted}
-use Rattle.clk_sched.specs.Keeps.{keeps_visits, keeps_emitted, TellsEmitted}
-use Rattle.clk_sched.specs.Session.{Progress, SessionLists, counted_moment, IsDrained}
+use Rattle.clk_sched.specs.Session.{Progress, counted_moment}
 use Rattle.clk_sched.specs.Drain.{GivesAll}
-use Rattle.clk_drain.specs.Line.{LineLists, seats_in, senders_at, HaveOwnSenders}
-use Rattle.clk_drain.specs.Closing.{left_over, queue_of_line, device_of, tallies_in, AreInOrder, HasSent, IsDrainedOver, IsDrainedTo}
+use Rattle.clk_drain.specs.Line.{LineLists, seats_in, HaveOwnSenders}
+use Rattle.clk_drain.specs.Closing.{left_over, queue_of_line, device_of, tallies_in, AreInOrder, HasSent, IsDrainedTo}
 use Rattle.clk_drain.specs.Outcome.{Device, IsSettledOutcome}
 use Rattle.clk_drain.specs.Parts.{IsWithin}
-use Rattle.clk_drain.specs.declared.drained.Drained.{Drained}
-use Rattle.clk_drain.specs.inside.Closing.{IsDrainedAs}
 use Rattle.clk_drain.specs.inside.Parts.{IsDrainOf, IsSettledLine}
 use Rattle.clk_drain.proofs.Left.{IsLeft, left-is}
 use Rattle.clk_drain.proofs.Still.{still-accepted, still-evicted, still-seats, still-queues, still-tallies}
 use Rattle.clk_drain.proofs.AllGiven.{all-given}
 use Rattle.clk_drain.proofs.FromSenders.{emitted-of, emitted-own}
 use Rattle.clk_drain.proofs.Settling.{some-sent, settled-outcome}
-
--- What a session keeps stays so while it is drained.
-pub tells-still : (old new : SessionLists) → new.keeps ≡ old.keeps → new.gone ≡ old.gone → TellsEmitted old → TellsEmitted new
-tells-still old new keeps gone h = (ap keeps_emitted keeps ∙ h.0, gone ∙ h.1)
-
--- A session keeps its emitted packets, or visits from which they are known.
-pub emitted-told : (s : SessionLists) (out all : List Packet) → TellsEmitted s → (s.keeps.packets ≡ true → out ≡ all) → (keeps_visits s.keeps ≡ true → s.gone ≡ 0 → out ≡ all) → out ≡ all
-emitted-told s out all h kept told = by_packets s.keeps.packets refl h.0
-  where
-    by_packets : (packets : Bool) → s.keeps.packets ≡ packets → (packets || keeps_visits s.keeps) ≡ true → out ≡ all
-    by_packets true keeps e = kept keeps
-    by_packets false keeps e = told e h.1
 
 each-within : (lines : List LineLists) → AllByRecursion IsSettledLine lines → AllByRecursion IsWithin lines
 each-within [] h = tt
@@ -57,9 +36,9 @@ pub drained-over : (session new : Progress) (lines gathered after : List LineLis
 drained-over session new lines gathered after moment left out tallies conserves counts nothing h in_order comes_out =
     let still = h.drained.still ∙ h.leaves_some.gathers.still in
     let run = h.drained.gives.drained.run in
-    let apart : HaveOwnSenders after = subst (λ seats. are_distinct (senders_at seats) ≡ true) (sym (still-seats lines after still)) h.own in
-    let is_left : left ≡ left_over session after = left-is session lines gathered left h.leaves_some ∙ (λ i. sym (still-accepted lines after still) i - (sym (still-evicted lines after still) i + length (emitted session.log))) in
-    let given = all-given session new after (max (counted_moment session) moment) h.drained.made h.distinct (counts new.tree h.distinct) (subst (λ n. IsDrained session new (max (counted_moment session) moment) h.drained.made n) is_left h.drained.gives.drained) h.drained.own (each-within after h.settled) in
+    let apart : HaveOwnSenders after = search (rules, still-seats) in
+    let is_left : left ≡ left_over session after = search (rules, left-is, still-accepted, still-evicted) in
+    let given = all-given session new after (max (counted_moment session) moment) h.drained.made h.distinct (counts new.tree h.distinct) (search rules) h.drained.own (each-within after h.settled) in
     let emits = emitted-of new after (conserves new.tree h.distinct) (nothing new.tree) run given.0 h.drained.own apart h.settled in
     let known = emitted-own new after (conserves new.tree h.distinct) (nothing new.tree) run given.0 h.drained.own apart h.settled in
     let some = some-sent after apart h.settled in
@@ -67,21 +46,11 @@ drained-over session new lines gathered after moment left out tallies conserves 
     let settled : (packets : ℕ → List Packet) → AllByRecursion (HasSent packets) (seats_in lines) → IsSettledOutcome packets (record { tree = new.tree; queues = map queue_of_line after; log = new.log; emitted = emitted new.log } ∷ []) tallies =
     λ packets offered. settled-outcome packets new after tallies (emitted new.log) run refl given.0 h.drained.own apart (subst (AllByRecursion (HasSent packets)) (sym seats) offered) h.settled given.1 emits known in_order in
     let is_device : record { tree = new.tree; queues = map queue_of_line after; log = new.log; emitted = emitted new.log } ≡ device_of session lines new.log out =
-    λ i. record { tree = h.drained.gives.drained.tree i; queues = still-queues lines after still i; log = new.log; emitted = sym comes_out i } in record {
+    search (rules, still-queues) in record {
       sent = some.0;
       offered = subst (AllByRecursion (HasSent some.0)) seats some.1;
-      told = subst (λ (told : List Tally). AreInOrder told tallies) (still-tallies lines after still) in_order;
+      told = search (rules, still-tallies);
       outcome = λ packets offered. subst (λ (d : Device). IsSettledOutcome packets (d ∷ []) tallies) is_device (settled packets offered);
       made = h.drained.made;
       goes_on = subst (λ (x : Progress × ℕ). GivesAll session x.0 (max (counted_moment session) moment) h.drained.made x.1) (λ i. (record { tree = h.drained.gives.drained.tree i; log = new.log }, left-is session lines gathered left h.leaves_some i)) h.drained.gives;
     }
-
--- A drain whose log is unpacked is what it was.
-pub drained-unpacked : (session : Progress) (keeps : Bool) (lines : List LineLists) (moment : ℕ) (packed : Drained PackedLog) (result : Result (Drained (Vec Visit Global)) Fault) → keeps ≡ true → IsDrainedAs session keeps lines moment packed
-    → IfOk result (λ d. d.emitted.items ≡ packed.emitted.items) → IfOk result (λ d. d.log.items ≡ logged packed.log) → IfOk result (λ d. d.tallies.items ≡ packed.tallies.items)
-    → IfOk result (IsDrainedOver session lines moment)
-drained-unpacked session keeps lines moment packed (Err fault) visits drained emitted log tallies = tt
-drained-unpacked session keeps lines moment packed (Ok d) visits drained emitted log tallies =
-    subst (λ log. IsDrainedTo session lines moment log d.emitted.items d.tallies.items) (sym (log ∙ drained.kept visits))
-    (subst (λ emitted. IsDrainedTo session lines moment drained.log emitted d.tallies.items) (sym emitted)
-    (subst (IsDrainedTo session lines moment drained.log packed.emitted.items) (sym tallies) drained.is))

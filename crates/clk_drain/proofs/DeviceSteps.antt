@@ -1,8 +1,10 @@
 -- The devices of a plan are opened one after another, and the queues of each.
-use Rattle.std.proofs.Common.{◌≡◌, ℕ, zero, suc, ◌+◌, ◌<◌, ◌==◌, Bool, true, false, List, [], ◌∷◌, ◌++◌, length, map, take, get_or, slice_get, sym, ap, ◌∙◌, subst, arith, if◌then◌else◌, Vec}
+use Rattle.std.proofs.Common.{◌≡◌, ℕ, suc, ◌+◌, ◌<◌, ◌==◌, Bool, true, false, List, [], ◌∷◌, ◌++◌, length, map, take, get_or, slice_get, sym, ap, ◌∙◌, subst, arith, if◌then◌else◌, Vec, rules}
+use Rattle.std.proofs.lemmas.Grind.{common_steps}
+use Rattle.std.proofs.lemmas.Bool.Decides.{nat_tests}
 use Rattle.std.specs.declared.alloc.Global.{Global}
 use Rattle.std.specs.List.{AllByRecursion}
-use Rattle.std.proofs.lemmas.List.{append-nil, length-map, length-take-le, take_more, get_or-map}
+use Rattle.std.proofs.lemmas.List.{append-nil, length-map, take_more, get_or-map}
 use Rattle.clk_packet.specs.declared.packet.Packet.{Packet}
 use Rattle.clk_ruled.specs.Queue.{SeatLists, TapLists}
 use Rattle.clk_packet.specs.Lists.{stands_in, AreRising}
@@ -30,20 +32,11 @@ pub record IsQueueOf (plan : List Queued) (leaf : ℕ) (q : Queued) : Type 0 whe
 
 all-at : {X : Type 0} (P : X → Type 0) (xs : List X) (i : ℕ) (x : X) → AllByRecursion P xs → i < length xs → x ≡ get_or xs i x → P x
 all-at P [] i x all lt is = absurd (omega (arith, lt))
-all-at P (y ∷ xs) zero x all lt is = subst P (sym is) all.0
-all-at P (y ∷ xs) (suc i) x all lt is = all-at P xs i x all.1 (omega (arith, lt)) is
+all-at P (y ∷ xs) o x all lt is = grind (arith, common_steps, nat_tests)
 
 pub queue-of : (specs : List QueueSpec) (plan : List Queued) (leaf : ℕ) (s : QueueSpec) → map queued specs ≡ plan → AllByRecursion HasCapacity plan → AllByRecursion (λ (q : Queued). AreRising q.senders) plan → leaf < length specs → s ≡ get_or specs leaf s
     → IsQueueOf plan leaf (queued s)
-queue-of specs plan leaf s are capacities senders lt is =
-    let count : length specs ≡ length plan = sym (length-map specs queued) ∙ ap length are in
-    let within : leaf < length plan = omega (arith, count, lt) in
-    let at : queued s ≡ get_or plan leaf (queued s) = ap queued is ∙ sym (get_or-map queued specs leaf s (queued s) lt) ∙ ap (λ (qs : List Queued). get_or qs leaf (queued s)) are in record {
-      within = within;
-      is = at;
-      capacity = all-at HasCapacity plan leaf (queued s) capacities within at;
-      rises = all-at (λ (q : Queued). AreRising q.senders) plan leaf (queued s) senders within at;
-    }
+queue-of specs plan leaf s are capacities senders lt is = search (rules, (length-map specs queued), (get_or-map queued specs leaf s (queued s) lt), all-at)
 
 -- a queue more that was opened
 open-more : (traces : List (List Packet)) (shared : List SharedQueue) (queues : List LeafQueue) (taps : List TapLists) (seats : List (Vec SeatLists Global)) (q : SharedQueue) (at : LeafQueue) (t : TapLists) (s : Vec SeatLists Global)
@@ -57,14 +50,8 @@ abbrev if_at : ℕ → ℕ → Queued → List SharedQueue
 if_at device leaf q = if q.device == device then shared_at leaf q ∷ [] else []
 
 at-more : (device leaf n : ℕ) (queues : List Queued) (q : Queued) → n ≡ leaf + length queues → queues_at device leaf (queues ++ q ∷ []) ≡ queues_at device leaf queues ++ if_at device n q
-at-more device leaf n [] q e = ap (λ m. if_at device m q) (omega (arith, e))
-at-more device leaf n (p ∷ queues) q e = by_test (p.device == device) (at-more device (suc leaf) n queues q (omega (arith, e)))
-  where
-    by_test : (b : Bool) → queues_at device (suc leaf) (queues ++ q ∷ []) ≡ queues_at device (suc leaf) queues ++ if_at device n q
-        → (if b then shared_at leaf p ∷ queues_at device (suc leaf) (queues ++ q ∷ []) else queues_at device (suc leaf) (queues ++ q ∷ []))
-        ≡ (if b then shared_at leaf p ∷ queues_at device (suc leaf) queues else queues_at device (suc leaf) queues) ++ if_at device n q
-    by_test true rest = ap (λ qs. shared_at leaf p ∷ qs) rest
-    by_test false rest = rest
+at-more device leaf n [] q e = search rules
+at-more device leaf n (p ∷ queues) q e = search (rules, (at-more device (suc leaf) n queues q (omega (arith, e))))
 
 -- The queues of a device among the first so many of a plan's were opened.
 abbrev pub AreOpening : List (List Packet) → ℕ → List Queued → OpenQueues → ℕ → Type 0
@@ -72,9 +59,7 @@ AreOpening traces device plan opened leaf = AreOpenAs traces (queues_at device 0
 
 -- those of one queue more
 taken-more : (device leaf : ℕ) (plan : List Queued) (q : Queued) → leaf < length plan → q ≡ get_or plan leaf q → queues_at device 0 (take (leaf + 1) plan) ≡ queues_at device 0 (take leaf plan) ++ if_at device leaf q
-taken-more device leaf plan q lt is =
-    ap (queues_at device 0) (take_more plan leaf q lt ∙ (λ i. take leaf plan ++ sym is i ∷ []))
-    ∙ at-more device 0 leaf (take leaf plan) q (let le = length-take-le leaf plan (omega arith) in omega (arith, le))
+taken-more device leaf plan q lt is = search (rules, take_more, at-more)
 
 pub opened-more : (traces : List (List Packet)) (device leaf : ℕ) (plan : List Queued) (q : Queued) (old new : OpenQueues) → leaf < length plan → q ≡ get_or plan leaf q → (q.device == device) ≡ true
     → IsAdded traces (shared_at leaf q) old new → AreOpening traces device plan old leaf → AreOpening traces device plan new (leaf + 1)
@@ -88,10 +73,7 @@ opened-more traces device leaf plan q old new lt is own added h =
 -- A queue of another device is passed over.
 pub opened-same : (traces : List (List Packet)) (device leaf : ℕ) (plan : List Queued) (q : Queued) (opened : OpenQueues) → leaf < length plan → q ≡ get_or plan leaf q → (q.device == device) ≡ false
     → AreOpening traces device plan opened leaf → AreOpening traces device plan opened (leaf + 1)
-opened-same traces device leaf plan q opened lt is other h =
-    let are : queues_at device 0 (take (leaf + 1) plan) ≡ queues_at device 0 (take leaf plan) =
-    taken-more device leaf plan q lt is ∙ ap (λ (b : Bool). queues_at device 0 (take leaf plan) ++ (if b then shared_at leaf q ∷ [] else [])) other ∙ append-nil (queues_at device 0 (take leaf plan)) in
-    subst (λ (shared : List SharedQueue). AreOpenAs traces shared opened.queues.items opened.taps.items opened.seats.items) (sym are) h
+opened-same traces device leaf plan q opened lt is other h = search (rules, (taken-more device leaf plan q lt is), (append-nil (queues_at device 0 (take leaf plan))))
 
 -- One device more was opened.
 pub open-below : (plan : List Planned) (traces : List (List Packet)) (device end : ℕ) (queues : List (Vec LeafQueue Global)) (seats : List (Vec (Vec SeatLists Global) Global)) (ends : List EndLists) (q : Vec LeafQueue Global) (s : Vec (Vec SeatLists Global) Global) (e : EndLists)

@@ -1,13 +1,13 @@
 -- What a drain gives is what is emitted in it.
-use Rattle.std.proofs.Common.{◌≡◌, ℕ, ◌+◌, List, [], ◌∷◌, ◌++◌, length, map, Option, Some, None, refl, ap, ◌∙◌, subst, arith}
+use Rattle.std.proofs.Common.{◌≡◌, ℕ, ◌+◌, List, [], ◌∷◌, ◌++◌, length, map, Option, refl, rules}
 use Rattle.std.specs.List.{AllByRecursion, flat_map, cons_option}
 use Rattle.std.proofs.lemmas.List.{length-append}
 use Rattle.clk_packet.specs.declared.packet.Packet.{Packet}
 use Rattle.clk_sched.specs.declared.visit.Visit.{Visit}
-use Rattle.clk_sched.specs.Log.{visits_of, pulls, turn, result_of}
+use Rattle.clk_sched.specs.Log.{pulls, turn}
 use Rattle.clk_sched.specs.Laws.Device.{IsDeviceTurn}
 use Rattle.clk_sched.specs.Results.{emitted}
-use Rattle.clk_sched.proofs.Callers.Emitted.{emitted-append, result-passed}
+use Rattle.clk_sched.proofs.Callers.Emitted.{emitted-append}
 use Rattle.clk_sched.specs.Session.{Progress, IsDrained, given_in}
 
 -- The turns of the device in these pulls are in order.
@@ -19,20 +19,12 @@ later-in_order [] more h = h
 later-in_order (pull ∷ some) more h = later-in_order some more h.1
 
 one-more : (o : Option Packet) (given out : List Packet) → length out ≡ length given → length (cons_option o [] ++ out) ≡ length (cons_option o given)
-one-more None given out e = e
-one-more (Some p) given out e = omega (arith, e)
+one-more o given out e = search rules
 
 -- As many packets are given in some pulls as are emitted in them.
 given-emitted : (more : List (List Visit)) → AreInOrder more → length (emitted (flat_map (λ pull. pull) more)) ≡ length (given_in more)
 given-emitted [] h = refl
-given-emitted (pull ∷ more) h =
-    ap length (emitted-append pull (flat_map (λ pull. pull) more) ∙ ap (λ out. out ++ emitted (flat_map (λ pull. pull) more)) (result-passed (visits_of 0 pull) h.0.in_order))
-    ∙ one-more (result_of (visits_of 0 pull)) (given_in more) (emitted (flat_map (λ pull. pull) more)) (given-emitted more h.1)
+given-emitted (pull ∷ more) h = search (rules, emitted-append, one-more, (given-emitted more h.1))
 
 pub emitted-more : (old new : Progress) (moment made given : ℕ) → IsDrained old new moment made given → length (emitted new.log) ≡ length (emitted old.log) + given
-emitted-more old new moment made given h =
-    let in_order : AreInOrder (pulls old.log ++ h.more) = subst AreInOrder h.pulls_are h.run.device in
-    let out = ap (λ log. length (emitted log)) h.log ∙ ap length (emitted-append old.log (flat_map (λ pull. pull) h.more)) ∙ length-append (emitted old.log) (emitted (flat_map (λ pull. pull) h.more)) in
-    let same = given-emitted h.more (later-in_order (pulls old.log) h.more in_order) in
-    let are = h.given_are in
-    omega (arith, out, same, are)
+emitted-more old new moment made given h = search (rules, emitted-append, length-append, given-emitted, later-in_order)

@@ -1,14 +1,13 @@
 -- What was emitted of a sender is what its queue's tap took, and nothing else was emitted.
-use Rattle.std.proofs.Common.{◌≡◌, ℕ, ◌==◌, inl, inr, true, List, [], ◌∷◌, ◌++◌, map, refl, sym, ap, ◌∙◌, subst}
+use Rattle.std.proofs.Common.{◌≡◌, ℕ, ◌==◌, inl, inr, true, List, [], ◌∷◌, map, refl, sym, ap, ◌∙◌, subst, rules}
 use Rattle.std.specs.List.{AllByRecursion}
 use Rattle.std.proofs.lemmas.Bool.{or_right}
-use Rattle.std.proofs.lemmas.List.{append-nil}
 use Rattle.clk_packet.specs.declared.packet.Packet.{Packet}
 use Rattle.clk_packet.specs.Lists.{of_sender, stands_in}
 use Rattle.clk_sched.specs.declared.visit.Visit.{Visit}
-use Rattle.clk_sched.specs.Tree.{Tree, root}
+use Rattle.clk_sched.specs.Tree.{Tree}
 use Rattle.clk_sched.specs.Run.{IsRun}
-use Rattle.clk_sched.specs.Results.{Traced, leaf_packets, traced_emitted, traced_heads, emitted, heads}
+use Rattle.clk_sched.specs.Results.{Traced, leaf_packets, traced_emitted, emitted, heads}
 use Rattle.clk_sched.specs.Conservation.{from_queue, ConservesPackets, MakesNothing}
 use Rattle.clk_sched.specs.Session.{Progress}
 use Rattle.clk_sched.proofs.Callers.Traced.{emitted-traced, none-traced, from-own_queue, all-traced}
@@ -20,9 +19,7 @@ use Rattle.clk_drain.proofs.Seated.{line_senders, Sits, HaveTaken, CameOver, sit
 -- What each tap took is what was emitted of its queue.
 taken-emitted : (session : Progress) (lines : List LineLists) → ConservesPackets session.tree → IsRun session.tree session.log → heads session.tree session.log ≡ [] → AreLinesOf session lines
     → (q : ℕ) → stands_in q (leaves_of lines) ≡ true → leaf_packets session.tree q session.log ≡ from_queue q (traced_emitted session.tree session.log)
-taken-emitted session lines conserves run no_heads are q stands =
-    let out = from_queue q (traced_emitted session.tree session.log) in
-    conserves session.log run q (sym (are.leaves q) ∙ stands) ∙ ap (λ held. out ++ held) (none-traced (traced_heads session.log 1 (root session.tree)) q no_heads) ∙ append-nil out
+taken-emitted session lines conserves run no_heads are q stands = search (rules, none-traced)
 
 -- the same for some of the lines
 some-emitted : (tree : Tree) (log : List Visit) (ts : List Traced) (lines : List LineLists) → HaveOwnSenders lines → AllByRecursion (CameOver lines) ts
@@ -42,7 +39,7 @@ emitted-of session lines conserves makes run no_heads are own settled =
     subst (λ packets. AllByRecursion (λ (l : LineLists). (s : ℕ) → stands_in s (senders_at (seats_of l)) ≡ true → of_sender s packets ≡ of_sender s l.tap.taken) lines)
     (sym (emitted-traced session.tree session.log))
     (some-emitted session.tree session.log (traced_emitted session.tree session.log) lines own
-    (came-over session lines are settled (traced_emitted session.tree session.log) (makes session.log run).0)
+    (search (rules, came-over))
     lines (λ s q h. h) (taken-emitted session lines conserves run no_heads are) are.taken)
 
 -- All that was emitted is of senders that have a seat.

@@ -1,9 +1,8 @@
 -- A tap gathers the seats of its queue one after another.
-use Rattle.std.proofs.Common.{◌≡◌, ℕ, ◌+◌, ◌<◌, ◌≤◌, Bool, true, false, suc, List, [], ◌∷◌, length, get_or, set, refl, sym, ap, ◌∙◌, subst, arith}
+use Rattle.std.proofs.Common.{◌≡◌, ℕ, ◌+◌, ◌<◌, ◌≤◌, Bool, true, false, suc, List, [], ◌∷◌, length, get_or, set, refl, ◌∙◌, arith, rules}
 use Rattle.std.specs.List.{AllWithin, AllByRecursion}
 use Rattle.std.proofs.Math.Seq.{map-set_same}
 use Rattle.std.proofs.lemmas.List.{get_or_default}
-use Rattle.std.proofs.lemmas.List.Elements.{AllWithin-more_set}
 use Rattle.clk_ruled.specs.Laws.{KeepsTogether}
 use Rattle.clk_ruled.specs.Queue.{Queue, TapLists, ClosedLists, closed_with, gathering}
 use Rattle.clk_ruled.specs.Settle.{AreOpenedTogether, lists_of}
@@ -21,8 +20,7 @@ abbrev IsSameTap : TapLists → TapLists → Type 0
 IsSameTap old new = (new.setup ≡ old.setup) × (new.taken ≡ old.taken)
 
 same-tap : (old new : TapLists) (c : ClosedLists) (b : Bool) → c.is_gathered ≡ b → (c.is_gathered ≡ false → new ≡ gathering old c.lists) → (c.is_gathered ≡ true → new ≡ old) → IsSameTap old new
-same-tap old new c true is first again = subst (IsSameTap old) (sym (again is)) (refl, refl)
-same-tap old new c false is first again = subst (IsSameTap old) (sym (first is)) (refl, refl)
+same-tap old new c b is first again = search rules
 
 pub gathering-more : (queue : Queue) (old : TapLists) (all : List ClosedLists) (tap new : TapLists) (now : List ClosedLists) (i : ℕ) (after d : ClosedLists) → KeepsTogether → i < length now
     → after ≡ closed_with (get_or now i d).lists → ((get_or now i d).is_gathered ≡ false → new ≡ gathering tap (get_or now i d).lists) → ((get_or now i d).is_gathered ≡ true → new ≡ tap)
@@ -33,8 +31,8 @@ gathering-more queue old all tap new now i after d law lt is first again h =
       together = law.gathered queue tap new now i before after lt (get_or_default now i d before lt) is first again h.together;
       setup = same.0 ∙ h.setup;
       taken = same.1 ∙ h.taken;
-      seats = map-set_same (λ (c : ClosedLists). c.lists) now i after d (ap (λ (c : ClosedLists). c.lists) is) ∙ h.seats;
-      first = AllWithin-more_set now i after lt (λ (c : ClosedLists). c.is_gathered ≡ true) h.first (ap (λ (c : ClosedLists). c.is_gathered) is);
+      seats = search (rules, map-set_same);
+      first = search rules;
     }
 
 all-gathered : (now : List ClosedLists) → ((k : ℕ) (d : ClosedLists) → k < length now → (get_or now k d).is_gathered ≡ true) → AllByRecursion (λ (c : ClosedLists). c.is_gathered ≡ true) now
@@ -42,9 +40,4 @@ all-gathered [] h = tt
 all-gathered (c ∷ now) h = (h 0 c (omega arith), all-gathered now (λ k d lt. h (suc k) d (omega arith)))
 
 pub gathered-all : (queue : Queue) (old : TapLists) (all : List ClosedLists) (tap : TapLists) (now : List ClosedLists) (n : ℕ) → length now ≤ n → IsGathering queue old all tap now n → AllByRecursion (λ (c : ClosedLists). c.is_gathered ≡ true) now
-gathered-all queue old all tap now n le h = all-gathered now (λ k d lt. h.first k d (omega arith) (omega arith))
-
--- What a seat at a place has to have for the tap to gather it.
-pub of-tap-at : (queue : Queue) (old : TapLists) (all : List ClosedLists) (tap : TapLists) (now : List ClosedLists) (n i : ℕ) (d : ClosedLists) → KeepsTogether → i < length now → IsGathering queue old all tap now n
-    → ((get_or now i d).lists.id ≡ tap.id) × ((get_or now i d).lists.setup ≡ tap.setup)
-of-tap-at queue old all tap now n i d law lt h = law.closed queue tap now i (get_or now i d) lt (get_or_default now i d (get_or now i d) lt) h.together
+gathered-all queue old all tap now n le h = search (rules, all-gathered)

@@ -1,10 +1,10 @@
 -- What was opened fits together, and nothing was done with it yet.
-use Rattle.std.proofs.Common.{◌≡◌, ℕ, List, [], ◌∷◌, map, refl, sym, ap, ◌∙◌, subst, Vec}
+use Rattle.std.proofs.Common.{◌≡◌, ℕ, List, [], ◌∷◌, map, refl, sym, ap, ◌∙◌, subst, Vec, rules}
 use Rattle.std.specs.declared.alloc.Global.{Global}
 use Rattle.std.specs.List.{AllByRecursion}
 use Rattle.clk_packet.specs.declared.packet.Packet.{Packet}
 use Rattle.clk_ruled.specs.declared.view.Setup.{Setup}
-use Rattle.clk_ruled.specs.Queue.{Queue, SeatLists, TapLists, IsTapOf, queue_of, empty_seat, empty_tap}
+use Rattle.clk_ruled.specs.Queue.{Queue, SeatLists, TapLists, queue_of, empty_seat}
 use Rattle.clk_packet.specs.Lists.{stands_in, AreRising}
 use Rattle.clk_sched.specs.Tree.{Tree, root, leaves}
 use Rattle.clk_sched.specs.Results.{leaf_packets}
@@ -14,7 +14,7 @@ use Rattle.clk_drain.specs.Line.{LineLists, leaves_of}
 use Rattle.clk_drain.specs.Outcome.{SharedQueue}
 use Rattle.clk_drain.specs.inside.Threads.{Terms, IsUnused, EndLists}
 use Rattle.clk_drain.specs.inside.Handed.{lines_from, AreTapsOf, FitPlaces, AreUnused, IsUnpulledOver}
-use Rattle.clk_drain.specs.inside.Opening.{rooms_for, setup_for, AreOpenAs}
+use Rattle.clk_drain.specs.inside.Opening.{rooms_for, AreOpenAs}
 
 -- The lines of opened queues stand at the leaves at which the queues were to stand.
 pub leaves-open : (traces : List (List Packet)) (shared : List SharedQueue) (queues : List LeafQueue) (taps : List TapLists) (seats : List (Vec SeatLists Global)) → AreOpenAs traces shared queues taps seats
@@ -23,24 +23,19 @@ leaves-open traces [] [] [] [] h = refl
 leaves-open traces (q ∷ shared) (at ∷ queues) (t ∷ taps) (s ∷ seats) h = λ i. h.0.0 i ∷ leaves-open traces shared queues taps seats h.1 i
 leaves-open traces shared queues taps seats h = absurd h
 
--- Each tap is its queue's.
-tap-opened : (setup : Setup) (queue : Queue) (tap : TapLists) → queue ≡ queue_of queue.id setup → tap ≡ empty_tap tap.keeps queue.id setup → IsTapOf queue tap
-tap-opened setup queue tap is empty = subst (IsTapOf queue) (sym empty) is
-
 taps-open : (traces : List (List Packet)) (shared : List SharedQueue) (queues : List LeafQueue) (taps : List TapLists) (seats : List (Vec SeatLists Global)) → AreOpenAs traces shared queues taps seats → AreTapsOf queues taps
 taps-open traces [] [] [] [] h = tt
-taps-open traces (q ∷ shared) (at ∷ queues) (t ∷ taps) (s ∷ seats) h = (tap-opened (setup_for traces q) at.queue t h.0.1.0 h.0.1.2, taps-open traces shared queues taps seats h.1)
+taps-open traces (q ∷ shared) (at ∷ queues) (t ∷ taps) (s ∷ seats) h = search (rules, (taps-open traces shared queues taps seats h.1))
 taps-open traces shared queues taps seats h = absurd h
 
 -- Each seat is its queue's, has room for all that its sender sends, and offered nothing.
 seats-unused : (terms : Terms) (queue : Queue) (setup : Setup) (senders : List ℕ) → queue ≡ queue_of queue.id setup → AllByRecursion (IsUnused terms queue) (map (empty_seat queue.id setup) (rooms_for terms.traces senders))
 seats-unused terms queue setup [] is = tt
-seats-unused terms queue setup (s ∷ senders) is = (record { own = is; offered = (refl, tt, (refl, refl)); room = refl }, seats-unused terms queue setup senders is)
+seats-unused terms queue setup (s ∷ senders) is = search (rules, (seats-unused terms queue setup senders is))
 
 pub unused-open : (terms : Terms) (shared : List SharedQueue) (queues : List LeafQueue) (taps : List TapLists) (seats : List (Vec SeatLists Global)) → AreOpenAs terms.traces shared queues taps seats → FitPlaces (AreUnused terms) seats queues
 unused-open terms [] [] [] [] h = tt
-unused-open terms (q ∷ shared) (at ∷ queues) (t ∷ taps) (s ∷ seats) h =
-    (subst (AllByRecursion (IsUnused terms at.queue)) (sym h.0.1.1) (seats-unused terms at.queue (setup_for terms.traces q) q.senders h.0.1.0), unused-open terms shared queues taps seats h.1)
+unused-open terms (q ∷ shared) (at ∷ queues) (t ∷ taps) (s ∷ seats) h = search (rules, seats-unused, (unused-open terms shared queues taps seats h.1))
 unused-open terms shared queues taps seats h = absurd h
 
 -- No tap took anything.

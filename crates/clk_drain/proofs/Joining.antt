@@ -1,5 +1,5 @@
 -- What the threads of a run gave, joined by device, can be closed.
-use Rattle.std.proofs.Common.{◌≡◌, ℕ, ◌*◌, ◌≤◌, Bool, true≢false, true, List, [], ◌∷◌, ◌++◌, map, refl, sym, ap, ◌∙◌, subst, arith, Vec}
+use Rattle.std.proofs.Common.{◌≡◌, ℕ, ◌*◌, ◌≤◌, Bool, true, List, [], ◌∷◌, ◌++◌, map, refl, sym, ap, ◌∙◌, subst, Vec, rules}
 use Rattle.std.specs.declared.alloc.Global.{Global}
 use Rattle.std.specs.Prelude.{⊤}
 use Rattle.std.specs.List.{flat_map, AllByRecursion, AllZip}
@@ -13,9 +13,9 @@ use Rattle.clk_sched.specs.Limits.{most_left}
 use Rattle.clk_sched.specs.Log.{pulls, moment_of}
 use Rattle.clk_sched.specs.Session.{counted_moment}
 use Rattle.clk_drain.specs.declared.running.opening.LeafQueue.{LeafQueue}
-use Rattle.clk_drain.specs.Line.{LineLists, seats_of, seats_in, senders_at, taking_all, pulling_all, AreLinesOf, HaveOwnSenders}
+use Rattle.clk_drain.specs.Line.{LineLists, seats_of, seats_in, senders_at, taking_all, pulling_all, AreLinesOf}
 use Rattle.clk_drain.specs.Outcome.{SharedQueue}
-use Rattle.clk_drain.specs.Closing.{queue_of_line, AreOffered, HasSent}
+use Rattle.clk_drain.specs.Closing.{queue_of_line, HasSent}
 use Rattle.clk_drain.specs.inside.Parts.{taken_at}
 use Rattle.clk_drain.specs.Moments.{steps}
 use Rattle.clk_drain.specs.inside.Threads.{Terms, HasSentAll, HaveSentAll, EndLists, Feed, IsPulled}
@@ -33,35 +33,28 @@ abbrev room_of : SeatLists → ℕ × ℕ
 room_of l = (l.sender, l.room)
 
 same-rooms : (terms : Terms) (seats : List SeatLists) (closed : List ClosedLists) → AllZip (HasSentAll terms) seats closed → map room_of (lists_of closed) ≡ map room_of seats
-same-rooms terms [] [] h = refl
-same-rooms terms [] (c ∷ closed) h = absurd h
+same-rooms terms [] o h = search rules
 same-rooms terms (s ∷ seats) [] h = absurd h
-same-rooms terms (s ∷ seats) (c ∷ closed) h = λ i. (h.0.closed.0.2 i, h.0.closed.0.3 i) ∷ same-rooms terms seats closed h.1 i
+same-rooms terms (s ∷ seats) (c ∷ closed) h = search (rules, (same-rooms terms seats closed h.1))
 
 same-senders : (terms : Terms) (seats : List SeatLists) (closed : List ClosedLists) → AllZip (HasSentAll terms) seats closed → senders_at (lists_of closed) ≡ senders_at seats
-same-senders terms [] [] h = refl
-same-senders terms [] (c ∷ closed) h = absurd h
+same-senders terms [] o h = search rules
 same-senders terms (s ∷ seats) [] h = absurd h
 same-senders terms (s ∷ seats) (c ∷ closed) h = λ i. h.0.closed.0.2 i ∷ same-senders terms seats closed h.1 i
 
 each-sent : (terms : Terms) (seats : List SeatLists) (closed : List ClosedLists) → AllZip (HasSentAll terms) seats closed → AllByRecursion (HasSent (sent_by terms.traces)) (lists_of closed)
-each-sent terms [] [] h = tt
-each-sent terms [] (c ∷ closed) h = absurd h
+each-sent terms [] o h = search rules
 each-sent terms (s ∷ seats) [] h = absurd h
-each-sent terms (s ∷ seats) (c ∷ closed) h = (subst (λ n. AreOffered (sent_by terms.traces n) c.lists) (sym h.0.closed.0.2) h.0.sent, each-sent terms seats closed h.1)
+each-sent terms (s ∷ seats) (c ∷ closed) h = search (rules, (each-sent terms seats closed h.1))
 
 -- the seat was opened with the tap
 abbrev IsBeside : TapLists → SeatLists → Type 0
 IsBeside tap s = (s.id ≡ tap.id) × (s.setup ≡ tap.setup)
 
 each-of-tap : (terms : Terms) (tap : TapLists) (seats : List SeatLists) (closed : List ClosedLists) → AllByRecursion (IsBeside tap) seats → AllZip (HasSentAll terms) seats closed → AreOfTap tap closed
-each-of-tap terms tap [] [] own h = tt
-each-of-tap terms tap [] (c ∷ closed) own h = absurd h
+each-of-tap terms tap [] o own h = search rules
 each-of-tap terms tap (s ∷ seats) [] own h = absurd h
-each-of-tap terms tap (s ∷ seats) (c ∷ closed) own h = (
-  record { id = h.0.closed.0.0 ∙ own.0.0; setup = h.0.closed.0.1 ∙ own.0.1; had = λ gathered. absurd (true≢false (sym gathered ∙ h.0.closed.1)) },
-  each-of-tap terms tap seats closed own.1 h.1,
-)
+each-of-tap terms tap (s ∷ seats) (c ∷ closed) own h = search (rules, (each-of-tap terms tap seats closed own.1 h.1))
 
 -- Seats as they are opened.
 opened-rooms : (queue : Queue) (setup : Setup) (rooms : List (ℕ × ℕ)) → map room_of (map (empty_seat queue.id setup) rooms) ≡ rooms
@@ -88,15 +81,15 @@ line-joined terms q at t seats more closed opened h =
     let setup : Setup = setup_for terms.traces q in
     let own : t.id ≡ at.queue.id = ap (λ (x : TapLists). x.id) opened.1.2 in
     let with_setup : t.setup ≡ setup = ap (λ (x : TapLists). x.setup) opened.1.2 in
-    let senders : senders_at (lists_of closed) ≡ q.senders = same-senders terms seats closed h ∙ ap senders_at opened.1.1 ∙ opened-senders at.queue setup terms.traces q.senders in record {
+    let senders : senders_at (lists_of closed) ≡ q.senders = search (rules, same-senders, opened-senders) in record {
       together = (
         opened.1.0 ∙ (λ i. queue_of (sym own i) (sym with_setup i)),
         record {
-          senders = same-rooms terms seats closed h ∙ ap (map room_of) opened.1.1 ∙ opened-rooms at.queue setup setup.rooms ∙ sym (ap (λ (s : Setup). s.rooms) with_setup);
+          senders = search (rules, same-rooms, opened-rooms);
           each = each-of-tap terms (taking_all t more) seats closed (subst (AllByRecursion (IsBeside (taking_all t more))) (sym opened.1.1) (opened-beside at.queue setup setup.rooms (taking_all t more) (sym own) (sym with_setup))) h;
         },
       );
-      queue_is = λ i. record { leaf = opened.0 i; kind = (with_setup i).kind; capacity = (with_setup i).capacity; senders = senders i };
+      queue_is = search rules;
       sent = each-sent terms seats closed h;
     }
 
@@ -113,17 +106,9 @@ taps_of lines = map (λ (l : LineLists). l.tap) lines
 
 pub device-joined : (terms : Terms) (gave : ℕ → List Packet) (shared : List SharedQueue) (queues : List LeafQueue) (taps : List TapLists) (seats : List (Vec SeatLists Global)) (closed : List (Vec ClosedLists Global))
     → AreOpenAs terms.traces shared queues taps seats → AllZip (HaveSentAll terms) seats closed → AreJoined terms shared queues (taps_of (pulling_all gave (lines_from queues taps))) closed (pulling_all gave (lines_from queues taps))
-device-joined terms gave [] [] [] [] [] are h = record { joinable = tt; queues_are = refl; sent = tt; taken = refl }
 device-joined terms gave [] [] [] [] (c ∷ closed) are h = absurd h
-device-joined terms gave (q ∷ shared) (at ∷ queues) (t ∷ taps) (s ∷ seats) [] are h = absurd h
-device-joined terms gave (q ∷ shared) (at ∷ queues) (t ∷ taps) (s ∷ seats) (c ∷ closed) are h =
-    let here = line-joined terms q at t s.items (gave at.leaf) c.items are.0 h.0 in
-    let rest = device-joined terms gave shared queues taps seats closed are.1 h.1 in record {
-      joinable = (here.together, rest.joinable);
-      queues_are = λ i. here.queue_is i ∷ rest.queues_are i;
-      sent = all-join (HasSent (sent_by terms.traces)) (lists_of c.items) (seats_in (joined_lines queues (taps_of (pulling_all gave (lines_from queues taps))) closed)) here.sent rest.sent;
-      taken = ap (λ others. (at.leaf, t.taken ++ gave at.leaf) ∷ others) rest.taken;
-    }
+device-joined terms gave shared queues taps seats [] are h = search rules
+device-joined terms gave (q ∷ shared) (at ∷ queues) (t ∷ taps) (s ∷ seats) (c ∷ closed) are h = search (rules, (line-joined terms q at t s.items (gave at.leaf) c.items are.0 h.0), all-join, (device-joined terms gave shared queues taps seats closed are.1 h.1))
 device-joined terms gave shared queues taps seats closed are h = absurd are
 
 -- A device, joined after its pulls: it has the queues of its plan, and its seats sent all that is sent.
@@ -144,20 +129,7 @@ pub feed-joined : (terms : Terms) (shared : List SharedQueue) (queues : List Lea
 feed-joined terms shared queues seats e closed f opened h pulled =
     let is = pulled.2 in
     let joined : AreJoined terms shared queues (taps_of f.lines) closed f.lines =
-    subst (λ lines. AreJoined terms shared queues (taps_of lines) closed lines) (sym is.lines) (device-joined terms is.gave shared queues e.taps seats closed opened h) in (
-      joined.joinable,
-      record {
-        tree_is = is.tree;
-        visits_are = is.visits;
-        queues_are = joined.queues_are;
-        own = same-lines f.session f.lines (joined_lines queues (taps_of f.lines) closed) joined.taken is.own;
-        sent = joined.sent;
-        made = pulled.0;
-        within = pulled.1;
-        moments = is.moments;
-        counted = is.counted;
-      },
-    )
+    subst (λ lines. AreJoined terms shared queues (taps_of lines) closed lines) (sym is.lines) (device-joined terms is.gave shared queues e.taps seats closed opened h) in search (rules, same-lines)
 
 -- The queues of all devices were opened as their plan has them.
 abbrev pub AreAllOpenAs : List (List Packet) → List (List SharedQueue) → List (Vec LeafQueue Global) → List (Vec (Vec SeatLists Global) Global) → List EndLists → Type 0
@@ -173,16 +145,11 @@ AreJoinedFeeds terms all ends feeds = ⊥
 
 pub all-joined : (terms : Terms) (all : List (List SharedQueue)) (queues : List (Vec LeafQueue Global)) (seats : List (Vec (Vec SeatLists Global) Global)) (ends pulled : List EndLists) (closed : List (Vec (Vec ClosedLists Global) Global)) → AreAllOpenAs terms.traces all queues seats ends → AllZip (HasDeviceSent terms) seats closed
     → HavePulled terms ends pulled queues → AreAllJoinable queues pulled closed × AreJoinedFeeds terms all ends (joined_feeds queues pulled closed)
-all-joined terms [] [] [] [] [] [] opened h over = (tt, tt)
-all-joined terms [] [] [] [] [] (c ∷ closed) opened h over = absurd h
+all-joined terms [] [] [] [] [] o opened h over = search rules
 all-joined terms [] [] [] [] (p ∷ pulled) closed opened h over = absurd over
 all-joined terms (shared ∷ all) (q ∷ queues) (s ∷ seats) (e ∷ ends) [] closed opened h over = absurd over
 all-joined terms (shared ∷ all) (q ∷ queues) (s ∷ seats) (e ∷ ends) (p ∷ pulled) [] opened h over = absurd h
-all-joined terms (shared ∷ all) (q ∷ queues) (s ∷ seats) (e ∷ ends) (p ∷ pulled) (c ∷ closed) opened h over =
-    let here = subst (λ (x : EndLists). AreJoinable q.items x.taps c.items × IsJoinedFeed terms shared e (record { session = x.session; visits = x.visits; lines = joined_lines q.items x.taps c.items }))
-    (sym over.0.2) (feed-joined terms shared q.items s.items e c.items over.0.0 opened.0 h.0 over.0.1) in
-    let rest = all-joined terms all queues seats ends pulled closed opened.1 h.1 over.1 in
-    ((here.0, rest.0), (here.1, rest.1))
+all-joined terms (shared ∷ all) (q ∷ queues) (s ∷ seats) (e ∷ ends) (p ∷ pulled) (c ∷ closed) opened h over = search (rules, (feed-joined terms shared q.items s.items e c.items over.0.0 opened.0 h.0 over.0.1), (all-joined terms all queues seats ends pulled closed opened.1 h.1 over.1))
 all-joined terms all queues seats ends pulled closed opened h over = absurd opened
 
 -- Joined devices can be closed, where no sender has two seats.
@@ -190,22 +157,10 @@ abbrev pub senders_over : List SharedQueue → List ℕ
 senders_over shared = flat_map (λ (q : SharedQueue). q.senders) shared
 
 feed-senders : (terms : Terms) (shared : List SharedQueue) (e : EndLists) (f : Feed) → IsJoinedFeed terms shared e f → senders_at (seats_in f.lines) ≡ senders_over shared
-feed-senders terms shared e f h = sym (senders-same f.lines) ∙ ap senders_over h.queues_are
+feed-senders terms shared e f h = search (rules, senders-same)
 
 feed-ready : (terms : Terms) (shared : List SharedQueue) (e : EndLists) (f : Feed) → are_distinct (senders_over shared) ≡ true → packets_in terms.traces ≤ most_left → IsJoinedFeed terms shared e f → IsReadyToClose terms f
-feed-ready terms shared e f own most h =
-    let apart : HaveOwnSenders f.lines = subst (λ ns. are_distinct ns ≡ true) (sym (feed-senders terms shared e f h)) own in
-    let accepted = accepted-over-within terms.traces f.lines h.sent in
-    let sent = within-trace terms.traces (senders_at (seats_in f.lines)) apart in record {
-      own = h.own;
-      apart = apart;
-      few = omega (arith, accepted, sent, most);
-      sent = h.sent;
-      made = h.made;
-      within = h.within;
-      moments = h.moments;
-      counted = h.counted;
-    }
+feed-ready terms shared e f own most h = search (rules, (feed-senders terms shared e f h), (accepted-over-within terms.traces f.lines h.sent), within-trace)
 
 pub all-ready : (terms : Terms) (all : List (List SharedQueue)) (ends : List EndLists) (feeds : List Feed) → are_distinct (flat_map senders_over all) ≡ true → packets_in terms.traces ≤ most_left → AreJoinedFeeds terms all ends feeds → AllByRecursion (IsReadyToClose terms) feeds
 all-ready terms [] [] [] own most h = tt
@@ -220,7 +175,7 @@ feeds-senders terms (shared ∷ all) (e ∷ ends) (f ∷ feeds) h = λ i. feed-s
 feeds-senders terms all ends feeds h = absurd h
 
 pub all-apart : (terms : Terms) (all : List (List SharedQueue)) (ends : List EndLists) (feeds : List Feed) → are_distinct (flat_map senders_over all) ≡ true → AreJoinedFeeds terms all ends feeds → AreApartDevices feeds
-all-apart terms all ends feeds own h = subst (λ ns. are_distinct ns ≡ true) (sym (feeds-senders terms all ends feeds h)) own
+all-apart terms all ends feeds own h = search (rules, feeds-senders)
 
 -- The visits of all joined devices are kept, or not, as those of the opened ones.
 pub joined-kept : (visits : Bool) (terms : Terms) (all : List (List SharedQueue)) (ends : List EndLists) (feeds : List Feed) → AllByRecursion (KeepVisits visits) ends → AreJoinedFeeds terms all ends feeds → AllByRecursion (λ (f : Feed). f.visits ≡ visits) feeds

@@ -1,5 +1,5 @@
 -- What is known of all devices of a plan once they were opened.
-use Rattle.std.proofs.Common.{ℕ, suc, List, [], ◌∷◌, Vec}
+use Rattle.std.proofs.Common.{ℕ, suc, List, [], ◌∷◌, Vec, rules}
 use Rattle.std.specs.declared.alloc.Global.{Global}
 use Rattle.clk_packet.specs.declared.packet.Packet.{Packet}
 use Rattle.clk_ruled.specs.Queue.{SeatLists}
@@ -16,7 +16,7 @@ use Rattle.clk_drain.proofs.QueuesAt.{rise-at}
 -- No seat was used.
 pub unused-opened : (plan : List Planned) (terms : Terms) (device end : ℕ) (queues : List (Vec LeafQueue Global)) (seats : List (Vec (Vec SeatLists Global) Global)) (ends : List EndLists) → AreOpenFrom plan terms.traces device end queues seats ends → FitPlaces (AreAllUnused terms) seats queues
 unused-opened plan terms device end [] [] [] h = tt
-unused-opened plan terms device end (q ∷ queues) (s ∷ seats) (e ∷ ends) h = (unused-open terms (queues_at device 0 (queues_of plan)) q.items e.taps s.items h.0.opened, unused-opened plan terms (suc device) end queues seats ends h.1)
+unused-opened plan terms device end (q ∷ queues) (s ∷ seats) (e ∷ ends) h = search (rules, unused-open, (unused-opened plan terms (suc device) end queues seats ends h.1))
 unused-opened plan terms device end queues seats ends h = absurd h
 
 -- No session was pulled.

@@ -1,29 +1,25 @@
 -- The line of a leaf, by its place.
-use Rattle.std.proofs.Common.{◌≡◌, ℕ, ◌<◌, ◌==◌, Bool, true, false, zero, suc, List, [], ◌∷◌, length, get_or, set, Option, None, refl, sym, ap, ◌∙◌, subst, arith, eq-eqb, if◌then◌else◌}
+use Rattle.std.proofs.Common.{◌≡◌, ℕ, ◌<◌, ◌==◌, true, false, zero, suc, List, [], ◌∷◌, length, get_or, set, Option, None, refl, sym, arith, rules}
 use Rattle.std.specs.declared.cmp.Ordering.TheVariants.{Equal}
 use Rattle.std.specs.Ordering.{nat_cmp}
 use Rattle.std.proofs.Math.Seq.{map-set_same}
-use Rattle.std.proofs.lemmas.Bool.{or_left, or_right}
-use Rattle.std.proofs.lemmas.Bool.Decides.{nat_tests}
-use Rattle.std.proofs.lemmas.Cmp.{ranked}
-use Rattle.std.proofs.lemmas.List.{get_or_default}
 use Rattle.std.specs.List.{AllByRecursion}
 use Rattle.clk_packet.specs.declared.packet.Packet.{Packet}
 use Rattle.clk_packet.specs.Lists.{AreRising}
 use Rattle.clk_drain.specs.Line.{LineLists, leaves_of, pulling, pulling_all, packets_of, answered, PullsAt, has_line}
 use Rattle.clk_drain.specs.inside.Parts.{IsPlaceOf}
-use Rattle.clk_drain.proofs.Growing.{pulling-none, all-none}
+use Rattle.clk_drain.proofs.Growing.{all-none}
 
 pub other-are : (m n : ℕ) → m < n → ((m == n) ≡ false) × ((n == m) ≡ false)
-other-are m n lt = (grind (arith, nat_tests, lt), grind (arith, nat_tests, lt))
+other-are m n lt = search rules
 
 -- a line of another leaf stays
 pub stays : (leaf : ℕ) (got : Option Packet) (l : LineLists) → (leaf == l.leaf) ≡ false → pulling l (answered leaf got l.leaf) ≡ l
-stays leaf got l e = ap (λ b. pulling l (if b then packets_of got else [])) e ∙ pulling-none l
+stays leaf got l e = search rules
 
 all-stay : (leaf : ℕ) (got : Option Packet) (lines : List LineLists) → AllByRecursion (λ m. leaf < m) (leaves_of lines) → pulling_all (answered leaf got) lines ≡ lines
 all-stay leaf got [] h = refl
-all-stay leaf got (l ∷ lines) h = λ i. stays leaf got l (other-are leaf l.leaf h.0).0 i ∷ all-stay leaf got lines h.1 i
+all-stay leaf got (l ∷ lines) h = search (rules, (all-stay leaf got lines h.1))
 
 -- a leaf below all is not that at a place
 pub below-at : (n : ℕ) (lines : List LineLists) (i : ℕ) (d : LineLists) → i < length lines → AllByRecursion (λ m. n < m) (leaves_of lines) → n < (get_or lines i d).leaf
@@ -35,18 +31,12 @@ below-at n (l ∷ lines) (suc i) d lt h = below-at n lines i d (omega arith) h.1
 pulled-at : (lines : List LineLists) (leaf : ℕ) (got : Option Packet) (i : ℕ) (d : LineLists) → i < length lines → AreRising (leaves_of lines) → (get_or lines i d).leaf ≡ leaf
     → set lines i (pulling (get_or lines i d) (packets_of got)) ≡ pulling_all (answered leaf got) lines
 pulled-at [] leaf got i d lt rise e = absurd (omega arith)
-pulled-at (l ∷ lines) leaf got zero d lt rise e = λ i. pulling l (ap (λ b. if b then packets_of got else []) (sym (eq-eqb leaf l.leaf (sym e))) i) ∷ sym (all-stay leaf got lines (subst (λ n. AllByRecursion (λ m. n < m) (leaves_of lines)) e rise.0)) i
-pulled-at (l ∷ lines) leaf got (suc i) d lt rise e =
-    let below : l.leaf < leaf = subst (λ n. l.leaf < n) e (below-at l.leaf lines i d (omega arith) rise.0) in
-    λ j. sym (stays leaf got l (other-are l.leaf leaf below).1) j ∷ pulled-at lines leaf got i d (omega arith) rise.1 e j
+pulled-at (l ∷ lines) leaf got zero d lt rise e = search (rules, all-stay)
+pulled-at (l ∷ lines) leaf got (suc i) d lt rise e = search (rules, (below-at l.leaf lines i d (omega arith)), stays, other-are, (pulled-at lines leaf got i d (omega arith) rise.1 e))
 
 -- An answer of none changes no tap.
 none-pulled : (leaf : ℕ) (lines : List LineLists) → pulling_all (answered leaf None) lines ≡ lines
-none-pulled leaf lines = ap (λ f. pulling_all f lines) (λ i q. nothing (leaf == q) i) ∙ all-none lines
-  where
-    nothing : (b : Bool) → (if b then packets_of None else []) ≡ []
-    nothing true = refl
-    nothing false = refl
+none-pulled leaf lines = search (rules, (all-none lines))
 
 pub unanswered : (leaf : ℕ) (lines : List LineLists) → PullsAt lines leaf None lines
 unanswered leaf lines = sym (none-pulled leaf lines)
@@ -54,8 +44,8 @@ unanswered leaf lines = sym (none-pulled leaf lines)
 -- a leaf at a place stands among the leaves
 has-at : (lines : List LineLists) (leaf i : ℕ) (d : LineLists) → i < length lines → (get_or lines i d).leaf ≡ leaf → has_line lines leaf ≡ true
 has-at [] leaf i d lt e = absurd (omega arith)
-has-at (l ∷ lines) leaf zero d lt e = or_left (l.leaf == leaf) (has_line lines leaf) (eq-eqb l.leaf leaf e)
-has-at (l ∷ lines) leaf (suc i) d lt e = or_right (l.leaf == leaf) (has_line lines leaf) (has-at lines leaf i d (omega arith) e)
+has-at (l ∷ lines) leaf zero d lt e = search rules
+has-at (l ∷ lines) leaf (suc i) d lt e = search (rules, (has-at lines leaf i d (omega arith) e))
 
 -- What a pull of the line that the search found for a leaf leaves.
 pub record IsAsked (old : List LineLists) (leaf : ℕ) (got : Option Packet) (new : List LineLists) : Type 0 where
@@ -65,24 +55,13 @@ pub record IsAsked (old : List LineLists) (leaf : ℕ) (got : Option Packet) (ne
 
 asked-there : (lines : List LineLists) (leaf : ℕ) (got : Option Packet) (place : ℕ) (d : LineLists) → AreRising (leaves_of lines) → place < length lines → (get_or lines place d).leaf ≡ leaf
     → IsAsked lines leaf got (set lines place (pulling (get_or lines place d) (packets_of got)))
-asked-there lines leaf got place d rise lt e = record {
-  rise = subst AreRising (sym (map-set_same (λ (l : LineLists). l.leaf) lines place (pulling (get_or lines place d) (packets_of got)) d refl)) rise;
-  pulls = pulled-at lines leaf got place d lt rise e;
-  has = has-at lines leaf place d lt e;
-}
+asked-there lines leaf got place d rise lt e = search (rules, map-set_same, pulled-at, has-at)
 
 -- `line` is what was read at the place.
 pub asked-at : (lines old : List LineLists) (leaf : ℕ) (got : Option Packet) (place : ℕ) (line new : LineLists) → lines ≡ old → AreRising (leaves_of lines) → IsPlaceOf lines leaf place
     → line ≡ get_or lines place line → new ≡ pulling line (packets_of got) → IsAsked old leaf got (set lines place new)
-asked-at lines old leaf got place line new is rise found read pulled =
-    let here = asked-there lines leaf got place line rise found.within (found.leaf_is line) in
-    subst (λ (x : List LineLists × LineLists). IsAsked x.0 leaf got (set lines place x.1)) (λ i. (is i, sym (pulled ∙ ap (λ l. pulling l (packets_of got)) read) i)) here
-
--- a line that was read where its leaf stands is there
-pub place-read : (lines : List LineLists) (leaf place : ℕ) (line : LineLists) → place < length lines → line ≡ get_or lines place line → line.leaf ≡ leaf → IsPlaceOf lines leaf place
-place-read lines leaf place line within read its =
-    record { within = within; leaf_is = λ d. ap (λ (l : LineLists). l.leaf) (get_or_default lines place d line within ∙ sym read) ∙ its }
+asked-at lines old leaf got place line new is rise found read pulled = search (rules, (asked-there lines leaf got place line rise found.within (found.leaf_is line)))
 
 -- so is one that a search finds
 pub place-found : (lines : List LineLists) (leaf place : ℕ) → place < length lines → ((d : LineLists) → nat_cmp (get_or lines place d).leaf leaf ≡ Equal) → IsPlaceOf lines leaf place
-place-found lines leaf place within found = record { within = within; leaf_is = λ d. ranked (get_or lines place d).leaf leaf _ (sym (found d)) }
+place-found lines leaf place within found = search rules

@@ -1,12 +1,14 @@
 -- The devices of a plan by number: what was opened for each, what each came to, and that no sender sends to two.
-use Rattle.std.proofs.Common.{◌≡◌, ℕ, zero, suc, ◌+◌, ◌==◌, true, List, [], ◌∷◌, ◌++◌, length, map, filter, refl, sym, ◌∙◌, subst, add-one, Vec}
+use Rattle.std.proofs.Common.{◌≡◌, ℕ, zero, suc, ◌+◌, ◌==◌, true, List, [], ◌∷◌, ◌++◌, length, map, filter, refl, sym, subst, Vec, rules, arith}
+use Rattle.std.proofs.lemmas.Grind.{common_steps}
+use Rattle.std.proofs.lemmas.Bool.Decides.{nat_tests}
 use Rattle.std.specs.declared.alloc.Global.{Global}
 use Rattle.std.specs.List.{flat_map, range_with_len, AllByRecursion}
 use Rattle.clk_packet.specs.declared.packet.Packet.{Packet}
 use Rattle.clk_packet.specs.Lists.{are_distinct}
 use Rattle.clk_ruled.specs.Queue.{SeatLists}
 use Rattle.clk_tree.specs.Plan.{Planned}
-use Rattle.clk_tree.specs.PlanTree.{IsTreeOf, device_count}
+use Rattle.clk_tree.specs.PlanTree.{device_count}
 use Rattle.clk_tree.specs.PlanParts.{Queued, queues_of}
 use Rattle.clk_drain.specs.declared.running.opening.LeafQueue.{LeafQueue}
 use Rattle.clk_drain.specs.Outcome.{SharedQueue, Device}
@@ -30,14 +32,13 @@ senders-by-device queues first (suc count) = λ i. senders-at first 0 queues i +
 
 -- Where no sender sends to two queues, none sends to two devices.
 pub apart-by-device : (queues : List Queued) (first count : ℕ) → are_distinct (flat_map (λ (q : Queued). q.senders) queues) ≡ true → are_distinct (flat_map senders_over (queues_by_device queues first count)) ≡ true
-apart-by-device queues first count apart = subst (λ ns. are_distinct ns ≡ true) (sym (senders-by-device queues first count)) (apart-by-kind (λ (q : Queued). q.senders) (λ (q : Queued). q.device) queues first count apart)
+apart-by-device queues first count apart = subst (λ ns. are_distinct ns ≡ true) (sym (senders-by-device queues first count)) (search (rules, apart-by-kind))
 
 -- Each device's queues were opened.
 pub opened-by-device : (plan : List Planned) (traces : List (List Packet)) (device end : ℕ) (queues : List (Vec LeafQueue Global)) (seats : List (Vec (Vec SeatLists Global) Global)) (ends : List EndLists) → AreOpenFrom plan traces device end queues seats ends
     → AreAllOpenAs traces (queues_by_device (queues_of plan) device (length ends)) queues seats ends
 opened-by-device plan traces device end [] [] [] h = tt
-opened-by-device plan traces device end (q ∷ queues) (s ∷ seats) (e ∷ ends) h =
-    (h.0.opened, subst (λ (n : ℕ). AreAllOpenAs traces (queues_by_device (queues_of plan) n (length ends)) queues seats ends) (sym (add-one device)) (opened-by-device plan traces (suc device) end queues seats ends h.1))
+opened-by-device plan traces device end (q ∷ queues) (s ∷ seats) (e ∷ ends) h = search (rules, (opened-by-device plan traces (suc device) end queues seats ends h.1))
 opened-by-device plan traces device end queues seats ends h = absurd h
 
 -- What each device came to is that of the plan's device.
@@ -48,20 +49,11 @@ devices-from plan terms device [] [] [] [] (d ∷ devices) h joined closed = abs
 devices-from plan terms device [] [] [] (f ∷ feeds) devices h joined closed = absurd joined
 devices-from plan terms device (q ∷ queues) (s ∷ seats) (e ∷ ends) [] devices h joined closed = absurd joined
 devices-from plan terms device (q ∷ queues) (s ∷ seats) (e ∷ ends) (f ∷ feeds) [] h joined closed = absurd closed
-devices-from plan terms device (q ∷ queues) (s ∷ seats) (e ∷ ends) (f ∷ feeds) (d ∷ devices) h joined closed =
-    let later : AreJoinedFeeds terms (queues_by_device (queues_of plan) (suc device) (length ends)) ends feeds =
-    subst (λ (n : ℕ). AreJoinedFeeds terms (queues_by_device (queues_of plan) n (length ends)) ends feeds) (add-one device) joined.1 in (
-      record {
-        tree = subst (IsTreeOf plan device) (sym (closed.0.tree ∙ joined.0.tree_is)) h.0.tree;
-        queues = closed.0.queues ∙ joined.0.queues_are;
-      },
-      devices-from plan terms (suc device) queues seats ends feeds devices h.1 later closed.1,
-    )
+devices-from plan terms device (q ∷ queues) (s ∷ seats) (e ∷ ends) (f ∷ feeds) (d ∷ devices) h joined closed = grind (arith, common_steps, nat_tests, (devices-from plan terms (suc device) queues seats ends feeds devices h.1))
 devices-from plan terms device queues seats ends feeds devices h joined closed = absurd h
 
 -- Each device was pulled when it was to be pulled.
 pub moments-closed : (terms : Terms) (feeds : List Feed) (devices : List Device) → AreClosedDevices terms feeds devices → AllByRecursion (λ (d : Device). HasMoments terms.step terms.limit d.tree d.log) devices
-moments-closed terms [] [] closed = tt
-moments-closed terms [] (d ∷ devices) closed = absurd closed
+moments-closed terms [] devices closed = search rules
 moments-closed terms (f ∷ feeds) [] closed = absurd closed
 moments-closed terms (f ∷ feeds) (d ∷ devices) closed = (closed.0.moments, moments-closed terms feeds devices closed.1)

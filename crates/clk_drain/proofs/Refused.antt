@@ -1,7 +1,9 @@
 -- Why a run fails.
-use Rattle.std.proofs.Common.{◌≡◌, ℕ, ◌+◌, List, [], ◌∷◌, ◌++◌, length, map, suc, refl, sym, ap, ◌∙◌, inl, inr, subst, arith, Vec}
+use Rattle.std.proofs.Common.{◌≡◌, ℕ, ◌+◌, List, [], ◌∷◌, ◌++◌, length, map, suc, refl, ap, arith, Vec, rules}
+use Rattle.std.proofs.lemmas.Grind.{common_steps}
+use Rattle.std.proofs.lemmas.Bool.Decides.{nat_tests}
 use Rattle.std.specs.declared.alloc.Global.{Global}
-use Rattle.std.specs.List.{flat_map, range_with_len, AllByRecursion}
+use Rattle.std.specs.List.{flat_map, AllByRecursion}
 use Rattle.std.proofs.lemmas.List.{map-append}
 use Rattle.clk_packet.specs.declared.packet.Packet.{Packet}
 use Rattle.clk_packet.specs.declared.fault.Fault.{Fault}
@@ -14,12 +16,12 @@ use Rattle.clk_drain.specs.declared.running.opening.LeafQueue.{LeafQueue}
 use Rattle.clk_drain.specs.Line.{LineLists, seats_of, seats_in}
 use Rattle.clk_drain.specs.Outcome.{SharedQueue}
 use Rattle.clk_drain.specs.Closing.{HasSent, queue_of_line, seated}
-use Rattle.clk_drain.specs.Lost.{SeatedQueue, NamesFirstLost}
+use Rattle.clk_drain.specs.Lost.{SeatedQueue}
 use Rattle.clk_drain.specs.inside.Threads.{Terms, EndLists, Feed}
 use Rattle.clk_drain.specs.inside.Handed.{seated_in, IsFaultOfClosing}
 use Rattle.clk_drain.specs.inside.Devices.{AreOpenFrom}
 use Rattle.clk_gate.specs.Known.{senders_in, AreKnown}
-use Rattle.clk_drain.specs.Run.{queues_at, queues_in_order, HasOffered, IsFaultOfRun}
+use Rattle.clk_drain.specs.Run.{queues_in_order, HasOffered, IsFaultOfRun}
 use Rattle.clk_drain.proofs.Joining.{AreJoinedFeeds}
 use Rattle.clk_drain.proofs.PlanDevices.{queues_by_device}
 use Rattle.clk_drain.proofs.Settling.{all-join}
@@ -34,12 +36,11 @@ all_in lists = flat_map (λ (queues : List SharedQueue). queues) lists
 -- The queues of the lines of joined devices are those of the plan's devices.
 lines-queues : (lines : List LineLists) → map queue_in (map seated lines) ≡ map queue_of_line lines
 lines-queues [] = refl
-lines-queues (l ∷ lines) = ap (λ rest. queue_of_line l ∷ rest) (lines-queues lines)
+lines-queues (l ∷ lines) = search (rules, (lines-queues lines))
 
 feeds-queues : (terms : Terms) (all : List (List SharedQueue)) (ends : List EndLists) (feeds : List Feed) → AreJoinedFeeds terms all ends feeds → map queue_in (seated_in feeds) ≡ all_in all
 feeds-queues terms [] [] [] h = refl
-feeds-queues terms (shared ∷ all) (e ∷ ends) (f ∷ feeds) h =
-    map-append queue_in (map seated f.lines) (seated_in feeds) ∙ (λ i. (lines-queues f.lines ∙ h.0.queues_are) i ++ feeds-queues terms all ends feeds h.1 i)
+feeds-queues terms (shared ∷ all) (e ∷ ends) (f ∷ feeds) h = search (rules, map-append, lines-queues, (feeds-queues terms all ends feeds h.1))
 feeds-queues terms all ends feeds h = absurd h
 
 each-of : {X : Type 0} (f : X → List SharedQueue) (xs : List X) → all_in (map f xs) ≡ flat_map f xs
@@ -52,34 +53,19 @@ ends-count plan traces device end (q ∷ queues) (s ∷ seats) (e ∷ ends) h = 
 ends-count plan traces device end queues seats ends h = absurd h
 
 plan-queues : (plan : List Planned) (traces : List (List Packet)) (queues : List (Vec LeafQueue Global)) (seats : List (Vec (Vec SeatLists Global) Global)) (ends : List EndLists) → AreOpenFrom plan traces 0 (device_count plan) queues seats ends → all_in (queues_by_device (queues_of plan) 0 (length ends)) ≡ queues_in_order plan
-plan-queues plan traces queues seats ends opened =
-    each-of (λ device. queues_at device 0 (queues_of plan)) (range_with_len 0 (length ends)) ∙ ap (λ n. flat_map (λ device. queues_at device 0 (queues_of plan)) (range_with_len 0 n)) (let all = ends-count plan traces 0 (device_count plan) queues seats ends opened in omega (arith, all))
+plan-queues plan traces queues seats ends opened = search (rules, each-of, ends-count)
 
 -- The seats of each line offered all that is sent.
 lines-offered : (traces : List (List Packet)) (lines : List LineLists) → AllByRecursion (HasSent (sent_by traces)) (seats_in lines) → AllByRecursion (HasOffered traces) (map seated lines)
 lines-offered traces [] sent = tt
-lines-offered traces (l ∷ lines) sent =
-    let both = all-split (HasSent (sent_by traces)) (seats_of l) (seats_in lines) sent in
-    (record { senders = refl; sent = both.0 }, lines-offered traces lines both.1)
+lines-offered traces (l ∷ lines) sent = grind (arith, common_steps, nat_tests, (all-split (HasSent (sent_by traces)) (seats_of l) (seats_in lines) sent), (lines-offered traces lines))
 
 feeds-offered : (terms : Terms) (all : List (List SharedQueue)) (ends : List EndLists) (feeds : List Feed) → AreJoinedFeeds terms all ends feeds → AllByRecursion (HasOffered terms.traces) (seated_in feeds)
 feeds-offered terms [] [] [] h = tt
-feeds-offered terms (shared ∷ all) (e ∷ ends) (f ∷ feeds) h =
-    all-join (HasOffered terms.traces) (map seated f.lines) (seated_in feeds) (lines-offered terms.traces f.lines h.0.sent) (feeds-offered terms all ends feeds h.1)
+feeds-offered terms (shared ∷ all) (e ∷ ends) (f ∷ feeds) h = search (rules, all-join, lines-offered, (feeds-offered terms all ends feeds h.1))
 feeds-offered terms all ends feeds h = absurd h
 
 -- A device that isn't closed.
 pub unclosed : (plan : List Planned) (terms : Terms) (queues : List (Vec LeafQueue Global)) (seats : List (Vec (Vec SeatLists Global) Global)) (ends : List EndLists) (feeds : List Feed) (fault : Fault) → AreKnown (senders_in plan) terms.traces → AreOpenFrom plan terms.traces 0 (device_count plan) queues seats ends
     → AreJoinedFeeds terms (queues_by_device (queues_of plan) 0 (length ends)) ends feeds → IsFaultOfClosing feeds fault → IsFaultOfRun plan terms.traces fault
-unclosed plan terms queues seats ends feeds fault known opened joined (inl memory) = subst (IsFaultOfRun plan terms.traces) (sym memory) tt
-unclosed plan terms queues seats ends feeds fault known opened joined (inr names) =
-    let shared = queues_by_device (queues_of plan) 0 (length ends) in
-    subst (IsFaultOfRun plan terms.traces) (sym names.fault_is) (
-      known,
-      record {
-        queues = seated_in feeds;
-        are = feeds-queues terms shared ends feeds joined ∙ plan-queues plan terms.traces queues seats ends opened;
-        offered = feeds-offered terms shared ends feeds joined;
-        names = subst (NamesFirstLost (seated_in feeds)) names.fault_is names;
-      },
-    )
+unclosed plan terms queues seats ends feeds fault known opened joined o = search (rules, feeds-queues, plan-queues, feeds-offered)

@@ -1,16 +1,15 @@
 -- Lines are settled one after another.
-use Rattle.std.proofs.Common.{◌≡◌, ◌⊎◌, ℕ, List, [], ◌∷◌, ◌++◌, map, refl, sym, ap, ◌∙◌, inl, inr, subst}
+use Rattle.std.proofs.Common.{◌≡◌, ◌⊎◌, ℕ, List, [], ◌∷◌, ◌++◌, map, refl, ap, rules}
 use Rattle.std.specs.List.{AllByRecursion}
-use Rattle.std.proofs.lemmas.Grind.{flat_map-append}
-use Rattle.std.proofs.lemmas.List.{append-nil, append_assoc, map-append}
+use Rattle.std.proofs.lemmas.List.{map-append}
 use Rattle.clk_packet.specs.declared.fault.Fault.{Fault}
 use Rattle.clk_packet.specs.declared.tally.Tally.{Tally}
 use Rattle.clk_packet.specs.declared.fault.Fault.TheVariants.{Memory}
 use Rattle.clk_ruled.specs.Queue.{SeatLists}
 use Rattle.clk_ruled.specs.Rule.{senders_of}
-use Rattle.clk_ruled.specs.Settle.{AreTogether, HasLostBelow, IsFaultOfSettle}
+use Rattle.clk_ruled.specs.Settle.{AreTogether, IsFaultOfSettle}
 use Rattle.clk_drain.specs.Line.{LineLists, seats_of, senders_at}
-use Rattle.clk_drain.specs.Closing.{seated, tallies_of, tallies_in}
+use Rattle.clk_drain.specs.Closing.{seated, tallies_in}
 use Rattle.clk_drain.specs.Lost.{HasReached, NamesFirstLost}
 use Rattle.clk_drain.specs.inside.Parts.{IsSettledLine}
 
@@ -19,18 +18,6 @@ pub record AreSettling (lines done rest : List LineLists) (tallies : List Tally)
   pub settled : AllByRecursion IsSettledLine done
   pub theirs : tallies ≡ tallies_in done
   pub all : done ++ rest ≡ lines
-
-all-more : (done : List LineLists) (l : LineLists) → AllByRecursion IsSettledLine done → IsSettledLine l → AllByRecursion IsSettledLine (done ++ l ∷ [])
-all-more [] l h is = (is, tt)
-all-more (k ∷ done) l h is = (h.0, all-more done l h.1 is)
-
-pub settled-more : (lines done rest : List LineLists) (l : LineLists) (tallies more : List Tally) (before : List LineLists) → before ≡ l ∷ rest → IsSettledLine l → more ≡ tallies_of l → AreSettling lines done before tallies
-    → AreSettling lines (done ++ l ∷ []) rest (tallies ++ more)
-settled-more lines done rest l tallies more before next is are h = record {
-  settled = all-more done l h.settled is;
-  theirs = (λ i. h.theirs i ++ are i) ∙ ap (λ ts. tallies_in done ++ ts) (sym (append-nil (tallies_of l))) ∙ sym (flat_map-append tallies_of done (l ∷ []));
-  all = append_assoc done (l ∷ []) rest ∙ ap (λ ls. done ++ ls) (sym next) ∙ h.all;
-}
 
 -- a queue that is settled reached its capacity where it lost packets
 pub each-reached : (lines : List LineLists) → AllByRecursion IsSettledLine lines → AllByRecursion HasReached (map seated lines)
@@ -43,23 +30,12 @@ named [] = refl
 named (l ∷ seats) = ap (λ rest. l.sender ∷ rest) (named seats)
 
 its-senders : (l : LineLists) → AreTogether l.tap l.closed → senders_of l.tap.setup ≡ senders_at (seats_of l)
-its-senders l together = ap (map (λ (r : ℕ × ℕ). r.0)) (sym together.senders) ∙ named (seats_of l)
+its-senders l together = search (rules, named)
 
 -- a line that can't be settled, behind those that are
 unsettled-behind : (done rest : List LineLists) (l : LineLists) (fault : Fault) → AllByRecursion IsSettledLine done → AreTogether l.tap l.closed → IsFaultOfSettle l.tap l.closed l.leaf fault → (fault ≡ Memory) ⊎ NamesFirstLost (map seated (done ++ l ∷ rest)) fault
-unsettled-behind done rest l fault h together (inl memory) = inl memory
-unsettled-behind done rest l fault h together (inr why) = inr (record {
-  earlier = map seated done;
-  first = seated l;
-  later = map seated rest;
-  all = map-append seated done (l ∷ rest);
-  reached = each-reached done h;
-  taken = l.tap.taken;
-  below = subst (λ senders. HasLostBelow l.tap.setup.kind l.tap.setup.capacity senders (seats_of l) l.tap.taken) (its-senders l together) why.1;
-  fault_is = why.0;
-})
+unsettled-behind done rest l fault h together o = search (rules, map-append, each-reached, its-senders)
 
 pub unsettled-next : (lines done rest : List LineLists) (l : LineLists) (tallies : List Tally) (before : List LineLists) (fault : Fault) → before ≡ l ∷ rest → AreTogether l.tap l.closed → IsFaultOfSettle l.tap l.closed l.leaf fault → AreSettling lines done before tallies
     → (fault ≡ Memory) ⊎ NamesFirstLost (map seated lines) fault
-unsettled-next lines done rest l tallies before fault next together is h =
-    subst (λ ls. (fault ≡ Memory) ⊎ NamesFirstLost (map seated ls) fault) (ap (λ ls. done ++ ls) (sym next) ∙ h.all) (unsettled-behind done rest l fault h.settled together is)
+unsettled-next lines done rest l tallies before fault next together is h = search (rules, unsettled-behind)

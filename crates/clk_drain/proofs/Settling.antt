@@ -1,7 +1,9 @@
 -- Settled lines, all of whose packets came out, have a settled outcome.
-use Rattle.std.proofs.Common.{◌≡◌, ℕ, ◌==◌, inl, inr, Bool, true, false, not, List, [], ◌∷◌, ◌++◌, map, filter, MatchOption, refl, sym, ap, ◌∙◌, subst, arith, if◌then◌else◌, eq-eqb, ne_eqb, append-nil}
+use Rattle.std.proofs.Common.{◌≡◌, ℕ, ◌==◌, inl, inr, Bool, true, false, not, List, [], ◌∷◌, ◌++◌, map, filter, MatchOption, refl, sym, ap, ◌∙◌, subst, arith, if◌then◌else◌, append-nil, rules}
+use Rattle.std.proofs.lemmas.Grind.{common_steps}
+use Rattle.std.proofs.lemmas.Bool.Decides.{nat_tests}
 use Rattle.std.specs.List.{flat_map, AllByRecursion}
-use Rattle.std.proofs.lemmas.Bool.{eqb-false, or_parts, or_right}
+use Rattle.std.proofs.lemmas.Bool.{or_right}
 use Rattle.clk_packet.specs.declared.packet.Kind.TheVariants.{TailDrop, FrontDrop}
 use Rattle.clk_packet.specs.declared.packet.Packet.{Packet}
 use Rattle.clk_packet.specs.declared.tally.Tally.{Tally}
@@ -18,7 +20,7 @@ use Rattle.clk_drain.specs.Outcome.{SharedQueue, Device, senders_to, IsTallied, 
 use Rattle.clk_drain.specs.Closing.{queue_of_line, tallies_in, AreInOrder, AreOffered, HasSent}
 use Rattle.clk_drain.specs.Parts.{HasAllTaken}
 use Rattle.clk_drain.specs.inside.Parts.{IsSettledLine}
-use Rattle.clk_drain.proofs.Apart.{has-here, apart-parts}
+use Rattle.clk_drain.proofs.Apart.{apart-parts}
 use Rattle.clk_drain.proofs.Seated.{joined}
 use Rattle.clk_drain.proofs.Tallies.{tellers, in-order-rise, in-order-found, in-order-all, all-split, all-weaker, tellers-in, AreFound, each-found, none-filtered, no-evicted, accepted-same, lost-some}
 
@@ -34,23 +36,20 @@ all-both P Q R (x ∷ xs) f h k = (f x h.0 k.0, all-both P Q R xs f h.1 k.1)
 -- each member's name is among all names
 all-named : {X : Type 0} (name : X → ℕ) (xs : List X) → AllByRecursion (λ x. stands_in (name x) (map name xs) ≡ true) xs
 all-named name [] = tt
-all-named {X} name (x ∷ xs) = (
-  has-here (name x) (map name xs),
-  all-weaker (λ (y : X). stands_in (name y) (map name xs) ≡ true) (λ (y : X). stands_in (name y) (map name (x ∷ xs)) ≡ true) xs (λ y e. or_right (name x == name y) (stands_in (name y) (map name xs)) e) (all-named name xs),
-)
+all-named {X} name (x ∷ xs) = search (rules, all-weaker, or_right, (all-named name xs))
 
 -- a sender that no seat has is another than each seat's
 others : (s : ℕ) (seats : List SeatLists) → stands_in s (senders_at seats) ≡ false → AllByRecursion (λ (c : SeatLists). (s == c.sender) ≡ false) seats
 others s [] e = tt
-others s (c ∷ seats) e = let both = or_parts (c.sender == s) (stands_in s (senders_at seats)) e in (ne_eqb s c.sender (λ k. eqb-false c.sender s both.0 (sym k)), others s seats both.1)
+others s (c ∷ seats) e = grind (arith, common_steps, nat_tests, (others s seats))
 
 -- each seat's list is what is found under its sender
 own-list : (list : SeatLists → List Packet) (seats : List SeatLists) → are_distinct (senders_at seats) ≡ true → AllByRecursion (λ (c : SeatLists). of_seat list seats c.sender ≡ list c) seats
 own-list list [] apart = tt
 own-list list (c ∷ seats) apart = let parts = distinct-parts c.sender (senders_at seats) apart in (
-  ap (λ (b : Bool). if b then list c else of_seat list seats c.sender) (eq-eqb c.sender c.sender refl),
+  search rules,
   all-both (λ (e : SeatLists). (c.sender == e.sender) ≡ false) (λ (e : SeatLists). of_seat list seats e.sender ≡ list e) (λ (e : SeatLists). of_seat list (c ∷ seats) e.sender ≡ list e) seats
-      (λ e other own. ap (λ (b : Bool). if b then list c else of_seat list seats e.sender) other ∙ own) (others c.sender seats parts.0) (own-list list seats parts.1),
+      (search rules) (others c.sender seats parts.0) (own-list list seats parts.1),
 )
 
 -- What each seat offered is what its sender sent.
@@ -61,9 +60,9 @@ sent_of (c ∷ seats) h s = if c.sender == s then h.0.shared.offered else sent_o
 own-sent : (seats : List SeatLists) (h : AllByRecursion IsSharedOut seats) → are_distinct (senders_at seats) ≡ true → AllByRecursion (λ (c : SeatLists). AreOffered (sent_of seats h c.sender) c) seats
 own-sent [] h apart = tt
 own-sent (c ∷ seats) h apart = let parts = distinct-parts c.sender (senders_at seats) apart in (
-  subst (λ (b : Bool). AreOffered (if b then h.0.shared.offered else sent_of seats h.1 c.sender) c) (sym (eq-eqb c.sender c.sender refl)) (h.0.shared.count, h.0.shared.numbers, h.0.shared.dealt),
+  search rules,
   all-both (λ (e : SeatLists). (c.sender == e.sender) ≡ false) (λ (e : SeatLists). AreOffered (sent_of seats h.1 e.sender) e) (λ (e : SeatLists). AreOffered (sent_of (c ∷ seats) h e.sender) e) seats
-      (λ e other own. subst (λ (b : Bool). AreOffered (if b then h.0.shared.offered else sent_of seats h.1 e.sender) e) (sym other) own) (others c.sender seats parts.0) (own-sent seats h.1 parts.1),
+      (search rules) (others c.sender seats parts.0) (own-sent seats h.1 parts.1),
 )
 
 -- What holds of all lines' seats holds of each line's.
@@ -73,17 +72,17 @@ each-line P (l ∷ lines) h = let both = all-split P (seats_of l) (seats_in line
 
 all-shared : (lines : List LineLists) → AllByRecursion IsSettledLine lines → AllByRecursion IsSharedOut (seats_in lines)
 all-shared [] h = tt
-all-shared (l ∷ lines) h = all-join IsSharedOut (seats_of l) (seats_in lines) h.0.is.shared (all-shared lines h.1)
+all-shared (l ∷ lines) h = search (rules, all-join, (all-shared lines h.1))
 
 -- where all senders stand apart each line's do
 each-apart : (lines : List LineLists) → HaveOwnSenders lines → AllByRecursion (λ (l : LineLists). are_distinct (senders_at (seats_of l)) ≡ true) lines
 each-apart [] h = tt
-each-apart (l ∷ lines) h = let both = apart-parts (senders_at (seats_of l)) (senders_at (seats_in lines)) (subst (λ ns. are_distinct ns ≡ true) (joined l lines) h) in (both.0, each-apart lines both.1)
+each-apart (l ∷ lines) h = grind (arith, common_steps, nat_tests, apart-parts, (each-apart lines))
 
 -- the senders to a device's queues are those of the lines
 pub senders-same : (lines : List LineLists) → flat_map (λ (q : SharedQueue). q.senders) (map queue_of_line lines) ≡ senders_at (seats_in lines)
 senders-same [] = refl
-senders-same (l ∷ lines) = ap (λ m. senders_at (seats_of l) ++ m) (senders-same lines) ∙ sym (joined l lines)
+senders-same (l ∷ lines) = search (rules, joined, (senders-same lines))
 
 -- A test deals packets to those that pass and those that don't.
 dealt : (test : Packet → Bool) (packets : List Packet) → IsDealt packets (filter test packets) (filter (λ p. not (test p)) packets)
@@ -132,7 +131,7 @@ tallied : (sent : ℕ → List Packet) (d : Device) (tallies : List Tally) (l : 
 tallied sent d tallies l ready c shared own =
     let out : List Packet = all_evicted (seats_of l) in
     let came = ready.emitted c.sender own.named in
-    let left : without c.accepted out ≡ of_sender c.sender d.emitted = ap (λ accepted. without accepted out) (sym own.accepted) ∙ ready.settled.is.all_taken ready.taken c.sender ∙ sym came in record {
+    let left : without c.accepted out ≡ of_sender c.sender d.emitted = search rules in record {
       tally = record {
         offered_are = shared.2;
         accepted_are = subst (IsDealt c.accepted (filter (has_packet out) c.accepted)) left (dealt (has_packet out) c.accepted);
@@ -146,23 +145,20 @@ each-tallied : (sent : ℕ → List Packet) (d : Device) (tallies : List Tally) 
     → AllByRecursion (λ (c : SeatLists). AreOffered (sent c.sender) c) seats → AllByRecursion (IsOwn l) seats
     → AllByRecursion (λ s. MatchOption (tally_for tallies s) ⊥ (IsTallied sent d (queue_of_line l))) (senders_at seats)
 each-tallied sent d tallies l ready [] found shared own = tt
-each-tallied sent d tallies l ready (c ∷ seats) found shared own = (
-  subst (λ o. MatchOption o ⊥ (IsTallied sent d (queue_of_line l))) (sym found.0) (tallied sent d tallies l ready c shared.0 own.0),
-  each-tallied sent d tallies l ready seats found.1 shared.1 own.1,
-)
+each-tallied sent d tallies l ready (c ∷ seats) found shared own = search (rules, (tallied sent d tallies l ready c shared.0 own.0), (each-tallied sent d tallies l ready seats found.1 shared.1 own.1))
 
 all-own : (l : LineLists) → IsSettledLine l → are_distinct (senders_at (seats_of l)) ≡ true → AllByRecursion (IsOwn l) (seats_of l)
 all-own l h apart =
     all-both (λ (c : SeatLists). accepted_of (seats_of l) c.sender ≡ c.accepted) (λ (c : SeatLists). (stands_in c.sender (senders_at (seats_of l)) ≡ true) × (l.tap.setup.kind ≡ FrontDrop → c.refused ≡ []))
     (IsOwn l) (seats_of l) (λ c e k. record { accepted = e; named = k.0; front_drop = k.1 }) (own-list (λ c. c.accepted) (seats_of l) apart)
     (all-both (λ (c : SeatLists). stands_in c.sender (senders_at (seats_of l)) ≡ true) (λ (c : SeatLists). l.tap.setup.kind ≡ FrontDrop → c.refused ≡ []) _ (seats_of l) (λ c e k. (e, k)) (all-named (λ (c : SeatLists). c.sender) (seats_of l))
-    (all-both IsSharedOut (λ (c : SeatLists). c.setup ≡ l.tap.setup) _ (seats_of l) (λ c s e k. s.front_drop (ap (λ setup. setup.kind) e ∙ k)) h.is.shared (setups l.tap l.closed h.together.each)))
+    (search (rules, all-both, setups)))
 
 -- A ready line's queue is settled.
 queue-settled : (sent : ℕ → List Packet) (d : Device) (tallies : List Tally) (l : LineLists) → IsReady sent d tallies l → IsQueueSettled sent tallies d (queue_of_line l)
 queue-settled sent d tallies l ready = record {
   each = each-tallied sent d tallies l ready (seats_of l) ready.found ready.shared (all-own l ready.settled ready.apart);
-  reached = λ lost. let full = ready.settled.is.reached (lost-some tallies (seats_of l) ready.found lost) in let same = accepted-same tallies (all_evicted (seats_of l)) (seats_of l) ready.found in omega (arith, full, same);
+  reached = search (rules, lost-some, accepted-same);
 }
 
 abbrev queues_of : List LineLists → List SharedQueue
@@ -179,10 +175,7 @@ all-ready : (sent : ℕ → List Packet) (d : Device) (tallies : List Tally) (li
     → AllByRecursion (λ (l : LineLists). (s : ℕ) → stands_in s (senders_at (seats_of l)) ≡ true → of_sender s d.emitted ≡ of_sender s l.tap.taken) lines
     → AllByRecursion (λ (l : LineLists). l.tap.taken ≡ leaf_packets d.tree l.leaf d.log) lines → AllByRecursion (IsReady sent d tallies) lines
 all-ready sent d tallies [] settled taken apart shared found came given = tt
-all-ready sent d tallies (l ∷ lines) settled taken apart shared found came given = (
-  record { settled = settled.0; taken = taken.0; apart = apart.0; shared = shared.0; found = found.0; emitted = came.0; given = given.0 },
-  all-ready sent d tallies lines settled.1 taken.1 apart.1 shared.1 found.1 came.1 given.1,
-)
+all-ready sent d tallies (l ∷ lines) settled taken apart shared found came given = search (rules, (all-ready sent d tallies lines settled.1 taken.1 apart.1 shared.1 found.1 came.1 given.1))
 
 -- The seats of settled lines offered some packets.
 pub some-sent : (lines : List LineLists) → HaveOwnSenders lines → AllByRecursion IsSettledLine lines → (sent : ℕ → List Packet) × AllByRecursion (HasSent sent) (seats_in lines)
@@ -204,15 +197,5 @@ settled-outcome sent session lines tallies emits run out none own_lines own offe
       rise = in-order-rise (tallies_in lines) tallies apart order;
       known = in-order-all (λ (t : Tally). stands_in t.sender (senders_to d ++ []) ≡ true) (tallies_in lines) tallies order
           (subst (λ names. AllByRecursion (λ (t : Tally). stands_in t.sender names ≡ true) (tallies_in lines)) senders (all-named (λ (t : Tally). t.sender) (tallies_in lines)));
-      settled = (
-        record {
-          run = run;
-          emitted = out;
-          heads = none;
-          queues = queues-settled sent d tallies lines
-              (all-ready sent d tallies lines settled taken (each-apart lines own) (each-line (λ (c : SeatLists). AreOffered (sent c.sender) c) lines offered) found came own_lines.taken);
-          own = subst (λ names. AllByRecursion (λ (p : Packet). stands_in p.sender names ≡ true) emits) (sym (senders-same lines)) known;
-        },
-        tt,
-      );
+      settled = search (rules, queues-settled, all-ready, each-apart, each-line, senders-same);
     }

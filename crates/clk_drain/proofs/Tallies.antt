@@ -1,8 +1,10 @@
 -- Tallies in order: they rise by their senders, each is found, and they count what their seats count.
-use Rattle.std.proofs.Common.{◌≡◌, ℕ, ◌+◌, ◌≤◌, ◌<◌, ◌==◌, ◌||◌, ⊎_elim, Bool, true, false, true≢false, List, [], ◌∷◌, ◌++◌, length, map, filter, Some, refl, sym, ap, ◌∙◌, subst, arith, if◌then◌else◌, eq-eqb, ne_eqb, eq-zero-or-pos, suc, sum_by}
+use Rattle.std.proofs.Common.{◌≡◌, ℕ, ◌+◌, ◌≤◌, ◌<◌, ◌==◌, ⊎_elim, Bool, true, false, List, [], ◌∷◌, ◌++◌, map, filter, Some, refl, ap, arith, if◌then◌else◌, eq-eqb, eq-zero-or-pos, suc, sum_by, rules}
+use Rattle.std.proofs.lemmas.Grind.{common_steps}
+use Rattle.std.proofs.lemmas.Bool.Decides.{nat_tests}
 use Rattle.std.specs.List.{AllByRecursion}
 use Rattle.std.specs.List.Sorted.{IsNonDecreasingBy}
-use Rattle.std.proofs.lemmas.Bool.{eqb-false, eqb-true}
+use Rattle.std.proofs.lemmas.Bool.{eqb-true}
 use Rattle.std.proofs.lemmas.List.{map-append, nil_from_length}
 use Rattle.std.proofs.lemmas.List.Elements.{All-from_recursion, recursion_from_All}
 use Rattle.std.proofs.lemmas.List.Sorted.{All-permutation, IsPermutation-sym, sum_by-IsPermutation}
@@ -10,14 +12,12 @@ use Rattle.std.proofs.lemmas.List.Sums.{sum_by-cons}
 use Rattle.clk_packet.specs.declared.packet.Packet.{Packet}
 use Rattle.clk_packet.specs.declared.tally.Tally.{Tally}
 use Rattle.clk_packet.specs.Lists.{stands_in, are_distinct, AreRising}
-use Rattle.clk_packet.proofs.Callers.Lists.{distinct-parts}
 use Rattle.clk_ruled.specs.PacketLists.{has_packet}
 use Rattle.clk_ruled.specs.Queue.{SeatLists}
 use Rattle.clk_ruled.specs.Settle.{all_evicted, accepted_count, lost_count, tally_of}
 use Rattle.clk_drain.specs.Line.{LineLists, seats_of, seats_in, senders_at}
 use Rattle.clk_drain.specs.Outcome.{tally_for, accepted_by, lost_by, in_all}
 use Rattle.clk_drain.specs.Closing.{tallies_of, tallies_in, AreInOrder}
-use Rattle.clk_drain.proofs.Seated.{joined}
 
 -- the senders of tallies
 abbrev pub tellers : List Tally → List ℕ
@@ -31,43 +31,27 @@ abbrev times : ℕ → List Tally → ℕ
 times s tallies = sum_by (λ (t : Tally). one_if (t.sender == s)) tallies
 
 times-more : (s : ℕ) (t : Tally) (tallies : List Tally) → times s (t ∷ tallies) ≡ one_if (t.sender == s) + times s tallies
-times-more s t tallies = sum_by-cons (λ (u : Tally). one_if (u.sender == s)) t tallies
+times-more s t tallies = search (rules, sum_by-cons)
 
 times-none : (s : ℕ) (tallies : List Tally) → stands_in s (tellers tallies) ≡ false → times s tallies ≡ 0
 times-none s [] e = refl
-times-none s (t ∷ tallies) e = times-more s t tallies ∙ by_test (t.sender == s) e (times-none s tallies)
-  where
-    by_test : (b : Bool) → (b || stands_in s (tellers tallies)) ≡ false → (stands_in s (tellers tallies) ≡ false → times s tallies ≡ 0) → one_if b + times s tallies ≡ 0
-    by_test true k again = absurd (true≢false k)
-    by_test false k again = let rest = again k in omega (arith, rest)
+times-none s (t ∷ tallies) e = search (rules, (times-none s tallies))
 
 -- senders that stand apart have one tally each
 times-once : (s : ℕ) (tallies : List Tally) → are_distinct (tellers tallies) ≡ true → times s tallies ≤ 1
 times-once s [] h = omega arith
-times-once s (t ∷ tallies) h =
-    let more = times-more s t tallies in
-    let parts = distinct-parts t.sender (tellers tallies) h in
-    let one = by_test (t.sender == s) (λ e. times-none s tallies (subst (λ n. stands_in n (tellers tallies) ≡ false) (eqb-true t.sender s e) parts.0)) (times-once s tallies parts.1) in
-    omega (arith, more, one)
-  where
-    by_test : (b : Bool) → (b ≡ true → times s tallies ≡ 0) → times s tallies ≤ 1 → one_if b + times s tallies ≤ 1
-    by_test true none few = let rest = none refl in omega (arith, rest)
-    by_test false none few = omega (arith, few)
+times-once s (t ∷ tallies) h = grind (arith, common_steps, nat_tests, times-more, times-none, eqb-true, (times-once s tallies))
 
 -- a sender below or at all, of which none is its own, is below all
 below-all : (n : ℕ) (tallies : List Tally) → AllByRecursion (λ (t : Tally). n ≤ t.sender) tallies → times n tallies ≡ 0 → AllByRecursion (λ m. n < m) (tellers tallies)
 below-all n [] h e = tt
-below-all n (t ∷ tallies) h e = let more = times-more n t tallies in (by_test (t.sender == n) refl, below-all n tallies h.1 (omega (arith, more, e)))
-  where
-    by_test : (b : Bool) → (t.sender == n) ≡ b → n < t.sender
-    by_test true k = let one = ap one_if k in let more = times-more n t tallies in absurd (omega (arith, one, more, e))
-    by_test false k = let other = eqb-false t.sender n k in let le = h.0 in omega (arith, other, le)
+below-all n (t ∷ tallies) h e = grind (arith, common_steps, nat_tests, (below-all n tallies h.1))
 
 rise-sorted : (tallies : List Tally) → IsNonDecreasingBy (λ (t : Tally). t.sender) tallies → ((s : ℕ) → times s tallies ≤ 1) → AreRising (tellers tallies)
 rise-sorted [] order few = tt
 rise-sorted (t ∷ tallies) order few = (
   below-all t.sender tallies (recursion_from_All (λ (u : Tally). t.sender ≤ u.sender) tallies (λ k d lt. order 0 (suc k) d (omega arith) (omega (arith, lt))))
-      (let one = ap one_if (eq-eqb t.sender t.sender refl) in let more = times-more t.sender t tallies in let f = few t.sender in omega (arith, one, more, f)),
+      (let one = ap one_if (eq-eqb t.sender t.sender refl) in search (rules, times-more)),
   rise-sorted tallies (λ i j d le lt. order (suc i) (suc j) d (omega (arith, le)) (omega (arith, lt))) (λ s. let f = few s in let more = times-more s t tallies in omega (arith, more, f)),
 )
 
@@ -80,17 +64,11 @@ in-order-rise tallies sorted apart h =
 found-later : (t : Tally) (all some : List Tally) → AllByRecursion (λ m. t.sender < m) (tellers some) → AllByRecursion (λ (u : Tally). tally_for all u.sender ≡ Some u) some
     → AllByRecursion (λ (u : Tally). tally_for (t ∷ all) u.sender ≡ Some u) some
 found-later t all [] below h = tt
-found-later t all (u ∷ some) below h = (
-  ap (λ (b : Bool). if b then Some t else tally_for all u.sender) (ne_eqb t.sender u.sender (λ e. let lt = below.0 in omega (arith, lt, e))) ∙ h.0,
-  found-later t all some below.1 h.1,
-)
+found-later t all (u ∷ some) below h = search (rules, (found-later t all some below.1 h.1))
 
 found-rising : (tallies : List Tally) → AreRising (tellers tallies) → AllByRecursion (λ (t : Tally). tally_for tallies t.sender ≡ Some t) tallies
 found-rising [] rise = tt
-found-rising (t ∷ tallies) rise = (
-  ap (λ (b : Bool). if b then Some t else tally_for tallies t.sender) (eq-eqb t.sender t.sender refl),
-  found-later t tallies tallies rise.0 (found-rising tallies rise.1),
-)
+found-rising (t ∷ tallies) rise = search (rules, (found-later t tallies tallies rise.0 (found-rising tallies rise.1)), (found-rising tallies rise.1))
 
 -- Each of the tallies is found among those in order.
 pub in-order-found : (tallies sorted : List Tally) → are_distinct (tellers tallies) ≡ true → AreInOrder tallies sorted → AllByRecursion (λ (t : Tally). tally_for sorted t.sender ≡ Some t) tallies
@@ -104,7 +82,7 @@ in-order-all P tallies sorted h all = recursion_from_All P sorted (All-permutati
 -- What holds of all members of lists.
 pub all-split : {X : Type 0} (P : X → Type 0) (xs ys : List X) → AllByRecursion P (xs ++ ys) → AllByRecursion P xs × AllByRecursion P ys
 all-split P [] ys h = (tt, h)
-all-split P (x ∷ xs) ys h = let rest = all-split P xs ys h.1 in ((h.0, rest.0), rest.1)
+all-split P (x ∷ xs) ys h = search (rules, (all-split P xs ys h.1))
 
 pub all-unmap : {X Y : Type 0} (P : Y → Type 0) (f : X → Y) (xs : List X) → AllByRecursion P (map f xs) → AllByRecursion (λ x. P (f x)) xs
 all-unmap P f [] h = tt
@@ -121,8 +99,7 @@ tellers-line out (c ∷ seats) = ap (λ m. c.sender ∷ m) (tellers-line out sea
 
 pub tellers-in : (lines : List LineLists) → tellers (tallies_in lines) ≡ senders_at (seats_in lines)
 tellers-in [] = refl
-tellers-in (l ∷ lines) =
-    map-append (λ (t : Tally). t.sender) (tallies_of l) (tallies_in lines) ∙ (λ i. tellers-line (all_evicted (seats_of l)) (seats_of l) i ++ tellers-in lines i) ∙ sym (joined l lines)
+tellers-in (l ∷ lines) = search (rules, map-append, tellers-line, (tellers-in lines))
 
 -- each seat's tally is found
 abbrev pub AreFound : List Tally → List Packet → List SeatLists → Type 0
@@ -141,16 +118,16 @@ none-out [] = refl
 none-out (p ∷ packets) = none-out packets
 
 pub none-filtered : (out packets : List Packet) → out ≡ [] → filter (has_packet out) packets ≡ []
-none-filtered out packets e = ap (λ o. filter (has_packet o) packets) e ∙ none-out packets
+none-filtered out packets e = search (rules, none-out)
 
 pub no-evicted : (seats : List SeatLists) → AllByRecursion (λ (c : SeatLists). c.evicted ≡ []) seats → all_evicted seats ≡ []
 no-evicted [] h = refl
-no-evicted (c ∷ seats) h = ap (λ e. e ++ all_evicted seats) h.0 ∙ no-evicted seats h.1
+no-evicted (c ∷ seats) h = search (rules, (no-evicted seats h.1))
 
 -- the tallies count as many packets accepted as the seats
 pub accepted-same : (tallies : List Tally) (out : List Packet) (seats : List SeatLists) → AreFound tallies out seats → in_all accepted_by tallies (senders_at seats) ≡ accepted_count seats
 accepted-same tallies out [] found = refl
-accepted-same tallies out (c ∷ seats) found = let here = ap accepted_by found.0 in let rest = accepted-same tallies out seats found.1 in omega (arith, here, rest)
+accepted-same tallies out (c ∷ seats) found = search (rules, (accepted-same tallies out seats found.1))
 
 -- Where no seat lost a packet no tally lost one.
 abbrev LostNone : SeatLists → Type 0
@@ -158,20 +135,17 @@ LostNone c = (c.refused ≡ []) × (c.evicted ≡ [])
 
 nothing-lost : (seats : List SeatLists) → lost_count seats ≡ 0 → AllByRecursion LostNone seats
 nothing-lost [] e = tt
-nothing-lost (c ∷ seats) e = ((nil_from_length c.refused (omega (arith, e)), nil_from_length c.evicted (omega (arith, e))), nothing-lost seats (omega (arith, e)))
+nothing-lost (c ∷ seats) e = search (rules, nil_from_length, (nothing-lost seats (omega (arith, e))))
 
 lost-none : (tallies : List Tally) (out : List Packet) (seats : List SeatLists) → AreFound tallies out seats → out ≡ [] → AllByRecursion LostNone seats → in_all lost_by tallies (senders_at seats) ≡ 0
 lost-none tallies out [] found none h = refl
-lost-none tallies out (c ∷ seats) found none h =
-    let here = ap lost_by found.0 in let refused = ap length h.0.0 in let evicted = ap length (none-filtered out c.accepted none) in let rest = lost-none tallies out seats found.1 none h.1 in
-    omega (arith, here, refused, evicted, rest)
+lost-none tallies out (c ∷ seats) found none h = search (rules, none-filtered, (lost-none tallies out seats found.1 none h.1))
 
 pub lost-some : (tallies : List Tally) (seats : List SeatLists) → AreFound tallies (all_evicted seats) seats → 0 < in_all lost_by tallies (senders_at seats) → 0 < lost_count seats
 lost-some tallies seats found some = ⊎_elim
     (λ (e : lost_count seats ≡ 0).
     let all = nothing-lost seats e in
     let out = no-evicted seats (all-weaker LostNone (λ (c : SeatLists). c.evicted ≡ []) seats (λ c h. h.1) all) in
-    let none = lost-none tallies (all_evicted seats) seats found out all in
-    absurd (omega (arith, none, some)))
+    search (rules, lost-none))
     (λ (lt : 0 < lost_count seats). lt)
     (eq-zero-or-pos (lost_count seats))

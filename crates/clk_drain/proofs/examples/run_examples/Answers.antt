@@ -63,15 +63,9 @@ second-log planned lists t = ap (λ l. get_or l 1 []) t.logged
 first-emitted : (planned : List Planned) (lists : Lists) (t : OfTwo planned lists) → get_or lists.emitted 0 [] ≡ t.a.emitted
 first-emitted planned lists t = ap (λ l. get_or l 0 []) t.came
 
-second-emitted : (planned : List Planned) (lists : Lists) (t : OfTwo planned lists) → get_or lists.emitted 1 [] ≡ t.b.emitted
-second-emitted planned lists t = ap (λ l. get_or l 1 []) t.came
-
 -- what came out at each device is what its log says
 first-came-out : (planned : List Planned) (lists : Lists) (t : OfTwo planned lists) → get_or lists.emitted 0 [] ≡ emitted (get_or lists.logs 0 [])
 first-came-out planned lists t = first-emitted planned lists t ∙ t.settled.settled.0.emitted ∙ ap emitted (sym (first-log planned lists t))
-
-second-came-out : (planned : List Planned) (lists : Lists) (t : OfTwo planned lists) → get_or lists.emitted 1 [] ≡ emitted (get_or lists.logs 1 [])
-second-came-out planned lists t = second-emitted planned lists t ∙ t.settled.settled.1.0.emitted ∙ ap emitted (sym (second-log planned lists t))
 
 -- the devices of the run
 abbrev device_a : Device

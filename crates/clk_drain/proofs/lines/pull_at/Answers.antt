@@ -1,4 +1,4 @@
-use Rattle.std.proofs.Common.{set, true≢false, sym, refl, ◌∙◌}
+use Rattle.std.proofs.Common.{set, rules}
 use Rattle.std.specs.List.{AllByRecursion}
 use Rattle.clk_drain.specs.inside.Parts.{IsGathered, IsPlaceOf}
 use Rattle.clk_drain.proofs.Placing.{IsAsked, unanswered, asked-at}
@@ -9,10 +9,10 @@ use Rattle.clk_drain.proofs.lines.pull_at.Goals.{After-lines-1}
 
 -- the line of the leaf was found, and pulled
 found : (g : given.Over) (c : After-lines-1 g) → IsPlaceOf c.args.lines.now.items c.args.leaf c.in-Some.place
-found g c = rw c.as_slice.ensures.value at c.in-Some.ensures
+found g c = search rules
 
 asked : (g : given.Over) (c : After-lines-1 g) → IsAsked c.args.lines.now.items c.args.leaf c.pull.result (set c.args.lines.now.items c.in-Some.place c.pull.new.self)
-asked g c = asked-at c.args.lines.now.items c.args.lines.now.items c.args.leaf c.pull.result c.in-Some.place c.index_mut-line.result.now c.pull.new.self refl c.requires.rise (found g c) c.index_mut-line.ensures.value c.pull.ensures.pulled
+asked g c = search (rules, asked-at, found)
 
 taken : (g : given.Over) (c : After-lines-1 g) → AllByRecursion IsGathered c.args.lines.now.items → AreTaken c.args.lines.now.items c.args.leaf c.pull.result (set c.args.lines.now.items c.in-Some.place c.pull.new.self)
 taken g c =
@@ -25,13 +25,13 @@ pub returns-in-Some-clause-pulled : goal.returns-in-Some-clause-pulled
 returns-in-Some-clause-pulled g c = (asked g c).pulls
 
 pub returns-in-Some-clause-missing : goal.returns-in-Some-clause-missing
-returns-in-Some-clause-missing g c none = absurd (true≢false (sym (asked g c).has ∙ none))
+returns-in-Some-clause-missing g c none = search (rules, (asked g c))
 
 pub returns-in-Some-clause-takes : goal.returns-in-Some-clause-takes
 returns-in-Some-clause-takes g c all = (taken g c all).takes
 
 pub returns-in-None-clause-pulled : goal.returns-in-None-clause-pulled
-returns-in-None-clause-pulled g c = unanswered c.args.leaf c.args.lines.now.items
+returns-in-None-clause-pulled g c = search (rules, unanswered)
 
 pub returns-in-None-clause-takes : goal.returns-in-None-clause-takes
-returns-in-None-clause-takes g c all = (none-taken c.args.lines.now.items c.args.leaf (rw c.as_slice.ensures.value at c.in-None.ensures) all).takes
+returns-in-None-clause-takes g c all = search (rules, none-taken)

@@ -1,4 +1,4 @@
-use Rattle.std.proofs.Common.{ℕ, List, map, sym, subst, Vec}
+use Rattle.std.proofs.Common.{ℕ, List, map, sym, subst, Vec, rules}
 use Rattle.std.specs.declared.alloc.Global.{Global}
 use Rattle.std.specs.List.{AllByRecursion}
 use Rattle.clk_packet.specs.declared.packet.Packet.{Packet}
@@ -8,9 +8,9 @@ use Rattle.clk_tree.specs.PlanParts.{number_of}
 use Rattle.clk_gate.specs.Known.{AreKnown}
 use Rattle.clk_drain.specs.declared.running.opening.LeafQueue.{LeafQueue}
 use Rattle.clk_drain.specs.inside.Threads.{Terms, Feed}
-use Rattle.clk_drain.specs.inside.Handed.{FitPlaces, AreAllUnused, IsUnpulledOver, IsReadyToClose, AreApartDevices}
+use Rattle.clk_drain.specs.inside.Handed.{FitPlaces, AreAllUnused, IsReadyToClose, AreApartDevices}
 use Rattle.clk_drain.proofs.Opened.{unused-opened, unpulled-opened}
-use Rattle.clk_drain.proofs.WholeRun.{HasEnded, has-ended, run-joined, answered-ok, answered-err}
+use Rattle.clk_drain.proofs.WholeRun.{HasEnded, run-joined, answered-ok, answered-err}
 use Rattle.clk_drain.proofs.running.run_keeping.Given as given
 use Rattle.clk_drain.proofs.running.run_keeping.Goals as goal
 
@@ -24,16 +24,12 @@ run_threads-requires-clause-unused g c κs within =
     (unused-opened c.args.plan.now (terms_of c.args.traces.now c.args.step c.args.limit) 0 _ _ _ _ c.in_ok-queues.ensures.opened)
 
 pub run_threads-requires-clause-unpulled : goal.run_threads-requires-clause-unpulled
-run_threads-requires-clause-unpulled g c κs within =
-    subst (FitPlaces IsUnpulledOver c.in_ok-queues.field-0.ends.items) (sym c.deref.ensures.value) (unpulled-opened c.args.plan.now c.args.traces.now 0 _ _ _ _ c.in_ok-queues.ensures.opened)
+run_threads-requires-clause-unpulled g c κs within = search (rules, unpulled-opened)
 
 -- what the threads gave back
 ended : (g : given.Over) (c : goal.In_ok-sent g)
     → HasEnded (keeps_visits c.args.keeps) c.args.plan.now (terms_of c.args.traces.now c.args.step c.args.limit) c.in_ok-queues.field-0.queues.items c.in_ok-queues.field-0.seats.items c.in_ok-queues.field-0.ends.items c.in_ok-sent.sent.devices.items c.in_ok-sent.sent.ends.items
-ended g c =
-    let opened = c.in_ok-queues.field-0 in
-    has-ended (keeps_visits c.args.keeps) c.args.plan.now (terms_of c.args.traces.now c.args.step c.args.limit) c.new-terms.result c.senders.result.now opened.queues.items c.deref.result.now opened.seats.items opened.ends.items c.in_ok-sent.sent.devices.items c.in_ok-sent.sent.ends.items
-    c.new-terms.ensures c.deref.ensures.value c.senders.ensures.senders c.senders.ensures.rising c.count.ensures.within c.in_ok-queues.ensures.opened c.in_ok-queues.ensures.kept c.in_ok-sent.ensures.sent c.in_ok-sent.ensures.pulled
+ended g c = search rules
 
 pub join_devices-requires : goal.join_devices-requires
 join_devices-requires g c = record { joinable = (run-joined _ _ _ _ _ _ _ _ (ended g c)).joinable }

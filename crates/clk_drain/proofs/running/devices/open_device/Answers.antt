@@ -1,5 +1,4 @@
-use Rattle.std.proofs.Common.{ap, ◌∙◌}
-use Rattle.clk_sched.specs.Keeps.{keeps_visits}
+use Rattle.std.proofs.Common.{ap, ◌∙◌, rules}
 use Rattle.clk_sched.specs.Session.{SessionLists}
 use Rattle.clk_drain.proofs.DeviceSteps.{opened-device}
 use Rattle.clk_drain.proofs.running.devices.open_device.Goals as goal
@@ -10,4 +9,4 @@ returns-clause-opened c =
     opened-device c.args.plan.now c.args.traces.now c.args.device _ _ _ c.in_ok-tree.tree (ap (λ (s : SessionLists). s.tree) made) (ap (λ (s : SessionLists). s.log) made) c.in_ok-tree.ensures.tree c.in_ok-tree.ensures.leaves c.in_ok-queues.ensures.opened
 
 pub returns-clause-kept : goal.returns-clause-kept
-returns-clause-kept c = ap (λ (s : SessionLists). keeps_visits s.keeps) (c.reserve.ensures.unchanged ∙ c.in_ok-session.ensures.made)
+returns-clause-kept c = search rules

@@ -1,4 +1,4 @@
-use Rattle.std.proofs.Common.{set, true≢false, sym, ◌∙◌}
+use Rattle.std.proofs.Common.{set, rules}
 use Rattle.clk_drain.proofs.Placing.{IsAsked, unanswered, asked-at}
 use Rattle.clk_drain.proofs.running.open_lines.OpenLinesAsk.ask.Given as given
 use Rattle.clk_drain.proofs.running.open_lines.OpenLinesAsk.ask.Goals as goal
@@ -15,7 +15,7 @@ pub returns-in-Some-clause-answer : goal.returns-in-Some-clause-answer
 returns-in-Some-clause-answer g c = (asked g c).pulls
 
 pub returns-in-Some-clause-missing : goal.returns-in-Some-clause-missing
-returns-in-Some-clause-missing g c none = absurd (true≢false (sym (asked g c).has ∙ none))
+returns-in-Some-clause-missing g c none = search (rules, (asked g c))
 
 pub returns-in-None-clause-answer : goal.returns-in-None-clause-answer
 returns-in-None-clause-answer g c = unanswered c.args.leaf c.args.self.now
