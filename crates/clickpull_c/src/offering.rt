@@ -53,7 +53,7 @@ fn offer_each(
 {
     let mut done = 0;
     while done < offers.len() {
-        let wanted = offers[done];
+        let wanted = &offers[done];
         let status = offer(router, wanted.sender, wanted.length, &mut offered[done]);
         if status != OK {
             return (done, status);
@@ -77,7 +77,7 @@ fn offer(router: &mut CountingRouter, sender: u32, length: u32, offered: &mut CO
         return UNKNOWN_SENDER;
     };
     let place = usize::from(place);
-    if !router.can_offer(place) {
+    if router.has_ended(place) {
         return AT_END;
     }
     let (packet, outcome) = router.offer(place, length as u16);
