@@ -155,7 +155,7 @@ impl Session {
         if self.nodes.pull >= END_OF_PULLS {
             return Err(Fault::Memory);
         }
-        let edges = usize::from(self.nodes.inputs[DEVICE as usize].below.edges);
+        let edges = usize::from(self.nodes.inputs[DEVICE as usize].edges);
         self.emitted.reserve(1)?;
         self.nodes.log.begin(edges)?;
         self.nodes.moment = self.nodes.moment.max(moment);

@@ -15,7 +15,7 @@ use Rattle.clk_sched.specs.declared.session.state.State.{State}
 use Rattle.clk_sched.specs.declared.session.state.State.{State}
 use Rattle.clk_sched.specs.Log.{asking}
 use Rattle.clk_sched.specs.Answers.{Answers}
-use Rattle.clk_sched.specs.inside.Places.{AreWired, IsWithin, edges_of, edges_at, edges_in, input_at, option_input, queue_asked}
+use Rattle.clk_sched.specs.inside.Places.{AreWired, below_of, IsWithin, edges_of, edges_at, edges_in, input_at, option_input, queue_asked}
 use Rattle.clk_sched.specs.inside.Pulling.{CanPull, Keeps, Asks, added, now_of}
 use Rattle.clk_sched.specs.inside.Looking.{Logs}
 use Rattle.clk_sched.specs.inside.Resting.{block_below, block_to, resting_block, IsAtRest, AreAtRest, IsIdleAt, IsIdleTo, IsIdleNode, with_block}
@@ -127,16 +127,16 @@ module _ {S : Type 0} (gives : S → ℕ → Option Packet → S → Type 0) (n 
   queue-idle leaf low high = let same : b.first + (leaf - b.first) ≡ leaf = omega (arith, low) in subst (λ l. gives q l None q) same (empty (leaf - b.first) (omega (arith, low, high, wide)))
 
   abbrev IdleWithin : ℕ → Type 0
-  IdleWithin deep = (y : ℕ) (p : Inputs) → slice_get n.inputs.items y ≡ Some p → x ≤ y → y + p.below.nodes ≤ x + b.nodes → b.first ≤ p.below.first → p.below.last ≤ b.last → IsIdleTo gives deep n.inputs.items n.states.items q y
+  IdleWithin deep = (y : ℕ) (p : Inputs) → slice_get n.inputs.items y ≡ Some p → x ≤ y → y + (below_of p).nodes ≤ x + b.nodes → b.first ≤ (below_of p).first → (below_of p).last ≤ b.last → IsIdleTo gives deep n.inputs.items n.states.items q y
 
   idle-step : (deep : ℕ) → IdleWithin deep → IdleWithin (suc deep)
   idle-step deep inner y p e after most low high = (rest y after (omega (arith, most)), λ i. by_input i (input_at n.inputs.items y i) refl)
     where
-      stands : (i : ℕ) (input : Input) → input_at n.inputs.items y i ≡ Some input → IsWithin n.inputs.items y p.below input
-      stands i input k = of-all (IsWithin n.inputs.items y p.below) input p.each.items (wired y p e).within (in-slice p.each.items i input (sym (ap (λ o. option_input o i) e) ∙ k))
+      stands : (i : ℕ) (input : Input) → input_at n.inputs.items y i ≡ Some input → IsWithin n.inputs.items y (below_of p) input
+      stands i input k = of-all (IsWithin n.inputs.items y (below_of p)) input p.each.items (wired y p e).within (in-slice p.each.items i input (sym (ap (λ o. option_input o i) e) ∙ k))
 
       below_it : (m : ℕ) → y < m → (o : Option Inputs) → slice_get n.inputs.items m ≡ o
-          → MatchOption o ⊥ (λ (c : Inputs). (p.below.first ≤ c.below.first) × (c.below.last ≤ p.below.last) × (m + c.below.nodes ≤ y + p.below.nodes)) → IsIdleTo gives deep n.inputs.items n.states.items q m
+          → MatchOption o ⊥ (λ (c : Inputs). ((below_of p).first ≤ (below_of c).first) × ((below_of c).last ≤ (below_of p).last) × (m + (below_of c).nodes ≤ y + (below_of p).nodes)) → IsIdleTo gives deep n.inputs.items n.states.items q m
       below_it m past None f h = absurd h
       below_it m past (Some c) f h =
           inner m c f (omega (arith, after, past)) (let few = h.2 in omega (arith, most, few)) (let first = h.0 in omega (arith, low, first)) (let last = h.1 in omega (arith, high, last))
@@ -150,9 +150,9 @@ module _ {S : Type 0} (gives : S → ℕ → Option Packet → S → Type 0) (n 
   idle-within zero y p e after most low high = tt
   idle-within (suc deep) y p e after most low high = idle-step deep (λ z c f a m l h. idle-within deep z c f a m l h) y p e after most low high
 
-  pub idle-node : (p : Inputs) → slice_get n.inputs.items x ≡ Some p → p.below ≡ b → IsIdleNode gives n q x
+  pub idle-node : (p : Inputs) → slice_get n.inputs.items x ≡ Some p → below_of p ≡ b → IsIdleNode gives n q x
   idle-node p e is deep low =
-      let same : (x + p.below.nodes ≤ x + b.nodes) × (b.first ≤ p.below.first) × (p.below.last ≤ b.last) = subst (λ (c : Below). (x + c.nodes ≤ x + b.nodes) × (b.first ≤ c.first) × (c.last ≤ b.last)) (sym is) (omega arith, omega arith, omega arith) in
+      let same : (x + (below_of p).nodes ≤ x + b.nodes) × (b.first ≤ (below_of p).first) × ((below_of p).last ≤ b.last) = subst (λ (c : Below). (x + c.nodes ≤ x + b.nodes) × (b.first ≤ c.first) × (c.last ≤ b.last)) (sym is) (omega arith, omega arith, omega arith) in
       idle-within deep x p e (omega arith) same.0 same.1 same.2
 
 -- one node more

@@ -11,7 +11,7 @@ use Rattle.clk_sched.specs.declared.session.state.State.TheVariants.{Prio}
 use Rattle.clk_packet.specs.Scheduler.{prio}
 use Rattle.clk_sched.specs.Tree.{Row, end, leaf, node, Tree, root, nodes, width}
 use Rattle.clk_sched.specs.Built.{row}
-use Rattle.clk_sched.specs.inside.Places.{inputs_of}
+use Rattle.clk_sched.specs.inside.Places.{inputs_of, below_of}
 use Rattle.clk_sched.specs.Session.{elements}
 use Rattle.clk_sched.specs.inside.Holds.OfClass.{Holds}
 use Rattle.clk_sched.specs.inside.LaidOut.{elements_of, nodes_of, input_of, below_row, entry, entry_over, entries, entries_of, Kind, kinds, kinds_of, AreFirst, Adds, AddsNode}
@@ -53,7 +53,7 @@ are_first-then (j ∷ before) (t ∷ states) k s h f = (h.0, are_first-then befo
 
 -- A node is added: its entry takes the place that was kept for it.
 pub adds-node : (old a b new : Tables) (below : Row) (state : State) (place p : Inputs) → a.inputs.items ≡ old.inputs.items ++ place ∷ [] → a.states.items ≡ old.states.items ++ state ∷ []
-    → Adds a b (entries (length a.inputs.items) below) (kinds below) → p.each.items ≡ inputs_of (length a.inputs.items) below → p.below ≡ below_row below
+    → Adds a b (entries (length a.inputs.items) below) (kinds below) → p.each.items ≡ inputs_of (length a.inputs.items) below → below_of p ≡ below_row below
     → new.inputs.items ≡ slice_set b.inputs.items (length old.inputs.items) p → new.states.items ≡ b.states.items → AddsNode old new state below
 adds-node old a b new below state place p kept held f each edges put same class holds =
     record {

@@ -11,7 +11,7 @@ use Rattle.clk_sched.specs.declared.session.nodes.Nodes.{Nodes}
 use Rattle.clk_sched.specs.declared.session.state.State.{State}
 use Rattle.clk_packet.specs.Scheduler.{Scheduler, prio, HasArguments}
 use Rattle.clk_sched.specs.Tree.{Row, end, leaf, node, Tree, root, nodes, width, IsWellFormed}
-use Rattle.clk_sched.specs.inside.Places.{inputs_of, EachHasInputs, edges_to_all, IsAfter, IsWithin, IsWired}
+use Rattle.clk_sched.specs.inside.Places.{inputs_of, below_of, EachHasInputs, edges_to_all, IsAfter, IsWithin, IsWired}
 use Rattle.clk_sched.specs.inside.Pulling.{EachHolds}
 use Rattle.clk_sched.specs.Session.{elements}
 use Rattle.clk_sched.specs.inside.Session.{IsLaidOut}
@@ -118,7 +118,7 @@ within-all : (table : List Inputs) (x next : ℕ) (row : Row) (b : Below) → b.
 within-all table x next end b low high most h = tt
 within-all table x next (leaf q row) b low high most h = ((omega (arith, low), omega (arith, high)), within-all table x next row b (omega (arith, low)) (omega (arith, high)) most h)
 within-all table x next (node class inputs row) b low high most h = (
-  match-weaker (IsEntry (entry_over next inputs)) (λ (p : Inputs). (b.first ≤ p.below.first) × (p.below.last ≤ b.last) × (next + p.below.nodes ≤ x + b.nodes)) (slice_get table next)
+  match-weaker (IsEntry (entry_over next inputs)) (λ (p : Inputs). (b.first ≤ (below_of p).first) × ((below_of p).last ≤ b.last) × (next + (below_of p).nodes ≤ x + b.nodes)) (slice_get table next)
       (λ p e. subst (λ (c : Below). (b.first ≤ c.first) × (c.last ≤ b.last) × (next + c.nodes ≤ x + b.nodes)) (sym (ap (λ (q : Entry). q.1) e)) (omega (arith, low), omega (arith, high), omega (arith, most))) h.0,
   within-all table x (suc (next + nodes inputs)) row b (omega (arith, low)) (omega (arith, high)) (omega (arith, most)) (entries-after table next inputs row h.1).1,
 )
@@ -191,12 +191,12 @@ wired : (table : List Inputs) (states : List State) (x : ℕ) (p : Inputs) → s
 wired table states x p e f =
     let here : entry p ≡ entry_over x f.row = at (IsEntry (entry_over x f.row)) (slice_get table x) p e f.placed.inputs in
     let each : p.each.items ≡ inputs_of (suc x) f.row = ap (λ (q : Entry). q.0) here in
-    let below : p.below ≡ below_row f.row = ap (λ (q : Entry). q.1) here in
+    let below : below_of p ≡ below_row f.row = ap (λ (q : Entry). q.1) here in
     record {
       few = subst (λ n. n ≤ most_inputs) (sym (ap length each ∙ length-inputs (suc x) f.row)) f.placed.few;
       after = subst (AllByRecursion (IsAfter (length table) x)) (sym each) f.placed.after;
       edges = ap (λ (b : Below). b.edges) below ∙ f.placed.edges ∙ ap (edges_to_all table) (sym each);
-      within = subst (AllByRecursion (IsWithin table x p.below)) (sym each) (subst (λ (b : Below). AllByRecursion (IsWithin table x b) (inputs_of (suc x) f.row)) (sym below) f.placed.within);
+      within = subst (AllByRecursion (IsWithin table x (below_of p))) (sym each) (subst (λ (b : Below). AllByRecursion (IsWithin table x b) (inputs_of (suc x) f.row)) (sym below) f.placed.within);
       last = subst (λ (b : Below). x + b.nodes < length table) (sym below) f.placed.last;
     }
 

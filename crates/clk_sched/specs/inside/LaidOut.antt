@@ -9,7 +9,7 @@ use Rattle.clk_sched.specs.declared.session.layout.Tables.{Tables}
 use Rattle.clk_sched.specs.declared.session.state.State.{State}
 use Rattle.clk_packet.specs.Scheduler.{Scheduler, HasArguments}
 use Rattle.clk_sched.specs.Tree.{Row, end, leaf, node, Tree, queue, scheduler, nodes, width}
-use Rattle.clk_sched.specs.inside.Places.{inputs_of}
+use Rattle.clk_sched.specs.inside.Places.{inputs_of, below_of}
 use Rattle.clk_sched.specs.Session.{elements}
 use Rattle.clk_sched.specs.inside.Holds.OfClass.{Holds}
 
@@ -53,7 +53,7 @@ abbrev pub Entry : Type 0
 Entry = List Input × Below
 
 abbrev pub entry : Inputs → Entry
-entry p = (p.each.items, p.below)
+entry p = (p.each.items, below_of p)
 
 -- the entry of node `next` over a row
 abbrev pub entry_over : ℕ → Row → Entry

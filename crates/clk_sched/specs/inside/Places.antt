@@ -35,7 +35,7 @@ pub record StandsIn (table : List Inputs) (x : ℕ) (row : Row) : Type 0 where
 
 abbrev pub option_edges : Option Inputs → ℕ
 option_edges None = 0
-option_edges (Some p) = p.below.edges
+option_edges (Some p) = p.edges
 
 -- how many edges there are from a node and below it
 abbrev pub edges_of : List Inputs → ℕ → ℕ
@@ -76,19 +76,23 @@ abbrev pub IsAfter : ℕ → ℕ → Input → Type 0
 IsAfter size x (Queue q) = ⊤
 IsAfter size x (Node m) = (x < m) × (m < size)
 
+-- what a table says of what is below a node
+abbrev pub below_of : Inputs → Below
+below_of p = record { edges = p.edges; nodes = p.nodes; first = p.first; last = p.last }
+
 -- What stands at an input is within what a table says of the node above it, node x: leaves, and node numbers.
 abbrev pub IsWithin : List Inputs → ℕ → Below → Input → Type 0
 IsWithin table x below (Queue q) = (below.first ≤ q) × (q ≤ below.last)
 IsWithin table x below (Node m) =
-    MatchOption (slice_get table m) ⊥ (λ (p : Inputs). (below.first ≤ p.below.first) × (p.below.last ≤ below.last) × (m + p.below.nodes ≤ x + below.nodes))
+    MatchOption (slice_get table m) ⊥ (λ (p : Inputs). (below.first ≤ (below_of p).first) × ((below_of p).last ≤ below.last) × (m + (below_of p).nodes ≤ x + below.nodes))
 
 -- Each node of a table has schedulers after it at its inputs, and tells how many edges there are from it and below, and what is below.
 pub record IsWired (table : List Inputs) (x : ℕ) (p : Inputs) : Type 0 where
   pub few : length p.each.items ≤ most_inputs
   pub after : AllByRecursion (IsAfter (length table) x) p.each.items
-  pub edges : p.below.edges ≡ edges_to_all table p.each.items
-  pub within : AllByRecursion (IsWithin table x p.below) p.each.items
-  pub last : x + p.below.nodes < length table
+  pub edges : p.edges ≡ edges_to_all table p.each.items
+  pub within : AllByRecursion (IsWithin table x (below_of p)) p.each.items
+  pub last : x + (below_of p).nodes < length table
 
 abbrev pub AreWired : List Inputs → Type 0
 AreWired table = (x : ℕ) (p : Inputs) → slice_get table x ≡ Some p → IsWired table x p

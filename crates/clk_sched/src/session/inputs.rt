@@ -1,6 +1,6 @@
 //! What stands at the inputs of a node.
 
-ghost use Rattle.std.specs.Prelude.{◌≡◌, ◌+◌, ◌<◌, ◌%◌, IfSome};
+ghost use Rattle.std.specs.Prelude.{◌≡◌, ◌+◌, ◌<◌, ◌%◌, true, IfSome};
 ghost use Rattle.std.proofs.Props.{props};
 ghost use Rattle.clk_sched.specs.inside.QueuesFrom.{AreQueuesFrom};
 
@@ -44,24 +44,51 @@ pub struct Below {
 pub struct Inputs {
     /// What stands at each.
     pub each: Vec<Input>,
-    /// What is below the node, its inputs included.
-    pub below: Below,
-    /// The leaf of the first input, if it is known that all inputs are queues with consecutive leaves.
-    queues_from: Option<u16>,
-    ghost follow: { IfSome queues_from (λ leaf. AreQueuesFrom leaf each.items) } by { Prim.hlevel props },
+    /// How many inputs the node and the schedulers below it have.
+    pub edges: u16,
+    // The least and the greatest leaf below the node, and how many schedulers are there. With all of these an entry has 32 bytes.
+    first: u16,
+    last: u16,
+    nodes: u8,
+    // Whether it is known that all inputs are queues with consecutive leaves, the least of them first.
+    in_a_row: bool,
+    ghost follow: { in_a_row ≡ true → AreQueuesFrom first each.items } by { Prim.hlevel props },
 }
 
 impl Inputs {
+    ghost use Rattle.std.specs.Prelude.{◌^◌};
+    ghost use Rattle.clk_sched.specs.inside.Places.{below_of};
+
     /// These inputs of a node, and what is below it.
     pub fn new(each: Vec<Input>, below: Below) -> Inputs
+        requires { below.nodes < 2 ^ 8 }
         ensures each { result.each ≡ each }
-        ensures below { result.below ≡ below }
+        ensures below { below_of result ≡ below }
     {
-        let queues_from = queues_from(&each);
+        let in_a_row = match queues_from(&each) {
+            Some(leaf) => leaf == below.first,
+            None => false,
+        };
         Inputs {
             each,
-            below,
-            queues_from,
+            edges: below.edges,
+            first: below.first,
+            last: below.last,
+            nodes: below.nodes as u8,
+            in_a_row,
+        }
+    }
+
+    /// What is below the node, its inputs included.
+    #[inline]
+    pub fn below(&self) -> Below
+        ensures { result ≡ below_of self.now }
+    {
+        Below {
+            edges: self.edges,
+            nodes: u16::from(self.nodes),
+            first: self.first,
+            last: self.last,
         }
     }
 
@@ -70,7 +97,11 @@ impl Inputs {
     pub fn queues_from(&self) -> Option<u16>
         ensures { IfSome result (λ leaf. AreQueuesFrom leaf self.now.each.items) }
     {
-        self.queues_from
+        if self.in_a_row {
+            Some(self.first)
+        } else {
+            None
+        }
     }
 }
 

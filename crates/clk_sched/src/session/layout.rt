@@ -67,7 +67,7 @@ pub fn lay_out(alloc: Global, tree: &Tree, keeps: Keeps) -> Result<Nodes, Fault>
     };
     // The device is node 0: it stands over this tree as a PrioSched over one input.
     lay_node(alloc, &mut tables, State::Prio, slice::from_ref(tree))?;
-    let edges = usize::from(tables.inputs[DEVICE as usize].below.edges);
+    let edges = usize::from(tables.inputs[DEVICE as usize].edges);
     Ok(Nodes {
         inputs: tables.inputs,
         states: tables.states,

@@ -45,7 +45,7 @@ impl Nodes {
         requires fit { AllFit self.now.inputs.items self.now.states.items }
         ensures { result ≡ true → IsIdleNode Q.gives self.now q.now node }
     {
-        let below = self.inputs[node as usize].below;
+        let below = self.inputs[node as usize].below();
         if below.last < below.first {
             return false;
         }

@@ -1,6 +1,7 @@
 use Rattle.std.proofs.lemmas.Grind.{common_steps}
 use Rattle.std.proofs.Common.{◌++◌, length, slice_set, refl, ap, ◌∙◌, arith, rules}
 use Rattle.clk_sched.specs.Built.{row}
+use Rattle.clk_sched.specs.declared.session.inputs.Below.{Below}
 use Rattle.clk_sched.specs.inside.Places.{inputs_of}
 use Rattle.clk_sched.proofs.Trees.TreeLemmas.{elements-row}
 use Rattle.clk_sched.proofs.Trees.Added.{nodes-elements, nodes_of-elements_of, adds-size, adds-row, adds-node, inputs-more}
@@ -11,6 +12,12 @@ lay_inputs-lay_inputs-requires t c = search (rules, elements-row, nodes_of-eleme
 
 pub lay-overflow_add-below-in-Inner : goal.lay-overflow_add-below-in-Inner
 lay-overflow_add-below-in-Inner t c = search (rules, nodes-elements)
+
+pub lay_node-new-requires-3 : goal.lay_node-new-requires-3
+lay_node-new-requires-3 t c =
+    let few = nodes-elements (row c.args.trees.now) in
+    let is = ap (λ (b : Below). b.nodes) c.in_ok-below.ensures.below in
+    omega (arith, few, is)
 
 pub lay_inputs-overflow_add-result-2 : goal.lay_inputs-overflow_add-result-2
 lay_inputs-overflow_add-result-2 t c = search (rules, elements-row, nodes_of-elements_of, nodes-elements)
