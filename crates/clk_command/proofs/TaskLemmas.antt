@@ -1,5 +1,5 @@
 -- What is read of a tree's text, and what follows for what is done over it.
-use Rattle.std.proofs.Common.{◌+◌, ◌≡◌, ◌≢◌, if◌then◌else◌, Decides, ℕ, Bool, true, false, nat_lt, List, [], ◌++◌, append_assoc, length, take, option_map, Option, Some, None, Result, Ok, Err, IfSome, OnOk, refl, sym, ap, subst, ◌∙◌, inl, inr, arith}
+use Rattle.std.proofs.Common.{◌+◌, ◌≡◌, ◌≢◌, if◌then◌else◌, Decides, ℕ, Bool, true, false, nat_lt, List, [], ◌++◌, append_assoc, length, take, option_map, Option, Some, None, Result, Ok, Err, IfErr, IfSome, OnOk, refl, sym, ap, subst, ◌∙◌, inl, inr, arith}
 use Rattle.std.specs.Io.KnownBytes.{Appends}
 use Rattle.std.proofs.KnownBytes.{Appends-trans, Keeps-refl}
 use Rattle.std.proofs.lemmas.Bool.Decides.{nat_tests}
@@ -8,13 +8,13 @@ use Rattle.std.proofs.lemmas.Slice.Eq.{bytes_eq-Decides}
 use Rattle.std.specs.Str.{bytes_eq}
 use Rattle.clap.specs.Walk.{Text}
 use Rattle.clk_packet.specs.declared.fault.Fault.{Fault}
-use Rattle.clk_packet.specs.declared.fault.Fault.TheVariants.{TooLarge}
+use Rattle.clk_packet.specs.declared.fault.Fault.TheVariants.{TooLarge, Write}
 use Rattle.clk_syntax.specs.Faults.{text_fault}
 use Rattle.clk_syntax.specs.Limits.{most_tree_bytes}
 use Rattle.clk_tree.specs.Plan.{Planned, Denotes}
 use Rattle.clk_syntax.specs.Reading.{HasFault}
 use Rattle.clk_packet.proofs.Callers.Written.{of-weaker, wrote-whole, wrote-front}
-use Rattle.clk_packet.specs.Bytes.{AppendsFront, OfBytes, Takes, Wrote}
+use Rattle.clk_packet.specs.Bytes.{AppendsFront, OfBytes, Takes, Wrote, read_failures, write_failures}
 use Rattle.clk_packet.specs.Written.{WroteWhat}
 use Rattle.clk_command.specs.InputLimits.{most_of_input, most_of_work}
 use Rattle.clk_command.specs.Tasks.{AreTogether, bytes_at, Does, DoesWork, ExplainsTask, ExplainsWork, GoesOut, IsPlanIn, LivesOver, LivesWithVisits, ReportsOver, ReportsWithVisits, WritesOver, WritesWithVisits, WroteBoth}
@@ -201,3 +201,13 @@ pub takes-standard : (asked : Asked) (tree path : Bor Text) (job : Job) (old new
 takes-standard asked tree path job old new e is h =
     let most : most_of_input (task (Over tree path job)) ≡ most_tree_bytes = ap (λ (b : Bool). if b then most_tree_bytes else most_of_work (work job)) (ap (λ t. bytes_eq t dash) is) in
     subst (λ (a : Asked). Takes (most_of_input (task a) + 1) old new) (sym e) (subst (λ n. Takes (n + 1) old new) (sym most) h)
+
+-- a writer failed exactly if the fault of a write is 20
+pub write-failures : (old new : Option (List ℕ)) (before after : ℕ) (result : Result (Unit {0}) Fault) (text : List ℕ) → Wrote old new before after result text → after ≡ write_failures result before
+write-failures old new before after (Ok x) text w = w.succeeds
+write-failures old new before after (Err fault) text w = rw w.fault w.fails
+
+-- no read failed where the fault of a write is all that can follow
+pub read-kept : (result : Result (Unit {0}) Fault) (failures : ℕ) → IfErr result (λ fault. fault ≡ Write) → read_failures result failures ≡ failures
+read-kept (Ok x) failures h = refl
+read-kept (Err fault) failures h = rw h refl
