@@ -75,7 +75,7 @@ closing-more terms all done left before f drained old new next ready over reache
       closed = search (rules, closed-more, closed-device);
       settled = all-join _ h.parts (p ∷ []) h.settled (over.is.outcome (sent_by terms.traces) ready.sent, tt);
       logs =
-          search (rules, map-append, devices_of, kept-more);
+          search (rules, map-append, kept-more);
       emitted = search (rules, map-append, devices-more);
       tallies = search (rules, append-nil, flat_map-append);
       reached = search (rules, seated-more, all-join);
@@ -116,6 +116,6 @@ all-closed terms all done left old new none logs emitted order apart h =
       closed = closed;
       logs = search rules;
       emitted = ap (map (λ packets. packets.items)) emitted ∙ h.emitted;
-      settled = devices-settled (sent_by terms.traces) h.parts new.tallies.items h.settled (search (rules, closed-senders, devices_of))
+      settled = devices-settled (sent_by terms.traces) h.parts new.tallies.items h.settled (search (rules, closed-senders))
           (subst (λ tallies. AreInOrder tallies new.tallies.items) h.tallies order);
     }

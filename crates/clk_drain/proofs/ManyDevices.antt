@@ -72,9 +72,9 @@ teller-known names (t ∷ tallies) s known has = search (rules, (teller-known na
 -- No sender has two tallies, where none sends to two devices.
 tellers-apart : (sent : ℕ → List Packet) (parts : List Part) → AreSettled sent parts → are_distinct (flat_map senders_to (devices_of parts)) ≡ true → are_distinct (tellers (tallies_in_all parts)) ≡ true
 tellers-apart sent [] h apart = refl
-tellers-apart sent (p ∷ parts) h apart = grind (arith, common_steps, nat_tests, map-append, apart-joined, (tellers p.tallies), (tellers (tallies_in_all parts)), (rising-distinct (tellers p.tallies) h.0.rise), apart-parts, not-both, teller-known, (part-known sent p h.0), (all-known sent parts h.1), (tellers-apart sent parts h.1))
+tellers-apart sent (p ∷ parts) h apart = grind (arith, common_steps, nat_tests, map-append, apart-joined, (rising-distinct (tellers p.tallies) h.0.rise), apart-parts, not-both, teller-known, (part-known sent p h.0), (all-known sent parts h.1), (tellers-apart sent parts h.1))
 
 -- Devices to which no sender sends twice, each settled with its own tallies, are settled together with all of these in order.
 pub devices-settled : (sent : ℕ → List Packet) (parts : List Part) (tallies : List Tally) → AreSettled sent parts → are_distinct (flat_map senders_to (devices_of parts)) ≡ true → AreInOrder (tallies_in_all parts) tallies
     → IsSettledOutcome sent (devices_of parts) tallies
-devices-settled sent parts tallies h apart order = search (rules, (tellers (tallies_in_all parts)), (tellers-apart sent parts h apart), in-order-rise, in-order-all, (all-known sent parts h), each-together, in-order-found)
+devices-settled sent parts tallies h apart order = search (rules, (tellers-apart sent parts h apart), in-order-rise, in-order-all, (all-known sent parts h), each-together, in-order-found)

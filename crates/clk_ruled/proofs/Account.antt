@@ -58,7 +58,7 @@ account b held h =
       balances = λ s. ap (λ l. without (of_sender s l) (evicted_in b)) h.order
           ∙ keep-taken (has_packet (evicted_in b)) s b.gone held
           (search (rules, has-none, in-counts))
-          (search (rules, has-some, in-counts, put_out_in))
+          (search (rules, has-some, in-counts))
           (search (rules, has-none, in-counts));
       is_last = λ s. (of_sender s (went_out b.gone), search (rules, filter-append));
       rises = h.rises;

@@ -90,7 +90,7 @@ booked b held setup seats sound same rooms fit =
     let senders : senders_of b.setup ≡ senders_at seats = search (rules, same-senders) in
     let unknown : (s : ℕ) → stands_in s (senders_at seats) ≡ false → stands_in s (senders_of b.setup) ≡ false = λ s e. ap (λ l. stands_in s l) senders ∙ e in
     let none_came : (s : ℕ) → stands_in s (senders_at seats) ≡ false → of_sender s b.all ≡ [] = λ s e. nil_from_length (of_sender s b.all) (unroomed b.setup.rooms s (length (of_sender s b.all)) (sound.room s) (unknown s e)) in
-    search (rules, accepted-fits, evicted-fits, all-evicted-fit, accepted-times, times_in_all, senders_named, counted, rising-distinct, of-times, named-length)
+    search (rules, accepted-fits, evicted-fits, all-evicted-fit, accepted-times, counted, rising-distinct, of-times, named-length)
 
 -- What came to a queue was put out, or taken, or is held, by the lists of all its seats.
 seats-balance : (b : Books) (held : List Packet) (tap : TapLists) (seats : List SeatLists) → IsSound b held → tap.taken ≡ taken_in b.gone → AreBooked b seats

@@ -98,7 +98,7 @@ taken-balances v held known all =
     let no_sender : (s : ℕ) → stands_in s senders ≡ false → stands_in s (senders_of b.setup) ≡ false = search rules in
     let apart = gathered-apart b v.given v.gathered known.gathered in
     let came = counted senders (senders_named b.all) apart (λ s e. sym (of-times s b.all) ∙ unroomed b.setup.rooms s (length (of_sender s b.all)) (sound.room s) (no_sender s e)) in
-    search (rules, counted, put_for, evicted-times, accepted-counted, evicted-counted, length-append, named-length, gone-length)
+    search (rules, counted, evicted-times, accepted-counted, evicted-counted, length-append, named-length, gone-length)
 
 pub taken-fewer : (v : View) → TapKeeps v → EachGathered v → length v.taken + evicted_in_all v.gathered ≤ accepted_in_all v.gathered
 taken-fewer v k all = let same = taken-balances v k.knows.0 (tap-knows v k) all in omega (arith, same)
