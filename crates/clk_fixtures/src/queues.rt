@@ -87,6 +87,16 @@ impl Ask for Queues {
         let queue = self.0.get_mut(usize::from(leaf))?;
         queue.packets.pop_front()
     }
+
+    fn idle_from(&self, leaf: u16, count: u16) -> u16 {
+        for place in 0..count {
+            let queue = self.0.get(usize::from(leaf) + usize::from(place));
+            if queue.is_none_or(|queue| !queue.packets.is_empty()) {
+                return place;
+            }
+        }
+        count
+    }
 }
 
 impl Backlog for Queues {

@@ -107,6 +107,24 @@ pub fn drr_over_stride(alloc: Global) -> Result<Tree, Fault> {
     )
 }
 
+/// A StrideSched over a DRRSched over two RoundRobinScheds, a Shaper over a PrioSched, and a DRRSched. Each of the lowest schedulers is over
+/// two of the queues 0 to 7.
+pub fn three_levels(alloc: Global) -> Result<Tree, Fault> {
+    let first = Tree::round_robin(vec![in alloc; Tree::leaf(0), Tree::leaf(1)]?)?;
+    let second = Tree::round_robin(vec![in alloc; Tree::leaf(2), Tree::leaf(3)]?)?;
+    let turns = Tree::drr(vec![in alloc; 500, 300]?, vec![in alloc; first, second]?)?;
+    let urgent = Tree::prio(vec![in alloc; Tree::leaf(4), Tree::leaf(5)]?)?;
+    let paced = Tree::shaper(alloc, 1, 2, urgent)?;
+    let bytes = Tree::drr(
+        vec![in alloc; 100, 100]?,
+        vec![in alloc; Tree::leaf(6), Tree::leaf(7)]?,
+    )?;
+    Tree::stride(
+        vec![in alloc; 4, 2, 1]?,
+        vec![in alloc; turns, paced, bytes]?,
+    )
+}
+
 /// So many PrioScheds, one above another, over queue 0.
 pub fn prio_path(alloc: Global, count: u8) -> Result<Tree, Fault> {
     let mut tree = Tree::leaf(0);

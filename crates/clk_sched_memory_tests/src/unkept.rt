@@ -4,7 +4,7 @@ ghost use Rattle.std.specs.Prelude.{◌≤◌};
 
 use clk_fixtures::Queues;
 use clk_fixtures::trees::{
-    drr_over_stride, prio_over_two, round_robin_over_three, shaped_drr_path,
+    drr_over_stride, prio_over_two, round_robin_over_three, shaped_drr_path, three_levels,
 };
 use clk_packet::Fault;
 use clk_sched::{END_OF_DRAINS, Keeps, Session, Tree};
@@ -54,6 +54,12 @@ impl Both {
             self.others.send(sender, lengths)?;
         }
         Ok(())
+    }
+
+    // Packets of one sender go to its queues.
+    fn send_one(&mut self, sender: u16, lengths: &[u16]) -> Result<(), Fault> {
+        self.queues.send(sender, lengths)?;
+        self.others.send(sender, lengths)
     }
 
     // Pulls both at each of these moments.
@@ -192,6 +198,24 @@ fn pace_needs_no_log(rt: HostRuntime) -> Result<(), Fault> {
         );
         let mut both = Both::new(&rt, alloc, tree, again, keeps);
         assert_alike(&rt, alloc, &mut both, 2, 2)?;
+    }
+    Ok(())
+}
+
+// Packets come from one sender after another, so most subtrees are idle at a time. A session that keeps nothing skips them.
+#[test]
+fn idle_subtrees_need_no_log(rt: HostRuntime) -> Result<(), Fault> {
+    let alloc = rt.alloc();
+    for keeps in STEADY {
+        let (tree, again) = (three_levels(alloc), three_levels(alloc));
+        let mut both = Both::new(&rt, alloc, tree, again, keeps);
+        for sender in 0..8 {
+            both.send_one(sender, &[150, 900, 40])?;
+            both.pulls(&rt, &[0, 0, 0, 1, 2, 3, 3, 4])?;
+            both.assert_same_heads(&rt, alloc)?;
+        }
+        both.pulls(&rt, &[9, 9, 9, 9, 10, 11, 12, 13, 14, 15, 16, 17])?;
+        both.assert_same(&rt, alloc, 24)?;
     }
     Ok(())
 }
