@@ -93,7 +93,19 @@ next-ready terms all done left before f outcome next h ready = search (rules, re
 -- Why a device isn't closed: the first queue of its own that lost packets is the first of all, where those of the devices before it reached
 -- their capacities.
 lost-behind : (earlier own later : List SeatedQueue) (fault : Fault) → AllByRecursion HasReached earlier → NamesFirstLost own fault → NamesFirstLost (earlier ++ (own ++ later)) fault
-lost-behind earlier own later fault reached names = search (rules, append_assoc, all-join)
+lost-behind earlier own later fault reached names = record {
+  earlier = earlier ++ names.earlier;
+  first = names.first;
+  later = names.later ++ later;
+  all =
+      ap (λ queues. earlier ++ (queues ++ later)) names.all
+      ∙ ap (λ queues. earlier ++ queues) (append_assoc names.earlier (names.first ∷ names.later) later)
+      ∙ sym (append_assoc earlier names.earlier (names.first ∷ (names.later ++ later)));
+  reached = all-join HasReached earlier names.earlier reached names.reached;
+  taken = names.taken;
+  below = names.below;
+  fault_is = names.fault_is;
+}
 
 fault-behind : (done left : List Feed) (f : Feed) (fault : Fault) → AllByRecursion HasReached (seated_in done) → IsFaultOfDrain f.lines fault → IsFaultOfClosing (done ++ f ∷ left) fault
 fault-behind done left f fault reached o = search (rules, flat_map-append, lost-behind)

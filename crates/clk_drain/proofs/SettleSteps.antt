@@ -1,5 +1,5 @@
 -- Lines are settled one after another.
-use Rattle.std.proofs.Common.{◌≡◌, ◌⊎◌, ℕ, List, [], ◌∷◌, ◌++◌, map, refl, ap, rules}
+use Rattle.std.proofs.Common.{◌≡◌, ◌⊎◌, ℕ, List, [], ◌∷◌, ◌++◌, map, refl, ap, rules, inl, inr, subst}
 use Rattle.std.specs.List.{AllByRecursion}
 use Rattle.std.proofs.lemmas.List.{map-append}
 use Rattle.clk_packet.specs.declared.fault.Fault.{Fault}
@@ -7,7 +7,7 @@ use Rattle.clk_packet.specs.declared.tally.Tally.{Tally}
 use Rattle.clk_packet.specs.declared.fault.Fault.TheVariants.{Memory}
 use Rattle.clk_ruled.specs.Queue.{SeatLists}
 use Rattle.clk_ruled.specs.Rule.{senders_of}
-use Rattle.clk_ruled.specs.Settle.{AreTogether, IsFaultOfSettle}
+use Rattle.clk_ruled.specs.Settle.{AreTogether, IsFaultOfSettle, HasLostBelow}
 use Rattle.clk_drain.specs.Line.{LineLists, seats_of, senders_at}
 use Rattle.clk_drain.specs.Closing.{seated, tallies_in}
 use Rattle.clk_drain.specs.Lost.{HasReached, NamesFirstLost}
@@ -34,7 +34,17 @@ its-senders l together = search (rules, named)
 
 -- a line that can't be settled, behind those that are
 unsettled-behind : (done rest : List LineLists) (l : LineLists) (fault : Fault) → AllByRecursion IsSettledLine done → AreTogether l.tap l.closed → IsFaultOfSettle l.tap l.closed l.leaf fault → (fault ≡ Memory) ⊎ NamesFirstLost (map seated (done ++ l ∷ rest)) fault
-unsettled-behind done rest l fault h together o = search (rules, map-append, each-reached, its-senders)
+unsettled-behind done rest l fault h together (inl memory) = inl memory
+unsettled-behind done rest l fault h together (inr why) = inr (record {
+  earlier = map seated done;
+  first = seated l;
+  later = map seated rest;
+  all = map-append seated done (l ∷ rest);
+  reached = each-reached done h;
+  taken = l.tap.taken;
+  below = subst (λ senders. HasLostBelow l.tap.setup.kind l.tap.setup.capacity senders (seats_of l) l.tap.taken) (its-senders l together) why.1;
+  fault_is = why.0;
+})
 
 pub unsettled-next : (lines done rest : List LineLists) (l : LineLists) (tallies : List Tally) (before : List LineLists) (fault : Fault) → before ≡ l ∷ rest → AreTogether l.tap l.closed → IsFaultOfSettle l.tap l.closed l.leaf fault → AreSettling lines done before tallies
     → (fault ≡ Memory) ⊎ NamesFirstLost (map seated lines) fault

@@ -139,7 +139,14 @@ each-kind tap (c ∷ closed) of = search (rules, (each-kind tap closed of.1))
 -- The queue lost packets below its capacity.
 pub lost-below : (tap new : TapLists) (closed : List ClosedLists) → AreTogether tap closed → (new.setup ≡ tap.setup) × (new.taken ≡ tap.taken) → HasEach new (lists_of closed) → IsAccounted new
     → AllByRecursion IsSharedOut (lists_of closed) → 0 < lost_count (lists_of closed) → accepted_count (lists_of closed) < tap.setup.capacity → HasLostBelow tap.setup.kind tap.setup.capacity (senders_of tap.setup) (lists_of closed) tap.taken
-lost-below tap new closed together same has a dealt lost below = search (rules, (whole-account tap new closed together same has a), each-kind)
+lost-below tap new closed together same has a dealt lost below = record {
+  held = a.held;
+  account = whole-account tap new closed together same has a;
+  kinds = each-kind tap closed together.each;
+  shared = dealt;
+  lost = lost;
+  below = below;
+}
 
 -- All is told.
 pub settles : (tap new : TapLists) (closed : List ClosedLists) (pulled : List Packet) (told : List Tally) → (tap.keeps ≡ true → pulled ≡ tap.taken) → AreTogether tap closed → (new.setup ≡ tap.setup) × (new.taken ≡ tap.taken) → HasEach new (lists_of closed) → IsAccounted new
