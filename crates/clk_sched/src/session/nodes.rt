@@ -62,6 +62,21 @@ impl Nodes {
         }
     }
 
+    /// Pulls a node. With `again` it looks whether the pull can be skipped.
+    // Inlined as a function, so that only this branch clears room for the result.
+    #[cycle(pull)]
+    #[inline(always)]
+    fn pull_or_skip<Q: Ask>(&mut self, q: &mut Q, node: u16, again: bool) -> Option<Packet>
+        requires can_pull { CanPull self.old node (edges_of self.old.inputs.items node) }
+        ensures { WasPulled Q.gives self.old self.new q.old q.new node result }
+    {
+        if again {
+            self.pull_again(q, node)
+        } else {
+            self.pull(q, node)
+        }
+    }
+
     /// Pulls a node, or skips the pull if it is known to give nothing and to change nothing.
     // A function of its own, so that a pull that gives a packet at once pays nothing for it.
     #[cycle(pull)]
@@ -284,12 +299,7 @@ impl Nodes {
     {
         match self.inputs[node as usize].each[input as usize] {
             Input::Queue(leaf) => q.ask(leaf),
-            Input::Node(child) => {
-                if again {
-                    return self.pull_again(q, child);
-                }
-                self.pull(q, child)
-            }
+            Input::Node(child) => self.pull_or_skip(q, child, again),
         }
     }
 }

@@ -16,7 +16,7 @@ use Rattle.clk_sched.specs.inside.Places.{edges_in, input_at}
 use Rattle.clk_sched.specs.inside.Pulling.{CanPull}
 use Rattle.clk_sched.specs.inside.Ranks.{AreInOrder, inputs_in}
 use Rattle.clk_sched.proofs.Nodes.Asking.{keeps-more, answers-then, asking-ready, asking-given, asking-next, asking-all}
-use Rattle.clk_sched.proofs.Nodes.Asked.{entry, rank_at, entry-input, input-is, edges-scheduler, queue-visited, asks-queue, asks-child, child-can}
+use Rattle.clk_sched.proofs.Nodes.Asked.{entry, rank_at, entry-input, input-is, edges-scheduler, queue-visited, asks-queue, asks-child}
 use Rattle.clk_sched.proofs.Classes.RankLemmas.{after-place, inputs-after, in_order-after}
 use Rattle.clk_sched.proofs.Nodes.Idle.{rest-can, asking-past, asking-still, turn-can, turn-past}
 use Rattle.clk_sched.proofs.Nodes.Placed.{can-turn, kept-there, pulled-back}
@@ -43,41 +43,18 @@ nodes::Nodes::ask-returns-in-Queue-clause-answers g t c = search (rules, entry, 
 pub nodes::Nodes::ask-returns-in-Queue-clause-asks : goal.nodes::Nodes::ask-returns-in-Queue-clause-asks
 nodes::Nodes::ask-returns-in-Queue-clause-asks g t c = search (rules, entry, input-is, asks-queue)
 
-pub nodes::Nodes::ask-pull-requires : goal.nodes::Nodes::ask-pull-requires
-nodes::Nodes::ask-pull-requires g t c =
-    let n = c.args.self.now in
-    let table = n.inputs.items in
-    let place = entry table c.args.node c.index.result.now (c.requires.can_pull.there) c.index.ensures in
-    let input : input_at table c.args.node c.args.input ≡ Some (Node c.in-Node.child) = input-is table c.args.node c.args.input c.index.result.now c.index-2.result.now place c.requires.within c.index-2.ensures ∙ ap Some c.in-Node.is in
-    let can = child-can n c.args.node c.args.input c.in-Node.child c.requires.can_pull input in
-    let less = c.decreases in
-    λ κs le. (omega (arith, can, less), (search, can.1))
+pub nodes::Nodes::ask-returns-in-Node-clause-keeps : goal.nodes::Nodes::ask-returns-in-Node-clause-keeps
+nodes::Nodes::ask-returns-in-Node-clause-keeps g t c = search (rules, entry, input-is, edges-scheduler, keeps-more)
 
-pub nodes::Nodes::ask-returns-then-again-clause-keeps : goal.nodes::Nodes::ask-returns-then-again-clause-keeps
-nodes::Nodes::ask-returns-then-again-clause-keeps g t c = search (rules, entry, input-is, edges-scheduler, keeps-more)
+pub nodes::Nodes::ask-returns-in-Node-clause-answers : goal.nodes::Nodes::ask-returns-in-Node-clause-answers
+nodes::Nodes::ask-returns-in-Node-clause-answers g t c = search (rules, entry, input-is, answers-then, queue-visited)
 
-pub nodes::Nodes::ask-returns-then-again-clause-answers : goal.nodes::Nodes::ask-returns-then-again-clause-answers
-nodes::Nodes::ask-returns-then-again-clause-answers g t c = search (rules, entry, input-is, answers-then, queue-visited)
-
-pub nodes::Nodes::ask-returns-then-again-clause-asks : goal.nodes::Nodes::ask-returns-then-again-clause-asks
-nodes::Nodes::ask-returns-then-again-clause-asks g t c =
+pub nodes::Nodes::ask-returns-in-Node-clause-asks : goal.nodes::Nodes::ask-returns-in-Node-clause-asks
+nodes::Nodes::ask-returns-in-Node-clause-asks g t c =
     let table = c.args.self.now.inputs.items in
     let place = entry table c.args.node c.index.result.now (c.requires.can_pull.there) c.index.ensures in
     let input : input_at table c.args.node c.args.input ≡ Some (Node c.in-Node.child) = input-is table c.args.node c.args.input c.index.result.now c.index-2.result.now place c.requires.within c.index-2.ensures ∙ ap Some c.in-Node.is in
-    asks-child c.args.self.now c.pull_again.new.self c.args.node c.args.input c.in-Node.child c.pull_again.result input c.pull_again.ensures.pulls
-
-pub nodes::Nodes::ask-returns-else-again-clause-keeps : goal.nodes::Nodes::ask-returns-else-again-clause-keeps
-nodes::Nodes::ask-returns-else-again-clause-keeps g t c = search (rules, entry, input-is, edges-scheduler, keeps-more)
-
-pub nodes::Nodes::ask-returns-else-again-clause-answers : goal.nodes::Nodes::ask-returns-else-again-clause-answers
-nodes::Nodes::ask-returns-else-again-clause-answers g t c = search (rules, entry, input-is, answers-then, queue-visited)
-
-pub nodes::Nodes::ask-returns-else-again-clause-asks : goal.nodes::Nodes::ask-returns-else-again-clause-asks
-nodes::Nodes::ask-returns-else-again-clause-asks g t c =
-    let table = c.args.self.now.inputs.items in
-    let place = entry table c.args.node c.index.result.now (c.requires.can_pull.there) c.index.ensures in
-    let input : input_at table c.args.node c.args.input ≡ Some (Node c.in-Node.child) = input-is table c.args.node c.args.input c.index.result.now c.index-2.result.now place c.requires.within c.index-2.ensures ∙ ap Some c.in-Node.is in
-    asks-child c.args.self.now c.pull.new.self c.args.node c.args.input c.in-Node.child c.pull.result input c.pull.ensures.pulls
+    asks-child c.args.self.now c.pull_or_skip.new.self c.args.node c.args.input c.in-Node.child c.pull_or_skip.result input c.pull_or_skip.ensures.pulls
 
 pub nodes::Nodes::ask_in_order-pass_idle_of-idle-requires : goal.nodes::Nodes::ask_in_order-pass_idle_of-idle-requires
 nodes::Nodes::ask_in_order-pass_idle_of-idle-requires g t c =

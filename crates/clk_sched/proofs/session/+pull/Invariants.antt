@@ -7,7 +7,7 @@ use Rattle.clk_sched.proofs.session.+pull.Given as goal
 
 -- a node is pulled before those below it, and each step of its pull before the next
 abbrev rank : ℕ → ℕ → ℕ → ℕ
-rank size x step = 8 * (size - x) + step
+rank size x step = 9 * (size - x) + step
 
 abbrev pub decreases-nodes::Nodes::ask : goal.decreases-nodes::Nodes::ask
 decreases-nodes::Nodes::ask g l = rank (length l.self.now.inputs.items) l.node 0
@@ -50,6 +50,9 @@ decreases-shaper::Bucket::pull g l = rank (length l.nodes.now.inputs.items) l.no
 
 abbrev pub decreases-nodes::Nodes::pull : goal.decreases-nodes::Nodes::pull
 decreases-nodes::Nodes::pull g l = rank (length l.self.now.inputs.items) l.node 6
+
+abbrev pub decreases-nodes::Nodes::pull_or_skip : goal.decreases-nodes::Nodes::pull_or_skip
+decreases-nodes::Nodes::pull_or_skip g l = rank (length l.self.now.inputs.items) l.node 8
 
 abbrev pub decreases-nodes::Nodes::pull_again : goal.decreases-nodes::Nodes::pull_again
 decreases-nodes::Nodes::pull_again g l = rank (length l.self.now.inputs.items) l.node 7
