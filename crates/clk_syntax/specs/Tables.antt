@@ -4,7 +4,7 @@ use Rattle.std.specs.List.{AllByRecursion}
 use Rattle.clk_syntax.specs.declared.naming.class.Role.{Role}
 use Rattle.clk_syntax.specs.declared.naming.class.Role.TheVariants as role
 use Rattle.clk_syntax.specs.declared.node.Link.{Link}
-use Rattle.clk_syntax.specs.declared.checks.tables.Inputs.{Inputs}
+use Rattle.clk_syntax.specs.declared.checks.tables.InputUse.{InputUse}
 use Rattle.clk_syntax.specs.declared.checks.tables.Graph.{Graph}
 use Rattle.clk_syntax.specs.Limits.{most_tree_bytes}
 use Rattle.clk_syntax.specs.Within.{IsLinkWithin}
@@ -16,7 +16,7 @@ count_to i [] = 0
 count_to i (c ∷ more) = if c.to == i then count_to i more + 1 else count_to i more
 
 -- what the connections use of the inputs of an element: how many lead to it, and one more than the greatest input that is connected
-abbrev pub inputs_at : ℕ → List Link → Inputs
+abbrev pub inputs_at : ℕ → List Link → InputUse
 inputs_at i links = record { count = count_to i links; end = inputs_used i links }
 
 -- a table of where the first connection from each of `n` elements leads
@@ -25,7 +25,7 @@ pub record IsTargets (n : ℕ) (links : List Link) (table : List (Option ℕ)) :
   pub each : (i : ℕ) → i < n → get_or table i None ≡ target i links
 
 -- a table of what the connections use of the inputs of each of `n` elements
-pub record IsInputs (n : ℕ) (links : List Link) (table : List Inputs) : Type 0 where
+pub record IsInputs (n : ℕ) (links : List Link) (table : List InputUse) : Type 0 where
   pub len : length table ≡ n
   pub each : (i : ℕ) → i < n → get_or table i (record { count = 0; end = 0 }) ≡ inputs_at i links
 

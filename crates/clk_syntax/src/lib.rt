@@ -11,7 +11,7 @@ mod reading;
 mod texts;
 
 pub use checks::check_graph;
-pub use checks::tables::{Graph, Inputs};
+pub use checks::tables::{Graph, InputUse};
 pub use examples::{fault_examples, order_examples};
 pub use laws::{
     right_tokens_are_texts, texts_can_be_read, texts_have_one_reading,

@@ -19,7 +19,7 @@ ghost use Rattle.clk_syntax.specs.Within.{IsWithin, AreWithin, IsDeclaredWithin,
 
 use crate::limits::MAX_PORT;
 use crate::naming::class::{Class, ClassName, Role, letters};
-use crate::naming::names::Names;
+use crate::naming::names::DeclaredNames;
 use crate::naming::numbers::Numbers;
 use crate::node::{Link, Node};
 use crate::texts::statements::{Connection, Declaration, Statements};
@@ -78,13 +78,13 @@ fn names_of<'a>(
     alloc: Global,
     text: &'a [u8],
     declarations: &[Declaration],
-) -> Result<Names<'a>, Fault>
+) -> Result<DeclaredNames<'a>, Fault>
     requires within { AllByRecursion (IsDeclaredWithin (length text.now)) (map kept declarations.now) }
     requires few { words_in (map kept declarations.now) ≤ most_tree_bytes }
     ensures { let all = elements text.now (map kept declarations.now) in
         MatchResult result (λ names. (name_twice all ≡ None) × IsTable all names) (Stops (option_map NameTwice (name_twice all))) }
 {
-    let mut names = Names::new(alloc, declarations.len())?;
+    let mut names = DeclaredNames::new(alloc, declarations.len())?;
     for declaration in declarations {
         declare(&mut names, text, declaration)?;
     }
@@ -93,7 +93,7 @@ fn names_of<'a>(
 
 /// Declares the names of a declaration. Fault 5 at a name that was declared before, and fault 1 if an allocation fails.
 fn declare<'a>(
-    names: &mut Names<'a>,
+    names: &mut DeclaredNames<'a>,
     text: &'a [u8],
     declaration: &Declaration,
 ) -> Result<(), Fault>
@@ -238,7 +238,7 @@ fn push_nodes(nodes: &mut Vec<Node>, names: &[Token], role: Role) -> Result<(), 
 fn links_of<'a>(
     alloc: Global,
     text: &'a [u8],
-    names: &Names<'a>,
+    names: &DeclaredNames<'a>,
     connections: &[Connection],
 ) -> Result<Vec<Link>, Fault>
     requires within { AllByRecursion (IsConnectedWithin (length text.now)) connections.now }
@@ -257,7 +257,11 @@ fn links_of<'a>(
 }
 
 /// A connection. Fault 6 at the name that isn't declared.
-fn link_of<'a>(text: &'a [u8], names: &Names<'a>, connection: &Connection) -> Result<Link, Fault>
+fn link_of<'a>(
+    text: &'a [u8],
+    names: &DeclaredNames<'a>,
+    connection: &Connection,
+) -> Result<Link, Fault>
     requires within { IsConnectedWithin (length text.now) connection.now }
     requires numbers { HasNumbers text.now connection.now }
     ensures { (all : List Element) → IsTable all names.now → MatchResult result
@@ -279,7 +283,7 @@ fn link_of<'a>(text: &'a [u8], names: &Names<'a>, connection: &Connection) -> Re
 }
 
 /// The place of the element of this name. Fault 6 if it isn't declared.
-fn place_at<'a>(text: &'a [u8], names: &Names<'a>, name: &Token) -> Result<u32, Fault>
+fn place_at<'a>(text: &'a [u8], names: &DeclaredNames<'a>, name: &Token) -> Result<u32, Fault>
     requires { IsWithin (length text.now) name.now }
     ensures { (all : List Element) → IsTable all names.now → MatchResult result
         (λ place. (unknown_end all (word text.now name.now) ≡ None)

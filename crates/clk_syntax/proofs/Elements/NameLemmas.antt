@@ -4,7 +4,7 @@ use Rattle.std.specs.Option.{is_some}
 use Rattle.std.specs.Map.{update}
 use Rattle.std.specs.Str.{bytes_eq}
 use Rattle.std.proofs.lemmas.Slice.Eq.{bytes_eq-Decides}
-use Rattle.clk_syntax.specs.declared.naming.names.Names.{Names}
+use Rattle.clk_syntax.specs.declared.naming.names.DeclaredNames.{DeclaredNames}
 use Rattle.clk_syntax.specs.Source.{Element}
 use Rattle.clk_syntax.specs.Declarations.{first_after, fails_at, is_declared, name_twice}
 use Rattle.clk_syntax.specs.Faults.{place_of}
@@ -15,11 +15,11 @@ latest-some [] name = refl
 latest-some (e ∷ earlier) name = search (rules, (latest-some earlier name))
 
 -- a name that was declared before
-pub Declares-twice : (all rest : List Element) (names : Names) (e : Element) → is_some (place_in names e.name.letters) ≡ true → Declares all (e ∷ rest) names → name_twice all ≡ Some e.name.place
+pub Declares-twice : (all rest : List Element) (names : DeclaredNames) (e : Element) → is_some (place_in names e.name.letters) ≡ true → Declares all (e ∷ rest) names → name_twice all ≡ Some e.name.place
 Declares-twice all rest names e some h = search (rules, latest-some)
 
 -- one name more, which wasn't
-pub Declares-more : (all rest : List Element) (old new : Names) (e : Element) → is_some (place_in old e.name.letters) ≡ false
+pub Declares-more : (all rest : List Element) (old new : DeclaredNames) (e : Element) → is_some (place_in old e.name.letters) ≡ false
     → ((name : List ℕ) → place_in new name ≡ update bytes_eq (place_in old) e.name.letters (Some old.count) name) → new.count ≡ old.count + 1 → Declares all (e ∷ rest) old → Declares all rest new
 Declares-more all rest old new e none placed counted h = search (rules, latest-some)
 
@@ -51,5 +51,5 @@ turned-place earlier (e ∷ rest) name once =
     by_test b eq place none = search (rules, once-first, latest-none, bytes_eq-Decides)
 
 -- when all names are declared
-pub Declares-all : (all : List Element) (names : Names) → Declares all [] names → (name_twice all ≡ None) × IsTable all names
+pub Declares-all : (all : List Element) (names : DeclaredNames) → Declares all [] names → (name_twice all ≡ None) × IsTable all names
 Declares-all all names h = search (rules, turned-place, zero-add)

@@ -5,7 +5,7 @@ use Rattle.clk_syntax.specs.declared.naming.class.Role.{Role}
 use Rattle.clk_syntax.specs.declared.naming.class.Role.TheVariants as role
 use Rattle.clk_syntax.specs.declared.node.Node.{Node}
 use Rattle.clk_syntax.specs.declared.node.Link.{Link}
-use Rattle.clk_syntax.specs.declared.checks.tables.Inputs.{Inputs}
+use Rattle.clk_syntax.specs.declared.checks.tables.InputUse.{InputUse}
 use Rattle.clk_syntax.specs.Tables.{inputs_with}
 use Rattle.clk_syntax.specs.Declarations.{fails_at}
 use Rattle.clk_syntax.specs.Ports.{role_at, has_output, has_input, is_source, is_queue, differ, inputs_of, output_connected, all_connected, follow}
@@ -50,7 +50,7 @@ leads_on role.Device to = true
 leads_on r to = is_some to
 
 -- whether an element's pull inputs are connected, by how many connections lead to them, if none is used twice
-abbrev pub has_inputs : Role → Inputs → Bool
+abbrev pub has_inputs : Role → InputUse → Bool
 has_inputs role.Source inputs = true
 has_inputs role.Queue inputs = true
 has_inputs r inputs = inputs.count == inputs_with r inputs.end

@@ -12,7 +12,7 @@ use Rattle.clk_packet.specs.declared.fault.Fault.TheVariants.{Memory}
 use Rattle.clk_syntax.specs.Declarations.{class_in, first_after, fails_at, is_declared, name_twice, class_of, is_sender, is_bad_after, bad_argument, unknown_end}
 use Rattle.clk_syntax.specs.Classes.{is_class, Class, sender}
 use Rattle.clk_syntax.specs.declared.naming.class.Role.{Role}
-use Rattle.clk_syntax.specs.declared.naming.names.Names.{Names}
+use Rattle.clk_syntax.specs.declared.naming.names.DeclaredNames.{DeclaredNames}
 use Rattle.clk_syntax.specs.declared.naming.Judged.{Judged}
 use Rattle.clk_syntax.specs.declared.node.Link.{Link}
 use Rattle.clk_syntax.specs.declared.node.Node.{Node}
@@ -40,15 +40,15 @@ place_there None name = None
 place_there (Some known) name = if bytes_eq known.0.now name then Some known.1 else None
 
 -- the place that a table has for a name whose slot is another's
-abbrev pub place_else : Names → List ℕ → Option ℕ
+abbrev pub place_else : DeclaredNames → List ℕ → Option ℕ
 place_else names name = get_by (λ key. ordering_then (nat_cmp (mixed name) key.0) (slice_cmp nat_cmp name key.1.now)) names.more
 
 -- the place that a table has for a name
-abbrev pub place_in : Names → List ℕ → Option ℕ
+abbrev pub place_in : DeclaredNames → List ℕ → Option ℕ
 place_in names name = option_or (place_there (slot_at names.slots.items name) name) (place_else names name)
 
 -- a name whose slot is free isn't elsewhere
-abbrev pub IsSlotted : Names → Type 0
+abbrev pub IsSlotted : DeclaredNames → Type 0
 IsSlotted names = (name : List ℕ) → slot_at names.slots.items name ≡ None → place_else names name ≡ None
 
 -- the place of a name among elements of which the latest stands first
@@ -62,7 +62,7 @@ turned earlier [] = earlier
 turned earlier (e ∷ more) = turned (e ∷ earlier) more
 
 -- All elements but these, the rest, are in a table, and none of their names is there twice.
-pub record Declares (all rest : List Element) (names : Names) : Type 0 where
+pub record Declares (all rest : List Element) (names : DeclaredNames) : Type 0 where
   pub earlier : List Element
   pub order : turned earlier rest ≡ turned [] all
   pub count : names.count ≡ length earlier
@@ -74,7 +74,7 @@ abbrev pub place_if : List Element → List ℕ → Option ℕ
 place_if elements name = if is_declared name elements then Some (place_of elements name) else None
 
 -- a table has the place of each name among elements
-abbrev pub IsTable : List Element → Names → Type 0
+abbrev pub IsTable : List Element → DeclaredNames → Type 0
 IsTable elements names = (name : List ℕ) → place_in names name ≡ place_if elements name
 
 -- why a check fails: it finds this fault, or an allocation failed (fault 1)

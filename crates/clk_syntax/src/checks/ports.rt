@@ -8,7 +8,7 @@ ghost use Rattle.clk_syntax.specs.inside.Used.{is_used, size};
 ghost use Rattle.clk_syntax.specs.Tables.{IsTabled};
 ghost use Rattle.clk_syntax.specs.inside.Checks.{bad_link, mixed_link, again, leads_on, has_inputs, is_connected};
 
-use crate::checks::tables::{Graph, Inputs};
+use crate::checks::tables::{Graph, InputUse};
 use crate::checks::used::UsedInputs;
 use crate::naming::class::Role;
 use crate::node::{Link, Node};
@@ -112,7 +112,7 @@ fn leads_on(role: Role, target: Option<u32>) -> bool
 }
 
 /// Whether all pull inputs of an element are connected, if none is used twice.
-fn has_inputs(role: Role, inputs: Inputs) -> bool
+fn has_inputs(role: Role, inputs: InputUse) -> bool
     ensures { result ≡ has_inputs role inputs }
 {
     match role {

@@ -14,7 +14,7 @@ use std::alloc::Global;
 
 /// What the connections use of the inputs of an element.
 #[derive(Clone, Copy, Debug, PartialEq, Eq)]
-pub struct Inputs {
+pub struct InputUse {
     /// How many connections lead to it.
     pub count: u32,
     /// One more than the greatest input that is connected, or 0.
@@ -29,7 +29,7 @@ pub struct Graph<'a> {
     /// Where the first connection from each element leads, if there is one.
     targets: Vec<Option<u32>>,
     /// What the connections use of the inputs of each element.
-    inputs: Vec<Inputs>,
+    inputs: Vec<InputUse>,
 }
 
 impl<'a> Graph<'a> {
@@ -81,7 +81,7 @@ impl<'a> Graph<'a> {
     }
 
     /// What the connections use of the inputs of the element at a place.
-    pub fn inputs(&self, place: u32) -> Inputs
+    pub fn inputs(&self, place: u32) -> InputUse
         requires tabled { IsTabled self.now }
         requires place { place < length self.now.nodes.now }
         ensures { result ≡ inputs_at place self.now.links.now }
@@ -106,19 +106,19 @@ fn targets_of(alloc: Global, nodes: &[Node], links: &[Link]) -> Result<Vec<Optio
 }
 
 /// What the connections use of the inputs of each element. Fault 1 if an allocation fails.
-fn inputs_of(alloc: Global, nodes: &[Node], links: &[Link]) -> Result<Vec<Inputs>, Fault>
+fn inputs_of(alloc: Global, nodes: &[Node], links: &[Link]) -> Result<Vec<InputUse>, Fault>
     requires few { length links.now ≤ most_tree_bytes }
     requires within { AllByRecursion (IsLinkWithin nodes.now) links.now }
     requires ports { AllByRecursion HasPorts links.now }
     ensures made { IfOk result (λ inputs. IsInputs (length nodes.now) links.now inputs.items) }
     ensures fault { IsOkUnless result Fault.Memory }
 {
-    let none = Inputs { count: 0, end: 0 };
+    let none = InputUse { count: 0, end: 0 };
     let mut inputs = vec![in alloc; none; nodes.len()]?;
     for place in (0..links.len()).rev() {
         let link = links[place];
         let used = inputs[link.to as usize];
-        inputs[link.to as usize] = Inputs {
+        inputs[link.to as usize] = InputUse {
             count: used.count + 1,
             end: used.end.max(link.input + 1),
         };

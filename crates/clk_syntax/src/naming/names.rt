@@ -12,7 +12,7 @@ const SPREAD: u64 = 11_400_714_819_323_198_485;
 /// Names as they are declared one after another, each with the number of those before it. The work for each is logarithmic in their
 /// number, whatever they are.
 #[derive(Drop)]
-pub struct Names<'a> {
+pub struct DeclaredNames<'a> {
     /// A name with its place, in the slot that its hash leads to. Most names are there, so that they are found at once.
     slots: Vec<Option<(&'a [u8], u32)>>,
     /// The names whose slot is another's, sorted. So no names are slow to find, even if a text chooses them for that.
@@ -21,7 +21,7 @@ pub struct Names<'a> {
     ghost some: { 0 < length slots.items },
 }
 
-impl<'a> Names<'a> {
+impl<'a> DeclaredNames<'a> {
     ghost use Rattle.std.specs.Prelude.{◌≡◌, ℕ, ◌+◌, ◌<◌, ◌^◌, List, not, None, Some, IfOk, OnOk, IsOkUnless};
     ghost use Rattle.std.specs.Map.{update};
     ghost use Rattle.std.specs.Option.{is_some};
@@ -29,14 +29,14 @@ impl<'a> Names<'a> {
     ghost use Rattle.clk_syntax.specs.inside.Naming.{mixed_from, mixed, place_in, IsSlotted};
 
     /// No names, with room for about so many. Fault 1 if an allocation fails.
-    pub fn new(alloc: Global, room: usize) -> Result<Names<'a>, Fault>
+    pub fn new(alloc: Global, room: usize) -> Result<DeclaredNames<'a>, Fault>
         ensures none { IfOk result (λ names. (name : List ℕ) → place_in names name ≡ None) }
         ensures count { IfOk result (λ names. names.count ≡ 0) }
         ensures slots { IfOk result IsSlotted }
         ensures fault { IsOkUnless result Fault.Memory }
     {
         let slots = vec![in alloc; None; room.saturating_mul(3).max(1)]?;
-        Ok(Names {
+        Ok(DeclaredNames {
             slots,
             more: BTreeMap::new(alloc),
             count: 0,
@@ -53,7 +53,7 @@ impl<'a> Names<'a> {
         ensures slots { OnOk result (IsSlotted self.new) }
         ensures fault { IsOkUnless result Fault.Memory }
     {
-        let number = Names::mixed(name);
+        let number = DeclaredNames::mixed(name);
         let place = self.count;
         let slot = (number % self.slots.len() as u64) as usize;
         match self.slots[slot] {
@@ -79,7 +79,7 @@ impl<'a> Names<'a> {
     pub fn place_of(&self, name: &'a [u8]) -> Option<u32>
         ensures { result ≡ place_in self.now name.now }
     {
-        let number = Names::mixed(name);
+        let number = DeclaredNames::mixed(name);
         let slot = (number % self.slots.len() as u64) as usize;
         if let Some((known, place)) = self.slots[slot] {
             if known == name {
@@ -106,10 +106,10 @@ impl<'a> Names<'a> {
         ensures { result ≡ mixed name.now }
     {
         if name.len() <= 32 {
-            return Names::mixed_from(0, name);
+            return DeclaredNames::mixed_from(0, name);
         }
         let (first, _) = name.split_at(16);
         let (_, last) = name.split_at(name.len() - 16);
-        Names::mixed_from(Names::mixed_from(0, first), last)
+        DeclaredNames::mixed_from(DeclaredNames::mixed_from(0, first), last)
     }
 }

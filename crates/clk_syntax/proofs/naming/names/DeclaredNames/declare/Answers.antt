@@ -3,7 +3,7 @@ use Rattle.std.specs.Str.{bytes_eq}
 use Rattle.clk_syntax.specs.inside.Naming.{place_else}
 use Rattle.clk_syntax.proofs.Elements.MixedLemmas.{updates-name}
 use Rattle.clk_syntax.proofs.Elements.SlotLemmas.{slot-taken, else-found, else-slotted}
-use Rattle.clk_syntax.proofs.naming.names.Names.declare.Goals as goal
+use Rattle.clk_syntax.proofs.naming.names.DeclaredNames.declare.Goals as goal
 
 pub returns-in_ok-earlier-in-Some-clause-placed : goal.returns-in_ok-earlier-in-Some-clause-placed
 returns-in_ok-earlier-in-Some-clause-placed c =

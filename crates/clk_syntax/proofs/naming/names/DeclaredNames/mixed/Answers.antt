@@ -1,7 +1,7 @@
 use Rattle.std.proofs.Common.{◌≡◌, ◌∙◌, ◌-◌, length, take, drop, true, false, nat_le, if◌then◌else◌, sym, ap, ap₂, arith}
 use Rattle.std.proofs.lemmas.Bool.Decides.{nat_tests}
 use Rattle.clk_syntax.specs.inside.Naming.{mixed_from, mixed}
-use Rattle.clk_syntax.proofs.naming.names.Names.mixed.Goals as goal
+use Rattle.clk_syntax.proofs.naming.names.DeclaredNames.mixed.Goals as goal
 
 pub returns-then-name-le32 : goal.returns-then-name-le32
 unfolding mixed
