@@ -27,7 +27,7 @@ use crate::over::{
 use crate::together::{live_then_visits, run_then_visits, script_then_visits};
 use clap::Error;
 use clap::error::ErrorKind;
-use clk_files::{Heard, Inputs, Opener, Recalls, explain_fault, input_of, tree_of};
+use clk_files::{Heard, Opener, Recalls, TaskInputs, explain_fault, input_of, tree_of};
 use clk_packet::{Fault, Sink, Source, ToWrite, write_all};
 use clk_script::run_script;
 use clk_tree::Plan;
@@ -144,7 +144,7 @@ pub fn command<
             };
             if explained {
                 let path = input_of(asked).unwrap_or("");
-                let inputs = Inputs {
+                let inputs = TaskInputs {
                     tree: heard_at(tree_of(asked), reader.heard(), &tree),
                     input: heard_at(path, reader.heard(), &input),
                 };

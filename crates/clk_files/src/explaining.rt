@@ -17,7 +17,7 @@ use std::alloc::Global;
 
 /// What was read of the tree of a task, and of its script or trace. `None` if it can't be kept.
 #[derive(Clone, Copy)]
-pub struct Inputs<'a> {
+pub struct TaskInputs<'a> {
     pub tree: Option<&'a Heard>,
     pub input: Option<&'a Heard>,
 }
@@ -28,7 +28,7 @@ pub struct Inputs<'a> {
 pub fn explain_fault<E: Sink>(
     alloc: Global,
     asked: Asked<'_>,
-    inputs: Inputs<'_>,
+    inputs: TaskInputs<'_>,
     failure: Option<Failure>,
     fault: Fault,
     errors: &mut E,

@@ -7,6 +7,6 @@ mod files;
 mod heard;
 mod mistakes;
 
-pub use explaining::{Inputs, explain_fault, input_of, tree_of};
+pub use explaining::{TaskInputs, explain_fault, input_of, tree_of};
 pub use files::{Failure, FileToRead, FileToWrite, Opener, Purpose};
 pub use heard::{Heard, Recalled, Recalls};
