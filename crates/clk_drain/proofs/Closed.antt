@@ -1,12 +1,13 @@
 -- What closing a session over its lines comes to.
-use Rattle.std.proofs.Common.{◌≡◌, ℕ, true, List, [], ◌∷◌, map, max, refl, sym, ◌∙◌, subst, rules}
+use Rattle.std.proofs.Common.{◌≡◌, ℕ, ◌||◌, Bool, true, false, List, [], ◌∷◌, map, max, refl, sym, ap, ◌∙◌, subst, rules}
 use Rattle.std.specs.List.{AllByRecursion}
 use Rattle.clk_packet.specs.declared.packet.Packet.{Packet}
 use Rattle.clk_packet.specs.declared.tally.Tally.{Tally}
 use Rattle.clk_sched.specs.Tree.{Tree, leaves_distinct}
 use Rattle.clk_sched.specs.Conservation.{ConservesPackets, ConservesCounts, MakesNothing}
 use Rattle.clk_sched.specs.Results.{emitted}
-use Rattle.clk_sched.specs.Session.{Progress, counted_moment}
+use Rattle.clk_sched.specs.Keeps.{keeps_visits, keeps_emitted, TellsEmitted}
+use Rattle.clk_sched.specs.Session.{Progress, SessionLists, counted_moment}
 use Rattle.clk_sched.specs.Drain.{GivesAll}
 use Rattle.clk_drain.specs.Line.{LineLists, seats_in, HaveOwnSenders}
 use Rattle.clk_drain.specs.Closing.{left_over, queue_of_line, device_of, tallies_in, AreInOrder, HasSent, IsDrainedTo}
@@ -18,6 +19,18 @@ use Rattle.clk_drain.proofs.Still.{still-accepted, still-evicted, still-seats, s
 use Rattle.clk_drain.proofs.AllGiven.{all-given}
 use Rattle.clk_drain.proofs.FromSenders.{emitted-of, emitted-own}
 use Rattle.clk_drain.proofs.Settling.{some-sent, settled-outcome}
+
+-- What a session keeps stays so while it is drained.
+pub tells-still : (old new : SessionLists) → new.keeps ≡ old.keeps → new.gone ≡ old.gone → TellsEmitted old → TellsEmitted new
+tells-still old new keeps gone h = (ap keeps_emitted keeps ∙ h.0, gone ∙ h.1)
+
+-- A session keeps its emitted packets, or visits from which they are known.
+pub emitted-told : (s : SessionLists) (out all : List Packet) → TellsEmitted s → (s.keeps.packets ≡ true → out ≡ all) → (keeps_visits s.keeps ≡ true → s.gone ≡ 0 → out ≡ all) → out ≡ all
+emitted-told s out all h kept told = by_packets s.keeps.packets refl h.0
+  where
+    by_packets : (packets : Bool) → s.keeps.packets ≡ packets → (packets || keeps_visits s.keeps) ≡ true → out ≡ all
+    by_packets true keeps e = kept keeps
+    by_packets false keeps e = told e h.1
 
 each-within : (lines : List LineLists) → AllByRecursion IsSettledLine lines → AllByRecursion IsWithin lines
 each-within [] h = tt

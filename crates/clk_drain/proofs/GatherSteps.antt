@@ -4,11 +4,11 @@ use Rattle.std.specs.List.{AllWithin, AllByRecursion}
 use Rattle.std.proofs.Math.Seq.{map-set_same}
 use Rattle.std.proofs.lemmas.List.{get_or_default}
 use Rattle.clk_ruled.specs.Laws.{KeepsTogether}
-use Rattle.clk_ruled.specs.Queue.{Queue, TapLists, ClosedLists, closed_with, gathering}
+use Rattle.clk_ruled.specs.Queue.{OpenedQueue, TapLists, ClosedLists, closed_with, gathering}
 use Rattle.clk_ruled.specs.Settle.{AreOpenedTogether, lists_of}
 
 -- So many of the seats were gathered, and nothing else is new.
-pub record IsGathering (queue : Queue) (old : TapLists) (all : List ClosedLists) (tap : TapLists) (now : List ClosedLists) (n : ℕ) : Type 0 where
+pub record IsGathering (queue : OpenedQueue) (old : TapLists) (all : List ClosedLists) (tap : TapLists) (now : List ClosedLists) (n : ℕ) : Type 0 where
   pub together : AreOpenedTogether queue tap now
   pub setup : tap.setup ≡ old.setup
   pub taken : tap.taken ≡ old.taken
@@ -22,7 +22,7 @@ IsSameTap old new = (new.setup ≡ old.setup) × (new.taken ≡ old.taken)
 same-tap : (old new : TapLists) (c : ClosedLists) (b : Bool) → c.is_gathered ≡ b → (c.is_gathered ≡ false → new ≡ gathering old c.lists) → (c.is_gathered ≡ true → new ≡ old) → IsSameTap old new
 same-tap old new c b is first again = search rules
 
-pub gathering-more : (queue : Queue) (old : TapLists) (all : List ClosedLists) (tap new : TapLists) (now : List ClosedLists) (i : ℕ) (after d : ClosedLists) → KeepsTogether → i < length now
+pub gathering-more : (queue : OpenedQueue) (old : TapLists) (all : List ClosedLists) (tap new : TapLists) (now : List ClosedLists) (i : ℕ) (after d : ClosedLists) → KeepsTogether → i < length now
     → after ≡ closed_with (get_or now i d).lists → ((get_or now i d).is_gathered ≡ false → new ≡ gathering tap (get_or now i d).lists) → ((get_or now i d).is_gathered ≡ true → new ≡ tap)
     → IsGathering queue old all tap now i → IsGathering queue old all new (set now i after) (i + 1)
 gathering-more queue old all tap new now i after d law lt is first again h =
@@ -39,5 +39,5 @@ all-gathered : (now : List ClosedLists) → ((k : ℕ) (d : ClosedLists) → k <
 all-gathered [] h = tt
 all-gathered (c ∷ now) h = (h 0 c (omega arith), all-gathered now (λ k d lt. h (suc k) d (omega arith)))
 
-pub gathered-all : (queue : Queue) (old : TapLists) (all : List ClosedLists) (tap : TapLists) (now : List ClosedLists) (n : ℕ) → length now ≤ n → IsGathering queue old all tap now n → AllByRecursion (λ (c : ClosedLists). c.is_gathered ≡ true) now
+pub gathered-all : (queue : OpenedQueue) (old : TapLists) (all : List ClosedLists) (tap : TapLists) (now : List ClosedLists) (n : ℕ) → length now ≤ n → IsGathering queue old all tap now n → AllByRecursion (λ (c : ClosedLists). c.is_gathered ≡ true) now
 gathered-all queue old all tap now n le h = search (rules, all-gathered)

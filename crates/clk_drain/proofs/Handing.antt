@@ -3,8 +3,8 @@ use Rattle.std.proofs.Common.{◌≡◌, ℕ, List, [], ◌∷◌, map, refl, sy
 use Rattle.std.specs.declared.alloc.Global.{Global}
 use Rattle.std.specs.List.{AllByRecursion}
 use Rattle.clk_packet.specs.declared.packet.Packet.{Packet}
-use Rattle.clk_ruled.specs.declared.view.Setup.{Setup}
-use Rattle.clk_ruled.specs.Queue.{Queue, SeatLists, TapLists, queue_of, empty_seat}
+use Rattle.clk_ruled.specs.declared.view.QueueSetup.{QueueSetup}
+use Rattle.clk_ruled.specs.Queue.{OpenedQueue, SeatLists, TapLists, queue_of, empty_seat}
 use Rattle.clk_packet.specs.Lists.{stands_in, AreRising}
 use Rattle.clk_sched.specs.Tree.{Tree, root, leaves}
 use Rattle.clk_sched.specs.Results.{leaf_packets}
@@ -29,7 +29,7 @@ taps-open traces (q ∷ shared) (at ∷ queues) (t ∷ taps) (s ∷ seats) h = s
 taps-open traces shared queues taps seats h = absurd h
 
 -- Each seat is its queue's, has room for all that its sender sends, and offered nothing.
-seats-unused : (terms : Terms) (queue : Queue) (setup : Setup) (senders : List ℕ) → queue ≡ queue_of queue.id setup → AllByRecursion (IsUnused terms queue) (map (empty_seat queue.id setup) (rooms_for terms.traces senders))
+seats-unused : (terms : Terms) (queue : OpenedQueue) (setup : QueueSetup) (senders : List ℕ) → queue ≡ queue_of queue.id setup → AllByRecursion (IsUnused terms queue) (map (empty_seat queue.id setup) (rooms_for terms.traces senders))
 seats-unused terms queue setup [] is = tt
 seats-unused terms queue setup (s ∷ senders) is = search (rules, (seats-unused terms queue setup senders is))
 

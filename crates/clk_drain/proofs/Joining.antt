@@ -6,8 +6,8 @@ use Rattle.std.specs.List.{flat_map, AllByRecursion, AllZip}
 use Rattle.clk_packet.specs.declared.packet.Packet.{Packet}
 use Rattle.clk_packet.specs.Trace.{sent_by, packets_in}
 use Rattle.clk_packet.specs.Lists.{are_distinct}
-use Rattle.clk_ruled.specs.declared.view.Setup.{Setup}
-use Rattle.clk_ruled.specs.Queue.{Queue, SeatLists, TapLists, ClosedLists, queue_of, empty_seat}
+use Rattle.clk_ruled.specs.declared.view.QueueSetup.{QueueSetup}
+use Rattle.clk_ruled.specs.Queue.{OpenedQueue, SeatLists, TapLists, ClosedLists, queue_of, empty_seat}
 use Rattle.clk_ruled.specs.Settle.{AreOfTap, AreOpenedTogether, lists_of}
 use Rattle.clk_sched.specs.Limits.{most_left}
 use Rattle.clk_sched.specs.Log.{pulls, moment_of}
@@ -57,20 +57,20 @@ each-of-tap terms tap (s ∷ seats) [] own h = absurd h
 each-of-tap terms tap (s ∷ seats) (c ∷ closed) own h = search (rules, (each-of-tap terms tap seats closed own.1 h.1))
 
 -- Seats as they are opened.
-opened-rooms : (queue : Queue) (setup : Setup) (rooms : List (ℕ × ℕ)) → map room_of (map (empty_seat queue.id setup) rooms) ≡ rooms
+opened-rooms : (queue : OpenedQueue) (setup : QueueSetup) (rooms : List (ℕ × ℕ)) → map room_of (map (empty_seat queue.id setup) rooms) ≡ rooms
 opened-rooms queue setup [] = refl
 opened-rooms queue setup (r ∷ rooms) = ap (λ rest. r ∷ rest) (opened-rooms queue setup rooms)
 
-opened-senders : (queue : Queue) (setup : Setup) (traces : List (List Packet)) (senders : List ℕ) → senders_at (map (empty_seat queue.id setup) (rooms_for traces senders)) ≡ senders
+opened-senders : (queue : OpenedQueue) (setup : QueueSetup) (traces : List (List Packet)) (senders : List ℕ) → senders_at (map (empty_seat queue.id setup) (rooms_for traces senders)) ≡ senders
 opened-senders queue setup traces [] = refl
 opened-senders queue setup traces (s ∷ senders) = ap (λ rest. s ∷ rest) (opened-senders queue setup traces senders)
 
-opened-beside : (queue : Queue) (setup : Setup) (rooms : List (ℕ × ℕ)) (tap : TapLists) → queue.id ≡ tap.id → setup ≡ tap.setup → AllByRecursion (IsBeside tap) (map (empty_seat queue.id setup) rooms)
+opened-beside : (queue : OpenedQueue) (setup : QueueSetup) (rooms : List (ℕ × ℕ)) (tap : TapLists) → queue.id ≡ tap.id → setup ≡ tap.setup → AllByRecursion (IsBeside tap) (map (empty_seat queue.id setup) rooms)
 opened-beside queue setup [] tap own with_setup = tt
 opened-beside queue setup (r ∷ rooms) tap own with_setup = ((own, with_setup), opened-beside queue setup rooms tap own with_setup)
 
 -- A queue's line, once its seats are closed, is opened together, stands for the queue, and its seats sent all that is sent.
-record IsJoined (terms : Terms) (q : SharedQueue) (queue : Queue) (l : LineLists) : Type 0 where
+record IsJoined (terms : Terms) (q : SharedQueue) (queue : OpenedQueue) (l : LineLists) : Type 0 where
   together : AreOpenedTogether queue l.tap l.closed
   queue_is : queue_of_line l ≡ q
   sent : AllByRecursion (HasSent (sent_by terms.traces)) (seats_of l)
@@ -78,7 +78,7 @@ record IsJoined (terms : Terms) (q : SharedQueue) (queue : Queue) (l : LineLists
 line-joined : (terms : Terms) (q : SharedQueue) (at : LeafQueue) (t : TapLists) (seats : List SeatLists) (more : List Packet) (closed : List ClosedLists) → IsOpenAs terms.traces q at t seats → AllZip (HasSentAll terms) seats closed
     → IsJoined terms q at.queue (record { leaf = at.leaf; tap = taking_all t more; closed = closed })
 line-joined terms q at t seats more closed opened h =
-    let setup : Setup = setup_for terms.traces q in
+    let setup : QueueSetup = setup_for terms.traces q in
     let own : t.id ≡ at.queue.id = ap (λ (x : TapLists). x.id) opened.1.2 in
     let with_setup : t.setup ≡ setup = ap (λ (x : TapLists). x.setup) opened.1.2 in
     let senders : senders_at (lists_of closed) ≡ q.senders = search (rules, same-senders, opened-senders) in record {

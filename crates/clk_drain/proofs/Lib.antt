@@ -1,5 +1,6 @@
 -- Lemmas on lines, on what is left to them, and on what became of it all.
 mod Growing
+mod AtLeaf
 mod Placing
 mod Taking
 mod Still

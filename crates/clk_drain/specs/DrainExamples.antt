@@ -3,7 +3,7 @@ use Rattle.std.specs.Prelude.{List, [], ◌∷◌, Some, true, false}
 use Rattle.atomic_table.specs.Seated.{TableId}
 use Rattle.clk_packet.specs.declared.packet.Packet.{Packet}
 use Rattle.clk_packet.specs.declared.packet.Kind.TheVariants.{TailDrop}
-use Rattle.clk_ruled.specs.declared.view.Setup.{Setup}
+use Rattle.clk_ruled.specs.declared.view.QueueSetup.{QueueSetup}
 use Rattle.clk_ruled.specs.Queue.{setup_of}
 use Rattle.clk_sched.specs.declared.visit.Visit.{Visit}
 use Rattle.clk_sched.specs.Examples.Priority.{p0_0}
@@ -19,7 +19,7 @@ abbrev pub unpulled : Progress
 unpulled = record { tree = queue 0; log = [] }
 
 -- the setup of a Queue of one packet, whose one sender has room for two
-abbrev one_room : Setup
+abbrev one_room : QueueSetup
 one_room = setup_of TailDrop 1 ((0, 2) ∷ [])
 
 -- The line of a Queue of one packet, which accepted the first packet of its sender and refused the second.

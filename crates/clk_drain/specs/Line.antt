@@ -2,7 +2,7 @@
 use Rattle.std.specs.Prelude.{◌≡◌, ℕ, ◌==◌, Bool, true, List, [], ◌∷◌, ◌++◌, map, Option, Some, None, if◌then◌else◌}
 use Rattle.std.specs.List.{flat_map, AllByRecursion}
 use Rattle.clk_packet.specs.declared.packet.Packet.{Packet}
-use Rattle.clk_ruled.specs.declared.view.Setup.{Setup}
+use Rattle.clk_ruled.specs.declared.view.QueueSetup.{QueueSetup}
 use Rattle.clk_ruled.specs.Queue.{SeatLists, TapLists, ClosedLists}
 use Rattle.clk_ruled.specs.Settle.{lists_of}
 use Rattle.clk_packet.specs.Lists.{stands_in, are_distinct, AreRising}
@@ -64,7 +64,7 @@ has_line lines leaf = stands_in leaf (leaves_of lines)
 -- the part of a line that stays, whatever its tap gathers and pulls
 pub record Lasting : Type 0 where
   pub leaf : ℕ
-  pub setup : Setup
+  pub setup : QueueSetup
   pub seats : List SeatLists
 
 -- the part of this line that stays, whatever its tap gathers and pulls

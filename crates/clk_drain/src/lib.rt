@@ -2,6 +2,7 @@
 //! hold, and every packet is accounted for.
 #![tactic(auto)]
 
+mod at_leaf;
 mod closing;
 mod drained;
 mod examples;

@@ -4,6 +4,7 @@ ghost use Rattle.std.specs.Prelude.{◌≡◌, true};
 ghost use Rattle.std.specs.List.{AllByRecursion};
 ghost use Rattle.clk_ruled.specs.Settle.{AreOpenedTogether, lists_of};
 
+use crate::at_leaf::AtLeaf;
 use clk_packet::{Fault, Packet, Tally};
 use clk_ruled::{ClosedSeat, RuledQueue, Tap, calls_keep_together, settle};
 use std::alloc::Global;
@@ -31,6 +32,14 @@ impl Model for Line {
     ghost invariant = { λ l. AreOpenedTogether l.queue l.tap l.closed.items };
 }
 
+impl AtLeaf for Line {
+    ghost leaf = { λ l. l.leaf };
+
+    fn leaf(&self) -> u16 {
+        self.leaf
+    }
+}
+
 impl Line {
     ghost use Rattle.std.specs.Prelude.{◌≡◌, ◌≤◌, List, None, IfOk, IfErr};
     ghost use Rattle.clk_packet.specs.declared.packet.Packet.{Packet};
@@ -39,13 +48,6 @@ impl Line {
     ghost use Rattle.clk_drain.specs.Line.{pulling, packets_of, seats_of};
     ghost use Rattle.clk_drain.specs.Parts.{HasGathered, IsWithin, HasAllTaken};
     ghost use Rattle.clk_drain.specs.inside.Parts.{IsGatheredFrom};
-
-    /// The number of its leaf.
-    pub fn leaf(&self) -> u16
-        ensures { result ≡ self.now.leaf }
-    {
-        self.leaf
-    }
 
     /// Pulls the packet at the front of the queue, or returns `None` if it finds the queue empty. Doesn't allocate.
     pub fn pull(&mut self, wait: &impl Wait) -> Option<Packet>

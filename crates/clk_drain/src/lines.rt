@@ -1,12 +1,13 @@
 //! The lines of a session, from which it pulls.
 
-ghost use Rattle.std.specs.Prelude.{◌≡◌, false, None, MatchOption};
+ghost use Rattle.std.specs.Prelude.{◌≡◌, false, None};
 ghost use Rattle.std.specs.List.{AllByRecursion};
 ghost use Rattle.clk_sched.specs.Closing.{TakesOne};
 ghost use Rattle.clk_packet.specs.Lists.{AreRising};
 ghost use Rattle.clk_drain.specs.Line.{PullsAt, has_line, leaves_of};
-ghost use Rattle.clk_drain.specs.inside.Parts.{IsGathered, IsPlaceOf, held_at};
+ghost use Rattle.clk_drain.specs.inside.Parts.{IsGathered, held_at};
 
+use crate::at_leaf::place_of;
 use crate::line::Line;
 use clk_packet::{Fault, Packet};
 use clk_sched::{Ask, Session};
@@ -168,23 +169,5 @@ fn pull_at<W: Wait>(lines: &mut Vec<Line>, wait: &W, leaf: u16) -> Option<Packet
             line.pull(wait)
         }
         None => None,
-    }
-}
-
-// The place of a leaf's line, if there is one. If one device has all queues, each line stands at the place of its leaf's number, so that
-// place is tried first.
-fn place_of(lines: &[Line], leaf: u16) -> Option<usize>
-    requires { AreRising (leaves_of lines.now) }
-    ensures { MatchOption result (has_line lines.now leaf ≡ false) (IsPlaceOf lines.now leaf) }
-{
-    let place = usize::from(leaf);
-    if let Some(line) = lines.get(place) {
-        if line.leaf() == leaf {
-            return Some(place);
-        }
-    }
-    match lines.binary_search_by_key(&leaf, |line| line.leaf()) {
-        Ok(place) => Some(place),
-        Err(_) => None,
     }
 }

@@ -5,7 +5,7 @@ use Rattle.std.proofs.lemmas.Bool.Decides.{nat_tests}
 use mathlib.Core.Option.{none}
 use Rattle.crossbeam_queue.specs.Fifo.{Forks}
 use Rattle.clk_packet.specs.declared.packet.Packet.{Packet}
-use Rattle.clk_ruled.specs.declared.view.Setup.{Setup}
+use Rattle.clk_ruled.specs.declared.view.QueueSetup.{QueueSetup}
 use Rattle.clk_ruled.specs.declared.view.View.{View}
 use Rattle.clk_packet.specs.Lists.{stands_in, AreRising}
 use Rattle.clk_ruled.specs.Rooms.{named_in}
@@ -27,7 +27,7 @@ begins =
 no-items : (items : List Packet) → length items ≤ 0 → items ≡ []
 no-items items h = grind (arith, common_steps, nat_tests)
 
-pub opens : (pass : ℕ) (v : View) (setup : Setup) → AreRising (named_in setup.rooms) → v ≡ blank_view → Forks Keeps pass v (tap_view setup [] [] []) spent_view
+pub opens : (pass : ℕ) (v : View) (setup : QueueSetup) → AreRising (named_in setup.rooms) → v ≡ blank_view → Forks Keeps pass v (tap_view setup [] [] []) spent_view
 opens pass v setup rise is items views h at =
     let b : Books = h.0 in let f : FitsTap b pass v = (h.2 pass v at).1 (ap (λ (y : View). y.taps) is) in
     let none_given : v.given ≡ [] = ap (λ (y : View). y.given) is in

@@ -2,12 +2,12 @@
 use Rattle.std.proofs.Common.{◌≡◌, ℕ, ◌<◌, ◌≤◌, List, length, rules}
 use Rattle.clk_packet.specs.declared.packet.Packet.{Packet}
 use Rattle.clk_ruled.specs.declared.view.View.{View}
-use Rattle.clk_ruled.specs.Queue.{Queue, SeatLists, queue_of, places_of}
+use Rattle.clk_ruled.specs.Queue.{OpenedQueue, SeatLists, queue_of, places_of}
 use Rattle.clk_ruled.specs.inside.Parts.{SeatFits}
 use Rattle.clk_ruled.proofs.SeatSteps.{few-accepted}
 
 -- The queue is the seat's, the packet is its sender's next one, and the sender may offer it.
-pub record IsOffering (queue : Queue) (s : SeatLists) (p : Packet) : Type 0 where
+pub record IsOffering (queue : OpenedQueue) (s : SeatLists) (p : Packet) : Type 0 where
   pub kind : s.setup.kind ≡ queue.kind
   pub places : queue.places ≡ places_of s.setup
   pub own : p.sender ≡ s.sender
@@ -15,7 +15,7 @@ pub record IsOffering (queue : Queue) (s : SeatLists) (p : Packet) : Type 0 wher
   pub room : s.next < s.room
 
 -- what the caller says of the values is so of what stands behind them
-pub offering : (queue given : Queue) (s old : SeatLists) (p : Packet) → queue ≡ given → s ≡ old → given ≡ queue_of old.id old.setup → p.sender ≡ old.sender → p.number ≡ old.next → old.next < old.room → IsOffering queue s p
+pub offering : (queue given : OpenedQueue) (s old : SeatLists) (p : Packet) → queue ≡ given → s ≡ old → given ≡ queue_of old.id old.setup → p.sender ≡ old.sender → p.number ≡ old.next → old.next < old.room → IsOffering queue s p
 offering queue given s old p same is together own number room = search rules
 
 -- Each list has room for one packet more, where it has room for all that may be offered.

@@ -3,7 +3,7 @@ use Rattle.std.proofs.Common.{◌≡◌, ℕ, ◌-◌, ◌≤◌, ◌<◌, List,
 use Rattle.std.proofs.lemmas.Grind.{common_steps}
 use Rattle.std.specs.List.{AllByRecursion}
 use Rattle.atomic_table.specs.Seated.{TableId}
-use Rattle.clk_ruled.specs.declared.view.Setup.{Setup}
+use Rattle.clk_ruled.specs.declared.view.QueueSetup.{QueueSetup}
 use Rattle.clk_ruled.specs.declared.view.View.{View}
 use Rattle.clk_packet.specs.Lists.{AreRising}
 use Rattle.clk_ruled.specs.Rooms.{named_in}
@@ -27,16 +27,16 @@ pub roomed-all : (rooms : List (ℕ × ℕ)) → AreRising (named_in rooms) → 
 roomed-all [] h = tt
 roomed-all (r ∷ rooms) h = search (rules, roomed-more, (roomed-all rooms h.1))
 
-pub seated-more : (setup : Setup) (id : TableId) (v w : View) (seats more : List SeatLists) (r : ℕ × ℕ) (rest : List (ℕ × ℕ)) → IsSeated setup id v seats (r ∷ rest)
+pub seated-more : (setup : QueueSetup) (id : TableId) (v w : View) (seats more : List SeatLists) (r : ℕ × ℕ) (rest : List (ℕ × ℕ)) → IsSeated setup id v seats (r ∷ rest)
     → w ≡ tap_view v.setup v.taken (r.0 ∷ v.given) v.gathered → more ≡ seats ++ empty_seat id v.setup r ∷ [] → IsSeated setup id w more rest
 seated-more setup id v w seats more r rest h is made = grind (arith, common_steps, free-more)
 
 -- the same of the first of the rest
-pub seated-step : (setup : Setup) (id : TableId) (v w : View) (seats more : List SeatLists) (rest : List (ℕ × ℕ)) (n : ℕ) (d : ℕ × ℕ) → 1 ≤ length rest → n ≡ length rest - 1 → IsSeated setup id v seats rest
+pub seated-step : (setup : QueueSetup) (id : TableId) (v w : View) (seats more : List SeatLists) (rest : List (ℕ × ℕ)) (n : ℕ) (d : ℕ × ℕ) → 1 ≤ length rest → n ≡ length rest - 1 → IsSeated setup id v seats rest
     → w ≡ tap_view v.setup v.taken ((slice_index_or rest 0 d).0 ∷ v.given) v.gathered → more ≡ seats ++ empty_seat id v.setup ((slice_index_or rest 0 d).0, (slice_index_or rest 0 d).1) ∷ [] → IsSeated setup id w more (take n (drop 1 rest))
 seated-step setup id v w seats more [] n d some count h is made = absurd (omega arith)
 seated-step setup id v w seats more (r ∷ rest) n d some count h is made = grind (arith, common_steps, (seated-more setup id v w seats more r rest h is made))
 
 -- no seat is given yet
-pub seated-first : (setup : Setup) (id : TableId) (v : View) → v ≡ tap_view setup [] [] [] → 1 ≤ setup.capacity → AreRising (named_in setup.rooms) → IsSeated setup id v [] setup.rooms
+pub seated-first : (setup : QueueSetup) (id : TableId) (v : View) → v ≡ tap_view setup [] [] [] → 1 ≤ setup.capacity → AreRising (named_in setup.rooms) → IsSeated setup id v [] setup.rooms
 seated-first setup id v is some rise = search (rules, free-all, roomed-all)

@@ -5,7 +5,7 @@ use Rattle.std.proofs.lemmas.Bool.Decides.{nat_tests}
 use Rattle.crossbeam_queue.specs.Fifo.{Held}
 use Rattle.clk_packet.specs.declared.packet.Packet.{Packet}
 use Rattle.clk_packet.specs.declared.packet.Kind.TheVariants.{TailDrop, FrontDrop}
-use Rattle.clk_ruled.specs.declared.view.Setup.{Setup}
+use Rattle.clk_ruled.specs.declared.view.QueueSetup.{QueueSetup}
 use Rattle.clk_ruled.specs.declared.view.View.{View}
 use Rattle.clk_packet.specs.Lists.{of_sender, stands_in}
 use Rattle.clk_ruled.specs.Rooms.{room_of}
@@ -29,7 +29,7 @@ pub may-evict : (v : View) (s room next : ℕ) (accepted refused evicted : List 
 may-evict v s room next accepted refused evicted f front lt =
     let here : room_of v.setup.rooms v.sender ≡ room = ap (room_of v.setup.rooms) f.own ∙ f.room_is in search (rules, room-known)
 
-pub places-within : (setup : Setup) (n : ℕ) → n ≡ places_of setup → 1 ≤ setup.capacity → n ≤ setup.capacity
+pub places-within : (setup : QueueSetup) (n : ℕ) → n ≡ places_of setup → 1 ≤ setup.capacity → n ≤ setup.capacity
 places-within setup n e some = search rules
 
 -- the seat after each of the three answers

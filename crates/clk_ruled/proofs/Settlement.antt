@@ -8,7 +8,7 @@ use Rattle.crossbeam_queue.specs.Fifo.{Held}
 use Rattle.clk_packet.specs.declared.packet.Packet.{Packet}
 use Rattle.clk_packet.specs.declared.tally.Tally.{Tally}
 use Rattle.clk_ruled.specs.declared.view.Gathered.{Gathered}
-use Rattle.clk_ruled.specs.declared.view.Setup.{Setup}
+use Rattle.clk_ruled.specs.declared.view.QueueSetup.{QueueSetup}
 use Rattle.clk_ruled.specs.declared.view.View.{View}
 use Rattle.clk_ruled.specs.Account.{IsAccount}
 use Rattle.clk_ruled.specs.inside.Marks.{untold, telling}
@@ -85,7 +85,7 @@ record AreBooked (b : Books) (seats : List SeatLists) : Type 0 where
   out : evicted_in b ≡ all_evicted seats
   came : accepted_count seats ≡ length b.all
 
-booked : (b : Books) (held : List Packet) (setup : Setup) (seats : List SeatLists) → IsSound b held → b.setup ≡ setup → map (λ (l : SeatLists). (l.sender, l.room)) seats ≡ setup.rooms → AreFit b seats → AreBooked b seats
+booked : (b : Books) (held : List Packet) (setup : QueueSetup) (seats : List SeatLists) → IsSound b held → b.setup ≡ setup → map (λ (l : SeatLists). (l.sender, l.room)) seats ≡ setup.rooms → AreFit b seats → AreBooked b seats
 booked b held setup seats sound same rooms fit =
     let senders : senders_of b.setup ≡ senders_at seats = search (rules, same-senders) in
     let unknown : (s : ℕ) → stands_in s (senders_at seats) ≡ false → stands_in s (senders_of b.setup) ≡ false = λ s e. ap (λ l. stands_in s l) senders ∙ e in
@@ -128,7 +128,7 @@ whole-account : (tap new : TapLists) (closed : List ClosedLists) → AreTogether
     → IsAccount tap.setup.kind tap.setup.capacity (senders_of tap.setup) (accepted_of (lists_of closed)) (evicted_of (lists_of closed)) tap.taken a.held
 whole-account tap new closed together same has a =
     let is = has-booked tap new closed together same has a in
-    subst (λ (x : Setup × (ℕ → List Packet) × (ℕ → List Packet) × List Packet). IsAccount x.0.kind x.0.capacity (senders_of x.0) x.1 x.2 x.3 a.held)
+    subst (λ (x : QueueSetup × (ℕ → List Packet) × (ℕ → List Packet) × List Packet). IsAccount x.0.kind x.0.capacity (senders_of x.0) x.1 x.2 x.3 a.held)
     (search rules) (account a.books a.held a.sound)
 
 -- A seat that was opened with the tap is of a queue of its kind.

@@ -8,7 +8,7 @@ use Rattle.crossbeam_queue.specs.Fifo.{Pushes, Pops, PopsFrom, Forks, Merges, Le
 use Rattle.crossbeam_queue.proofs.Lists.{at_set}
 use Rattle.clk_packet.specs.declared.packet.Packet.{Packet}
 use Rattle.clk_packet.specs.declared.packet.Kind.TheVariants.{FrontDrop}
-use Rattle.clk_ruled.specs.declared.view.Setup.{Setup}
+use Rattle.clk_ruled.specs.declared.view.QueueSetup.{QueueSetup}
 use Rattle.clk_ruled.specs.declared.view.Gathered.{Gathered}
 use Rattle.clk_ruled.specs.declared.view.View.{View}
 use Rattle.clk_packet.specs.Lists.{stands_in, AreRising}
@@ -72,7 +72,7 @@ evicts n pass v may p items views room h at =
     let b : Books = h.0 in let f : FitsSeat b pass v = (h.2 pass v at).0 may.sits in
     let w : View = seat_view v.setup v.sender v.accepted (v.evicted ++ p ∷ []) in
     let c : Books = with_out b (put_out v.sender p) in
-    let sound : IsSound c items = evicted-sound b v.sender p items (ap (λ (y : Setup). y.kind) (sym f.setup) ∙ may.front_drop) (search rules) h.1 in
+    let sound : IsSound c items = evicted-sound b v.sender p items (ap (λ (y : QueueSetup). y.kind) (sym f.setup) ∙ may.front_drop) (search rules) h.1 in
     let mine : FitsSeat c pass w = search (rules, evicted-own) in
     let fits : Fits c pass w = ((λ _. mine), λ e. absurd (true≢false (sym e))) in (
       w,

@@ -6,7 +6,7 @@ use Rattle.std.specs.List.{cons_option}
 use Rattle.std.proofs.lemmas.List.{length-append}
 use Rattle.crossbeam_queue.specs.Fifo.{Held}
 use Rattle.clk_packet.specs.declared.packet.Packet.{Packet}
-use Rattle.clk_ruled.specs.declared.view.Setup.{Setup}
+use Rattle.clk_ruled.specs.declared.view.QueueSetup.{QueueSetup}
 use Rattle.clk_ruled.specs.declared.view.Gathered.{Gathered}
 use Rattle.clk_ruled.specs.declared.view.View.{View}
 use Rattle.clk_packet.specs.Lists.{of_sender, In, stands_in, are_distinct, AreRising}
@@ -67,7 +67,7 @@ taken-known v k p h =
     let known = tap-knows v k in let b = known.books in
     let came : In p b.all = subst (In p) (sym known.sound.order) (in-all p b.gone k.knows.0 (subst (In p) known.taken_is h)) in
     let some = in-named p b.all came in let count = of-times p.sender b.all in let room = known.sound.room p.sender in
-    subst (λ (y : Setup). stands_in p.sender (senders_of y) ≡ true) (sym known.setup) (omega (arith, room-known))
+    subst (λ (y : QueueSetup). stands_in p.sender (senders_of y) ≡ true) (sym known.setup) (omega (arith, room-known))
 
 -- What the gathered seats' lists have in all.
 gathered-apart : (b : Books) (given : List ℕ) (gathered : List Gathered) → AreGathered b given gathered → are_distinct (gathered_senders gathered) ≡ true

@@ -8,7 +8,7 @@ use Rattle.clk_packet.specs.declared.packet.Kind.TheVariants.{TailDrop, FrontDro
 use Rattle.clk_packet.specs.Lists.{In, stands_in, AreRising}
 use Rattle.clk_ruled.specs.PacketLists.{packet_numbers, without}
 use Rattle.atomic_table.specs.Seated.{TableId}
-use Rattle.clk_ruled.specs.declared.view.Setup.{Setup}
+use Rattle.clk_ruled.specs.declared.view.QueueSetup.{QueueSetup}
 use Rattle.clk_ruled.specs.Queue.{setup_of, IsSharedOut}
 use Rattle.clk_ruled.specs.Settle.{lists_of}
 use Rattle.clk_ruled.specs.SettleExamples.{seat}
@@ -66,7 +66,7 @@ front-account-by-seats capacity fits =
     subst (λ (accepted : ℕ → List Packet). IsAccount FrontDrop capacity both accepted (for_seats [] put_out) pulled held) (λ i s. same s i) (front-account capacity fits)
 
 -- the seats of the queue share out what they offered
-pub front-shared : (id : TableId) (setup : Setup) → AllByRecursion IsSharedOut (lists_of (seat 0 2 (p0_0 ∷ p0_1 ∷ []) [] [] id setup ∷ seat 1 2 (p1_0 ∷ p1_1 ∷ []) [] put_out id setup ∷ []))
+pub front-shared : (id : TableId) (setup : QueueSetup) → AllByRecursion IsSharedOut (lists_of (seat 0 2 (p0_0 ∷ p0_1 ∷ []) [] [] id setup ∷ seat 1 2 (p1_0 ∷ p1_1 ∷ []) [] put_out id setup ∷ []))
 front-shared id setup = (
   record {
     within = lit≤ tt;

@@ -1,6 +1,6 @@
 -- Seats that were closed, beside the seats that they were.
 use Rattle.std.specs.Prelude.{◌≡◌, false, List, [], ◌∷◌, ⊤}
-use Rattle.clk_ruled.specs.Queue.{Queue, SeatLists, ClosedLists, IsSeatOf}
+use Rattle.clk_ruled.specs.Queue.{OpenedQueue, SeatLists, ClosedLists, IsSeatOf}
 
 -- It is still the seat of this sender at this queue.
 abbrev pub IsSameSeat : SeatLists → SeatLists → Type 0
@@ -18,6 +18,6 @@ AreClosedOf (s ∷ seats) [] = ⊥
 AreClosedOf (s ∷ seats) (c ∷ closed) = IsClosedOf s c × AreClosedOf seats closed
 
 -- Each of the seats is one of this queue's.
-abbrev pub AreSeatsOf : Queue → List SeatLists → Type 0
+abbrev pub AreSeatsOf : OpenedQueue → List SeatLists → Type 0
 AreSeatsOf queue [] = ⊤
 AreSeatsOf queue (s ∷ seats) = IsSeatOf queue s × AreSeatsOf queue seats

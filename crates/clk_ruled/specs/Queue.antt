@@ -7,32 +7,32 @@ use Rattle.clk_packet.specs.declared.packet.Kind.TheVariants.{TailDrop, FrontDro
 use Rattle.clk_packet.specs.declared.packet.Offered.{Offered}
 use Rattle.clk_packet.specs.declared.packet.Offered.TheVariants.{Accepted, Refused, Evicted}
 pub use Rattle.clk_packet.specs.Dealt.{IsDealt}
-use Rattle.clk_ruled.specs.declared.view.Setup.{Setup}
+use Rattle.clk_ruled.specs.declared.view.QueueSetup.{QueueSetup}
 use Rattle.clk_ruled.specs.declared.view.Gathered.{Gathered}
 use Rattle.clk_packet.specs.Lists.{In, stands_in}
 use Rattle.clk_ruled.specs.Rooms.{rooms_in_all}
 use Rattle.clk_ruled.specs.Rule.{senders_of, gathered_senders, gathered_seat}
 
 -- A shared queue as contracts see it: which queue it is, its kind, how many packets it may hold, and how many places it has for them.
-pub record Queue : Type 0 where
+pub record OpenedQueue : Type 0 where
   pub id : TableId
   pub kind : Kind
   pub capacity : ℕ
   pub places : ℕ
 
 -- how many places a queue has: no more than its capacity, no more than packets can be offered, and at least one
-abbrev pub places_of : Setup → ℕ
+abbrev pub places_of : QueueSetup → ℕ
 places_of setup = max 1 (min setup.capacity (rooms_in_all setup.rooms))
 
 -- the queue that is opened with this setup
-abbrev pub queue_of : TableId → Setup → Queue
+abbrev pub queue_of : TableId → QueueSetup → OpenedQueue
 queue_of id setup = record { id = id; kind = setup.kind; capacity = setup.capacity; places = places_of setup }
 
 -- A seat as contracts see it: its queue, its sender, how many packets the sender may offer and has offered, and which were accepted and
 -- refused. `evicted` has the packets that were evicted for those of this seat, of whichever sender.
 pub record SeatLists : Type 0 where
   pub id : TableId
-  pub setup : Setup
+  pub setup : QueueSetup
   pub sender : ℕ
   pub room : ℕ
   pub next : ℕ
@@ -44,7 +44,7 @@ pub record SeatLists : Type 0 where
 -- that it gathered, the latest first.
 pub record TapLists : Type 0 where
   pub id : TableId
-  pub setup : Setup
+  pub setup : QueueSetup
   pub keeps : Bool
   pub taken : List Packet
   pub gathered : List Gathered
@@ -69,11 +69,11 @@ pub record IsSharedOut (l : SeatLists) : Type 0 where
   pub front_drop : l.setup.kind ≡ FrontDrop → l.refused ≡ []
 
 -- the seat is one of this queue's
-abbrev pub IsSeatOf : Queue → SeatLists → Type 0
+abbrev pub IsSeatOf : OpenedQueue → SeatLists → Type 0
 IsSeatOf queue seat = queue ≡ queue_of seat.id seat.setup
 
 -- the tap is this queue's
-abbrev pub IsTapOf : Queue → TapLists → Type 0
+abbrev pub IsTapOf : OpenedQueue → TapLists → Type 0
 IsTapOf queue tap = queue ≡ queue_of tap.id tap.setup
 
 -- the seat once a packet of its sender was accepted
@@ -109,7 +109,7 @@ abbrev pub gathering : TapLists → SeatLists → TapLists
 gathering t s = record { id = t.id; setup = t.setup; keeps = t.keeps; taken = t.taken; gathered = gathered_seat s.sender s.accepted s.evicted ∷ t.gathered }
 
 -- each of the packets is of one of the setup's senders
-abbrev pub AreOfSenders : Setup → List Packet → Type 0
+abbrev pub AreOfSenders : QueueSetup → List Packet → Type 0
 AreOfSenders setup packets = (p : Packet) → In p packets → stands_in p.sender (senders_of setup) ≡ true
 
 -- The tap gathered the seat of each sender.
@@ -127,19 +127,19 @@ evicted_in_all [] = 0
 evicted_in_all (g ∷ gathered) = length g.evicted + evicted_in_all gathered
 
 -- the seat of a sender before its first offer
-abbrev pub empty_seat : TableId → Setup → ℕ × ℕ → SeatLists
+abbrev pub empty_seat : TableId → QueueSetup → ℕ × ℕ → SeatLists
 empty_seat id setup r = record { id = id; setup = setup; sender = r.0; room = r.1; next = 0; accepted = []; refused = []; evicted = [] }
 
 -- the tap before its first pull
-abbrev pub empty_tap : Bool → TableId → Setup → TapLists
+abbrev pub empty_tap : Bool → TableId → QueueSetup → TapLists
 empty_tap keeps id setup = record { id = id; setup = setup; keeps = keeps; taken = []; gathered = [] }
 
 -- A queue was opened with one seat for each sender, in order, and a tap, none of which has done anything.
-abbrev pub IsOpened : Setup → Queue → List SeatLists → TapLists → Type 0
+abbrev pub IsOpened : QueueSetup → OpenedQueue → List SeatLists → TapLists → Type 0
 IsOpened setup queue seats tap = (queue ≡ queue_of queue.id setup) × (seats ≡ map (empty_seat queue.id setup) setup.rooms) × (tap ≡ empty_tap tap.keeps queue.id setup)
 
 -- the setup of a queue of this kind and capacity, for these senders with their rooms
-abbrev pub setup_of : Kind → ℕ → List (ℕ × ℕ) → Setup
+abbrev pub setup_of : Kind → ℕ → List (ℕ × ℕ) → QueueSetup
 setup_of kind capacity rooms = record { kind = kind; capacity = capacity; rooms = rooms }
 
 -- a closed seat: its lists, and whether the tap gathered them

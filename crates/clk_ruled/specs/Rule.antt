@@ -4,7 +4,7 @@ use mathlib.Core.Option.{Option, some, none}
 use lib.ListN.{get_elem?}
 use Rattle.clk_packet.specs.declared.packet.Packet.{Packet}
 use Rattle.clk_packet.specs.declared.packet.Kind.TheVariants.{TailDrop}
-use Rattle.clk_ruled.specs.declared.view.Setup.{Setup}
+use Rattle.clk_ruled.specs.declared.view.QueueSetup.{QueueSetup}
 use Rattle.clk_ruled.specs.declared.view.Gathered.{Gathered}
 use Rattle.clk_ruled.specs.declared.view.View.{View}
 use Rattle.clk_packet.specs.Lists.{of_sender, stands_in, AreRising}
@@ -37,14 +37,14 @@ evicted_by s (put_out e p ∷ gone) = if e == s then p ∷ evicted_by s gone els
 -- What happened to a queue: what it was opened with, and the packets that it accepted and those that left it, in order. Also which pass
 -- sits for each sender, and which pass is the tap's.
 pub record Books : Type 0 where
-  pub setup : Setup
+  pub setup : QueueSetup
   pub all : List Packet
   pub gone : List Out
   pub seat : ℕ → Option ℕ
   pub tap : ℕ
 
 -- the senders of a queue
-abbrev pub senders_of : Setup → List ℕ
+abbrev pub senders_of : QueueSetup → List ℕ
 senders_of setup = named_in setup.rooms
 
 -- The books are in order while these packets are held: what left and then what is held are what the queue accepted, within its capacity. Of

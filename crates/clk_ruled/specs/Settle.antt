@@ -9,7 +9,7 @@ use Rattle.clk_packet.specs.declared.fault.Fault.TheVariants.{Memory, Unsettled}
 use Rattle.clk_ruled.specs.declared.view.Gathered.{Gathered}
 use Rattle.clk_packet.specs.Lists.{In, of_sender}
 use Rattle.clk_ruled.specs.PacketLists.{has_packet, without}
-use Rattle.clk_ruled.specs.Queue.{Queue, SeatLists, TapLists, ClosedLists, IsTapOf, IsSharedOut, accepted_in_all, evicted_in_all}
+use Rattle.clk_ruled.specs.Queue.{OpenedQueue, SeatLists, TapLists, ClosedLists, IsTapOf, IsSharedOut, accepted_in_all, evicted_in_all}
 use Rattle.clk_ruled.specs.Rule.{Books, IsSound, AreGathered, gathered_seat, senders_of, taken_in}
 use Rattle.clk_ruled.specs.Account.{IsAccount}
 
@@ -86,7 +86,7 @@ closing l = record { lists = l; is_gathered = false }
 
 -- A queue, its tap and all its seats, in order, were opened together, and the tap has the lists of each gathered seat; a seat that isn't
 -- closed yet stands as if it were closed now. `open` ensures this, every call keeps it, and `settle` requires it.
-abbrev pub AreOpenedTogether : Queue → TapLists → List ClosedLists → Type 0
+abbrev pub AreOpenedTogether : OpenedQueue → TapLists → List ClosedLists → Type 0
 AreOpenedTogether queue tap closed = IsTapOf queue tap × AreTogether tap closed
 
 -- The tally of a seat's sender, if the packets that pass the test were evicted. An evicted packet counts for its own sender, whichever seat

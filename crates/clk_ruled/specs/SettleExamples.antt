@@ -5,7 +5,7 @@ use Rattle.clk_packet.specs.declared.packet.Packet.{Packet}
 use Rattle.clk_packet.specs.declared.packet.Kind.TheVariants.{TailDrop, FrontDrop}
 use Rattle.clk_packet.specs.declared.tally.Tally.{Tally}
 use Rattle.clk_packet.specs.declared.fault.Fault.{Fault}
-use Rattle.clk_ruled.specs.declared.view.Setup.{Setup}
+use Rattle.clk_ruled.specs.declared.view.QueueSetup.{QueueSetup}
 use Rattle.clk_ruled.specs.Queue.{TapLists, ClosedLists, setup_of}
 use Rattle.clk_ruled.specs.Settle.{IsSettled, IsFaultOfSettle}
 use Rattle.clk_ruled.specs.Examples.{p0_0, p0_1, p1_0, p1_1, put_out}
@@ -32,7 +32,7 @@ abbrev pub NeverRefuses : (TableId → ClosedQueue) → ℕ → Fault → Type 0
 NeverRefuses queue index fault = (id : TableId) → ¬ (IsFaultOfSettle (queue id).tap (queue id).seats index fault)
 
 -- a closed seat: its sender, how many packets it offered, which are all that it may, and its lists
-abbrev pub seat : (sender offered : ℕ) → (accepted refused evicted : List Packet) → TableId → Setup → ClosedLists
+abbrev pub seat : (sender offered : ℕ) → (accepted refused evicted : List Packet) → TableId → QueueSetup → ClosedLists
 seat sender offered accepted refused evicted id setup =
     record {
       lists = record { id = id; setup = setup; sender = sender; room = offered; next = offered; accepted = accepted; refused = refused; evicted = evicted };
@@ -40,9 +40,9 @@ seat sender offered accepted refused evicted id setup =
     }
 
 -- a queue whose seats are closed, by its setup, the packets pulled, and its seats
-abbrev closed_queue : Setup → List Packet → List (TableId → Setup → ClosedLists) → TableId → ClosedQueue
+abbrev closed_queue : QueueSetup → List Packet → List (TableId → QueueSetup → ClosedLists) → TableId → ClosedQueue
 closed_queue setup taken seats id =
-    record { tap = record { id = id; setup = setup; keeps = true; taken = taken; gathered = [] }; seats = map (λ (s : TableId → Setup → ClosedLists). s id setup) seats }
+    record { tap = record { id = id; setup = setup; keeps = true; taken = taken; gathered = [] }; seats = map (λ (s : TableId → QueueSetup → ClosedLists). s id setup) seats }
 
 abbrev tally : ℕ → (accepted refused evicted : List Packet) → Tally
 tally s accepted refused evicted = record { sender = s; accepted = accepted; refused = refused; evicted = evicted }

@@ -21,4 +21,4 @@ pub use queue::RuledQueue;
 pub use seat::Seat;
 pub use settling::{Settled, settle};
 pub use tap::Tap;
-pub use view::{Gathered, Setup, View};
+pub use view::{Gathered, QueueSetup, View};

@@ -12,7 +12,7 @@ ghost use Rattle.clk_ruled.specs.inside.Rule.{blank_view, tap_view, seat_view};
 use crate::protocol::{Open, Opening, Seated, Sending};
 use crate::queue::{Line, RuledQueue};
 use crate::seat::Seat;
-use crate::taken::Taken;
+use crate::taken::TakenPackets;
 use crate::tap::Tap;
 use crate::view::View;
 use clk_packet::{Fault, Kind, Packet};
@@ -188,7 +188,7 @@ impl RuledQueue {
         let (line, mut pass) = Line::ruled(alloc, places(capacity, room) as usize)?;
         set_up::<Brand>(&line, &mut pass, kind, capacity, senders);
         let seats = seats_for(alloc, &line, &mut pass, senders)?;
-        let taken = Taken::none(alloc, keeps, room as usize)?;
+        let taken = TakenPackets::none(alloc, keeps, room as usize)?;
         let tap = Tap::fresh(&line, pass, taken);
         let queue = RuledQueue {
             line,

@@ -19,9 +19,9 @@ impl Protocol<Packet, View> for Account {
 
 // What a queue is opened with. A call at `Brand` picks it.
 pub trait Opening {
-    ghost use Rattle.clk_ruled.specs.declared.view.Setup.{Setup};
+    ghost use Rattle.clk_ruled.specs.declared.view.QueueSetup.{QueueSetup};
 
-    ghost setup: { Setup };
+    ghost setup: { QueueSetup };
 }
 
 impl Opening for Brand {

@@ -21,9 +21,9 @@ pub struct RuledQueue {
 
 impl Model for RuledQueue {
     ghost use Rattle.crossbeam_queue.specs.Passes.{ruled_capacity};
-    ghost use Rattle.clk_ruled.specs.Queue.{Queue};
+    ghost use Rattle.clk_ruled.specs.Queue.{OpenedQueue};
 
-    ghost Value = { Queue };
+    ghost Value = { OpenedQueue };
 
     ghost view = { λ q. record { id = q.line.table.shared.table_id; kind = q.kind; capacity = q.capacity; places = ruled_capacity q.line } };
 }

@@ -8,17 +8,17 @@ use std::alloc::Global;
 
 /// The packets that a tap pulled, if it keeps them.
 #[derive(Drop)]
-pub struct Taken {
+pub struct TakenPackets {
     pub keeps: bool,
     pub packets: Vec<Packet>,
 }
 
-impl Taken {
+impl TakenPackets {
     ghost use Rattle.std.specs.Prelude.{◌≡◌, ◌+◌, ◌≤◌, ◌++◌, [], true, length, vec_capacity, IfOk, IsOkUnless};
     ghost use Rattle.std.specs.List.{cons_option};
 
     /// No packets yet. If they will be kept, there is room for so many. Fault 1 if an allocation fails.
-    pub fn none(alloc: Global, keeps: bool, room: usize) -> Result<Taken, Fault>
+    pub fn none(alloc: Global, keeps: bool, room: usize) -> Result<TakenPackets, Fault>
         ensures keeps { IfOk result (λ taken. taken.keeps ≡ keeps) }
         ensures none { IfOk result (λ taken. taken.packets.items ≡ []) }
         ensures room { IfOk result (λ taken. keeps ≡ true → room ≤ vec_capacity taken.packets) }
@@ -29,7 +29,7 @@ impl Taken {
         } else {
             Vec::new(alloc)
         };
-        Ok(Taken { keeps, packets })
+        Ok(TakenPackets { keeps, packets })
     }
 
     /// Adds the packet that was pulled, if there is one, if packets are kept. Does not allocate.

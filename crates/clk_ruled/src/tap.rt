@@ -3,7 +3,7 @@
 use crate::closed::ClosedSeat;
 use crate::protocol::{Gather, Pull};
 use crate::queue::{Line, RuledQueue};
-use crate::taken::Taken;
+use crate::taken::TakenPackets;
 use crate::view::View;
 use clk_packet::Packet;
 use crossbeam_queue::Pass;
@@ -15,7 +15,7 @@ use std::sync::Wait;
 #[derive(Drop)]
 pub struct Tap {
     pass: Pass<Packet, View>,
-    taken: Taken,
+    taken: TakenPackets,
 }
 
 impl Model for Tap {
@@ -50,7 +50,7 @@ impl Tap {
     ghost use Rattle.clk_ruled.specs.Settle.{HasAllSeats, IsAccounted, IsTakenWithin, IsAllTaken};
 
     // The tap of a queue that is open. `taken` has room for all packets that it may pull, if it keeps them.
-    pub(crate) fn fresh(line: &Line, pass: Pass<Packet, View>, taken: Taken) -> Tap
+    pub(crate) fn fresh(line: &Line, pass: Pass<Packet, View>, taken: TakenPackets) -> Tap
         requires queue { IsPassOf line.now pass }
         requires taps { ((known pass).taps ≡ true) × ((known pass).taken ≡ []) × ((known pass).gathered ≡ []) × (1 ≤ (known pass).setup.capacity) }
         requires none { taken.packets.items ≡ [] }

@@ -5,7 +5,7 @@ use std::collections::LinkedList;
 
 /// What a queue was opened with: its kind, how many packets it may hold, and each sender with the number of packets that it
 /// may offer.
-pub struct Setup {
+pub struct QueueSetup {
     pub kind: Kind,
     pub capacity: u64,
     pub rooms: LinkedList<(u16, u32)>,
@@ -24,7 +24,7 @@ pub struct View {
     pub sits: bool,
     /// Whether this is the view of the tap.
     pub taps: bool,
-    pub setup: Setup,
+    pub setup: QueueSetup,
     /// The seat's sender.
     pub sender: u16,
     /// The packets that the queue accepted from the seat, in order.

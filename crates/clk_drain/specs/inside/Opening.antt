@@ -3,7 +3,7 @@ use Rattle.std.specs.Prelude.{◌≡◌, ℕ, ◌++◌, List, [], ◌∷◌, len
 use Rattle.std.specs.declared.alloc.Global.{Global}
 use Rattle.clk_packet.specs.declared.packet.Packet.{Packet}
 use Rattle.clk_packet.specs.Trace.{sent_by}
-use Rattle.clk_ruled.specs.declared.view.Setup.{Setup}
+use Rattle.clk_ruled.specs.declared.view.QueueSetup.{QueueSetup}
 use Rattle.clk_ruled.specs.Queue.{SeatLists, TapLists, IsOpened, setup_of}
 use Rattle.clk_drain.specs.declared.running.opening.LeafQueue.{LeafQueue}
 use Rattle.clk_drain.specs.declared.running.opening.OpenQueues.{OpenQueues}
@@ -14,7 +14,7 @@ abbrev pub rooms_for : List (List Packet) → List ℕ → List (ℕ × ℕ)
 rooms_for traces senders = map (λ s. (s, length (sent_by traces s))) senders
 
 -- the setup of a queue whose senders may offer all that they send
-abbrev pub setup_for : List (List Packet) → SharedQueue → Setup
+abbrev pub setup_for : List (List Packet) → SharedQueue → QueueSetup
 setup_for traces q = setup_of q.kind q.capacity (rooms_for traces q.senders)
 
 -- The queue at a leaf, its tap and its seats were opened, with room for all that is sent to it.

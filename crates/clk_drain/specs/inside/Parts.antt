@@ -1,6 +1,6 @@
 -- What the parts of a drain say to one another.
-use Rattle.std.specs.Prelude.{◌≡◌, ℕ, ◌+◌, ◌-◌, ◌<◌, ◌==◌, List, [], ◌∷◌, length, map, max, if◌then◌else◌}
-use Rattle.std.specs.List.{slice_index_or, AllByRecursion}
+use Rattle.std.specs.Prelude.{◌≡◌, ℕ, ◌+◌, ◌-◌, ◌==◌, List, [], ◌∷◌, length, map, max, if◌then◌else◌}
+use Rattle.std.specs.List.{AllByRecursion}
 use Rattle.clk_packet.specs.declared.packet.Packet.{Packet}
 use Rattle.clk_packet.specs.declared.tally.Tally.{Tally}
 use Rattle.clk_ruled.specs.Settle.{AreTogether, IsSettled, accepted_count, evicted_count}
@@ -8,11 +8,6 @@ use Rattle.clk_sched.specs.Session.{Progress, counted_moment}
 use Rattle.clk_sched.specs.Drain.{GivesAll}
 use Rattle.clk_drain.specs.Line.{LineLists, seats_of, lasting_of, AreStill, AreLinesOf}
 use Rattle.clk_drain.specs.Parts.{HasGathered, IsWithin}
-
--- the line of a leaf stands at this place
-pub record IsPlaceOf (lines : List LineLists) (leaf place : ℕ) : Type 0 where
-  pub within : place < length lines
-  pub leaf_is : (d : LineLists) → (slice_index_or lines place d).leaf ≡ leaf
 
 -- what a tap took, with its leaf
 abbrev pub taken_at : LineLists → ℕ × List Packet

@@ -4,7 +4,7 @@ use Rattle.std.specs.List.{AllZip}
 use Rattle.std.specs.declared.alloc.Global.{Global}
 use Rattle.clk_packet.specs.declared.packet.Packet.{Packet}
 use Rattle.clk_packet.specs.Trace.{sent_by}
-use Rattle.clk_ruled.specs.Queue.{Queue, SeatLists, TapLists, ClosedLists, IsSeatOf}
+use Rattle.clk_ruled.specs.Queue.{OpenedQueue, SeatLists, TapLists, ClosedLists, IsSeatOf}
 use Rattle.clk_ruled.specs.Closing.{IsClosedOf}
 use Rattle.clk_sched.specs.Log.{pulls, moment_of}
 use Rattle.clk_sched.specs.Session.{Progress, counted_moment}
@@ -19,7 +19,7 @@ pub record Terms : Type 0 where
   pub limit : ℕ
 
 -- A seat of a queue before its first offer, with room for all that its sender sends.
-pub record IsUnused (terms : Terms) (queue : Queue) (seat : SeatLists) : Type 0 where
+pub record IsUnused (terms : Terms) (queue : OpenedQueue) (seat : SeatLists) : Type 0 where
   pub own : IsSeatOf queue seat
   pub offered : AreOffered [] seat
   pub room : seat.room ≡ length (sent_by terms.traces seat.sender)

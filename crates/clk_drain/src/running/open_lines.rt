@@ -1,12 +1,10 @@
 //! The shared queues of a tree while their seats are handed out, from which a session pulls.
 
-ghost use Rattle.std.specs.Prelude.{◌≡◌, false, IfOk, IsOkUnless, MatchOption};
+ghost use Rattle.std.specs.Prelude.{◌≡◌, IfOk, IsOkUnless};
 ghost use Rattle.clk_packet.specs.declared.fault.Fault.TheVariants.{Memory};
-ghost use Rattle.clk_packet.specs.Lists.{AreRising};
-ghost use Rattle.clk_drain.specs.Line.{has_line, leaves_of};
 ghost use Rattle.clk_drain.specs.inside.Handed.{lines_from, AreTapsOf};
-ghost use Rattle.clk_drain.specs.inside.Parts.{IsPlaceOf};
 
+use crate::at_leaf::{AtLeaf, place_of};
 use crate::running::opening::LeafQueue;
 use clk_packet::{Fault, Packet};
 use clk_ruled::{RuledQueue, Tap};
@@ -35,16 +33,17 @@ impl<'a> Model for OpenLine<'a> {
     ghost invariant = { λ i. IsTapOf i.queue.now i.tap };
 }
 
+impl<'a> AtLeaf for OpenLine<'a> {
+    ghost leaf = { λ l. l.leaf };
+
+    fn leaf(&self) -> u16 {
+        self.leaf
+    }
+}
+
 impl<'a> OpenLine<'a> {
     ghost use Rattle.std.specs.Prelude.{◌≡◌};
     ghost use Rattle.clk_drain.specs.Line.{pulling, packets_of};
-
-    /// The number of its leaf.
-    pub fn leaf(&self) -> u16
-        ensures { result ≡ self.now.leaf }
-    {
-        self.leaf
-    }
 
     /// Pulls the packet at the front of the queue, or returns `None` if it finds the queue empty. Doesn't allocate.
     pub fn pull(&mut self, wait: &impl Wait) -> Option<Packet>
@@ -152,24 +151,6 @@ impl<'a, W: Wait> Ask for OpenLines<'a, W> {
             }
             None => None,
         }
-    }
-}
-
-// The place of a leaf's open line, if there is one. If one device has all queues, each stands at the place of its leaf's number, so that
-// place is tried first.
-fn place_of(open_lines: &[OpenLine], leaf: u16) -> Option<usize>
-    requires { AreRising (leaves_of open_lines.now) }
-    ensures { MatchOption result (has_line open_lines.now leaf ≡ false) (IsPlaceOf open_lines.now leaf) }
-{
-    let place = usize::from(leaf);
-    if let Some(open_line) = open_lines.get(place) {
-        if open_line.leaf() == leaf {
-            return Some(place);
-        }
-    }
-    match open_lines.binary_search_by_key(&leaf, |open_line| open_line.leaf()) {
-        Ok(place) => Some(place),
-        Err(_) => None,
     }
 }
 

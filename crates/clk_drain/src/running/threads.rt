@@ -25,12 +25,12 @@ use std::{mem, thread};
 
 /// What a producer's thread promises to return: its seat, closed after all was offered.
 #[derive(Drop)]
-pub struct Sending {
+pub struct ProducerEnd {
     traces: Snapshot<Traces>,
     seat: Snapshot<Seat>,
 }
 
-impl Promise<ClosedSeat> for Sending {
+impl Promise<ClosedSeat> for ProducerEnd {
     ghost use Rattle.clk_packet.specs.Trace.{sent_by};
     ghost use Rattle.clk_ruled.specs.Closing.{IsClosedOf};
     ghost use Rattle.clk_drain.specs.Closing.{AreOffered};
@@ -59,14 +59,14 @@ fn start_sending<'s, E, W: Wait + Sync, G: Gate + Sync>(
     terms: &'s RunTerms<'s, W, G>,
     at: &'s LeafQueue,
     seat: Seat,
-) -> Result<PromisedHandle<ClosedSeat, Sending>, AllocError>
+) -> Result<PromisedHandle<ClosedSeat, ProducerEnd>, AllocError>
     requires unused { IsUnused terms.now at.now.queue seat }
     ensures traces { IfOk result (λ handle. handle.promise.traces.value ≡ terms.now.traces) }
     ensures seat { IfOk result (λ handle. handle.promise.seat.value ≡ seat) }
 {
     let LeafQueue { queue, baton, .. } = at;
     let (wait, traces, gate, through) = (terms.wait, terms.traces, terms.gate, &terms.through);
-    let promise = Sending {
+    let promise = ProducerEnd {
         traces: Snapshot::of(traces),
         seat: Snapshot::of(&seat),
     };

@@ -8,7 +8,7 @@ use Rattle.clk_ruled.specs.Rooms.{named_in, room_of}
 use Rattle.clk_ruled.specs.Queue.{SeatLists, IsShared, empty_seat}
 use Rattle.clk_ruled.specs.inside.Rule.{KnowsAfter, tap_view}
 use Rattle.atomic_table.specs.Seated.{TableId}
-use Rattle.clk_ruled.specs.declared.view.Setup.{Setup}
+use Rattle.clk_ruled.specs.declared.view.QueueSetup.{QueueSetup}
 
 pub record SeatFits (v : View) (sender room next : ℕ) (accepted refused evicted : List Packet) : Type 0 where
   pub sits : v.sits ≡ true
@@ -40,7 +40,7 @@ AreRoomed rooms [] = ⊤
 AreRoomed rooms (r ∷ rest) = (room_of rooms r.0 ≡ r.1) × AreRoomed rooms rest
 
 -- A queue is being opened: all senders but the rest have their seats.
-pub record IsSeated (setup : Setup) (id : TableId) (v : View) (seats : List SeatLists) (rest : List (ℕ × ℕ)) : Type 0 where
+pub record IsSeated (setup : QueueSetup) (id : TableId) (v : View) (seats : List SeatLists) (rest : List (ℕ × ℕ)) : Type 0 where
   pub view_is : v ≡ tap_view setup [] v.given []
   pub some : 1 ≤ setup.capacity
   pub free : AreFree v.given rest

@@ -1,6 +1,7 @@
-use Rattle.std.proofs.Common.{set, rules}
+use Rattle.std.proofs.Common.{◌≡◌, false, Some, set, slice_get, rules}
 use Rattle.std.specs.List.{AllByRecursion}
-use Rattle.clk_drain.specs.inside.Parts.{IsGathered, IsPlaceOf}
+use Rattle.clk_drain.specs.Line.{has_line, leaves_of}
+use Rattle.clk_drain.specs.inside.Parts.{IsGathered}
 use Rattle.clk_drain.proofs.Placing.{IsAsked, unanswered, asked-at}
 use Rattle.clk_drain.proofs.Taking.{AreTaken, taken-at, none-taken}
 use Rattle.clk_drain.proofs.lines.pull_at.Given as given
@@ -8,7 +9,7 @@ use Rattle.clk_drain.proofs.lines.pull_at.Goals as goal
 use Rattle.clk_drain.proofs.lines.pull_at.Goals.{After-lines-1}
 
 -- the line of the leaf was found, and pulled
-found : (g : given.Over) (c : After-lines-1 g) → IsPlaceOf c.args.lines.now.items c.args.leaf c.in-Some.place
+found : (g : given.Over) (c : After-lines-1 g) → slice_get (leaves_of c.args.lines.now.items) c.in-Some.place ≡ Some c.args.leaf
 found g c = search rules
 
 asked : (g : given.Over) (c : After-lines-1 g) → IsAsked c.args.lines.now.items c.args.leaf c.pull.result (set c.args.lines.now.items c.in-Some.place c.pull.new.self)
@@ -34,4 +35,5 @@ pub returns-in-None-clause-pulled : goal.returns-in-None-clause-pulled
 returns-in-None-clause-pulled g c = search (rules, unanswered)
 
 pub returns-in-None-clause-takes : goal.returns-in-None-clause-takes
-returns-in-None-clause-takes g c all = search (rules, none-taken)
+returns-in-None-clause-takes g c all =
+    let none : has_line c.args.lines.now.items c.args.leaf ≡ false = rw c.as_slice.ensures.value at c.in-None.ensures in (none-taken c.args.lines.now.items c.args.leaf none all).takes

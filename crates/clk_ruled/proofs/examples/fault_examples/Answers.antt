@@ -1,7 +1,7 @@
 use Rattle.std.proofs.Common.{◌≡◌, ◌<◌, List, [], ◌∷◌, refl, lit≤, inr, ap, ⊎_elim, arith, get_or}
 use Rattle.std.specs.List.{AllByRecursion}
 use Rattle.clk_packet.specs.declared.packet.Packet.{Packet}
-use Rattle.clk_ruled.specs.declared.view.Setup.{Setup}
+use Rattle.clk_ruled.specs.declared.view.QueueSetup.{QueueSetup}
 use Rattle.clk_ruled.specs.Account.{IsAccount}
 use Rattle.clk_ruled.specs.Queue.{SeatLists, IsSharedOut}
 use Rattle.clk_ruled.specs.Rule.{senders_of}
@@ -11,7 +11,7 @@ use Rattle.clk_ruled.specs.Examples.{p0_0, pulled, held}
 use Rattle.clk_ruled.proofs.Worked.{front-account-by-seats, front-shared, tail-account, tail-shared}
 use Rattle.clk_ruled.proofs.examples.fault_examples.Goals as goal
 
-lost-early : (setup : Setup) (seats : List SeatLists) (taken kept : List Packet) → IsAccount setup.kind setup.capacity (senders_of setup) (accepted_of seats) (evicted_of seats) taken kept
+lost-early : (setup : QueueSetup) (seats : List SeatLists) (taken kept : List Packet) → IsAccount setup.kind setup.capacity (senders_of setup) (accepted_of seats) (evicted_of seats) taken kept
     → AllByRecursion (λ (l : SeatLists). l.setup.kind ≡ setup.kind) seats → AllByRecursion IsSharedOut seats → 0 < lost_count seats → accepted_count seats < setup.capacity
     → HasLostBelow setup.kind setup.capacity (senders_of setup) seats taken
 lost-early setup seats taken kept account kinds shared lost below = record {

@@ -1,4 +1,4 @@
-use Rattle.std.proofs.Common.{[], ◌∷◌, ◌++◌, rules, refl, sym, ap, ◌∙◌, subst}
+use Rattle.std.proofs.Common.{[], ◌∷◌, ◌++◌, rules, refl, inl, sym, ap, ◌∙◌, subst}
 use Rattle.std.specs.Vec.Iter.{into_iter_items}
 use Rattle.std.proofs.lemmas.List.{nil_from_length}
 use Rattle.std.proofs.lemmas.List.Sorted.{IsNonDecreasingBy-from_sort_by_key}
@@ -11,10 +11,14 @@ use Rattle.clk_drain.proofs.ClosingSteps.{AreClosing, closing-more, next-ready, 
 use Rattle.clk_drain.proofs.running.closing.close_devices.Goals as goal
 
 pub returns-in_err-with_capacity-clause-fault : goal.returns-in_err-with_capacity-clause-fault
-returns-in_err-with_capacity-clause-fault g c = search rules
+returns-in_err-with_capacity-clause-fault g c =
+    let p = err_from_is_err_and c.from_residual.result c.from_residual.ensures.1 in
+    rw p.1 (inl p.2)
 
 pub returns-in_err-with_capacity-2-clause-fault : goal.returns-in_err-with_capacity-2-clause-fault
-returns-in_err-with_capacity-2-clause-fault g c = search rules
+returns-in_err-with_capacity-2-clause-fault g c =
+    let p = err_from_is_err_and c.from_residual-in_err-with_capacity-2.result c.from_residual-in_err-with_capacity-2.ensures.1 in
+    rw p.1 (inl p.2)
 
 pub close-requires-clause-lines : goal.close-requires-clause-lines
 close-requires-clause-lines g c =
@@ -49,16 +53,18 @@ loop-session-preserved g c =
     let ready = next-ready those all done rest before f c.loop-session.outcome next c.loop-session.invariant c.requires.ready in
     subst (λ (d : Feed). AreClosing those all (done ++ d ∷ []) rest c.note.new.outcome) c.session.view_is
     (closing-more those all done rest before f c.in_ok-drained.drained c.loop-session.outcome c.note.new.outcome next ready (c.in_ok-drained.ensures.drained c.session.invariant) c.in_ok-drained.ensures.reached
-    (search rules) c.loop-session.invariant)
+    (record { logs = c.in_ok-note.ensures.logs; emitted = c.in_ok-note.ensures.emitted; tallies = c.in_ok-note.ensures.tallies }) c.loop-session.invariant)
 
 pub returns-in_err-note-clause-fault : goal.returns-in_err-note-clause-fault
-returns-in_err-note-clause-fault g c = search rules
+returns-in_err-note-clause-fault g c =
+    let p = err_from_is_err_and c.from_residual-in_err-note.result c.from_residual-in_err-note.ensures.1 in
+    rw (p.1, p.2) (inl c.in_err-note.ensures.fault)
 
 pub returns-clause-settled : goal.returns-clause-settled
 returns-clause-settled g c =
     all-closed c.args.terms.now c.args.closings.items c.loop-session.yielded (into_iter_items c.loop-session.session-iterator) c.loop-session.outcome
     (record { emitted = c.loop-session.outcome.emitted; logs = c.loop-session.outcome.logs; tallies = c.sort_unstable_by_key.new.self })
-    (search (rules, nil_from_length)) refl refl
+    (nil_from_length (into_iter_items c.loop-session.session-iterator) (sym c.loop-session.session-iterator.rest.ok.0 ∙ c.in-None.ensures.steps.0)) refl refl
     (record {
       same = c.sort_unstable_by_key.ensures.permutation;
       order = IsNonDecreasingBy-from_sort_by_key (λ (t : Tally). t.sender) _ c.sort_unstable_by_key.ensures.sorted (λ a r q k. search rules);
