@@ -7,7 +7,7 @@ use Rattle.std.proofs.lemmas.Option.{slice_get-map, slice_get_within, slice_get_
 use Rattle.clk_sched.specs.Session.{counted_moment, progress_of}
 use Rattle.clk_tree.specs.PlanParts.{SendsWithin, number_of}
 use Rattle.clk_router.specs.declared.senders.Sender.{Sender}
-use Rattle.clk_router.specs.declared.devices.Device.{Device}
+use Rattle.clk_router.specs.declared.devices.RouterDevice.{RouterDevice}
 use Rattle.clk_router.specs.declared.parts.Parts.{Parts}
 use Rattle.clk_router.specs.Course.{sender_at, device_at, its_device, room_device, moment_at, CanOffer}
 use Rattle.clk_router.specs.Events.{Setup, Event, numbers_of}
@@ -24,12 +24,12 @@ found-at {X} xs seen i x same low read = subst (λ (l : List X). slice_get l i �
 
 module _ (setup : Setup) (events : List Event) (parts : Parts) (stand : Stand setup events parts) where
   -- what an index reads is the device that stands there
-  pub device-read : (d : ℕ) → d < length setup.trees → (i : ℕ) (its : Device) → i ≡ d → its ≡ get_or parts.devices.items i its → slice_get parts.devices.items d ≡ Some its
+  pub device-read : (d : ℕ) → d < length setup.trees → (i : ℕ) (its : RouterDevice) → i ≡ d → its ≡ get_or parts.devices.items i its → slice_get parts.devices.items d ≡ Some its
   device-read d low i its same read =
       slice_get_read parts.devices.items _ d its refl (let count = stand.at.device_count in omega (arith, count, low)) (read ∙ ap (λ k. get_or parts.devices.items k its) same)
 
   -- a device that is there, and what it came to
-  module _ (d : ℕ) (its : Device) (here : slice_get parts.devices.items d ≡ Some its) where
+  module _ (d : ℕ) (its : RouterDevice) (here : slice_get parts.devices.items d ≡ Some its) where
     there : IsHere setup events d its
     there = device-here setup events parts d its stand.at here
 

@@ -19,7 +19,7 @@ use Rattle.clk_sched.specs.Drain.{GivesAll}
 use Rattle.clk_sched.specs.Session.{given_in, IsDrained, newly, latest_moment, counted_moment, progress_of}
 use Rattle.clk_sched.specs.Departures.{departures_in, pulls_since}
 use Rattle.clk_sched.specs.declared.session.departures.Departure.{Departure}
-use Rattle.clk_router.specs.declared.devices.Device.{Device}
+use Rattle.clk_router.specs.declared.devices.RouterDevice.{RouterDevice}
 use Rattle.clk_router.specs.declared.parts.Parts.{Parts}
 use Rattle.clk_router.specs.Events.{Setup, Event, pulled, happens_at, events_at, moment_in, accepted_in, evicted_in, visits_in, log_of, at_queue, history, RunsTree, closing_pulls}
 use Rattle.clk_router.specs.inside.Parts.{AreQueuesAt, IsDeviceAt, AreDevicesAt, KeepsAsAt, HasSentFew, IsAt, CanPullAt, CanCloseAt, LeadsOnByPulls, ClosesBy}
@@ -28,11 +28,11 @@ use Rattle.clk_router.proofs.SenderLemmas.{senders-closed}
 use Rattle.clk_router.proofs.PartsLemmas.{its-history, StandAt, gives, queues-answered, IsHere, device-here, devices-same, IsSetAt, kinds-set}
 
 -- the moment after which the closing of a device begins
-pub its-latest : (setup : Setup) (events : List Event) (d : ℕ) (device : Device) → IsHere setup events d device → counted_moment (progress_of device.session) ≡ fold max 0 (filter_map moment_in (events_at setup d events))
+pub its-latest : (setup : Setup) (events : List Event) (d : ℕ) (device : RouterDevice) → IsHere setup events d device → counted_moment (progress_of device.session) ≡ fold max 0 (filter_map moment_in (events_at setup d events))
 its-latest setup events d device here = ap (λ l. latest_moment (reverse (pulls l))) here.is.log ∙ latest-moment here.tree (events_at setup d events) here.runs
 
 -- What is accepted at a device was put out, came out before, or is left, as the device counts it.
-its-left : (setup : Setup) (events : List Event) (d : ℕ) (device : Device) → IsHere setup events d device → (left : ℕ) → length (emitted device.session.log) + left ≡ device.kept
+its-left : (setup : Setup) (events : List Event) (d : ℕ) (device : RouterDevice) → IsHere setup events d device → (left : ℕ) → length (emitted device.session.log) + left ≡ device.kept
     → length (filter_map accepted_in (events_at setup d events)) ≡ length (filter_map evicted_in (events_at setup d events)) + length (emitted (log_of (events_at setup d events))) + left
 its-left setup events d device here left are =
     let kept = here.is.kept in
@@ -40,7 +40,7 @@ its-left setup events d device here left are =
     omega (arith, kept, out, are)
 
 -- A drain of a device, which changes no other, leads on.
-module _ (calls : CallsAreHistory) (setup : Setup) (events : List Event) (old new : Parts) (d moment made given : ℕ) (before after : Device) (at : IsAt setup events old)
+module _ (calls : CallsAreHistory) (setup : Setup) (events : List Event) (old new : Parts) (d moment made given : ℕ) (before after : RouterDevice) (at : IsAt setup events old)
     (set : IsSetAt old.devices.items d before after new.devices.items) (kept : after.kept ≡ before.kept) (kind : (after.session.keeps ≡ before.session.keeps) × (after.session.gone ≡ before.session.gone))
     (dr : IsDrained (progress_of before.session) (progress_of after.session) (max (counted_moment (progress_of before.session)) moment) made given) where
   here : IsHere setup events d before
@@ -125,7 +125,7 @@ module _ (calls : CallsAreHistory) (setup : Setup) (events : List Event) (old ne
               let same : d ≡ k = grind (arith, nat_tests) in
               subst (λ n. AreDevicesAt (events_at setup n (events ++ last)) (slice_get setup.trees n) (slice_get new.devices.items n)) same
               (subst (λ l. AreDevicesAt l (slice_get setup.trees d) (slice_get new.devices.items d)) (sym (events-pulls setup d events start dr.more))
-              (subst (λ (o : Option Device). AreDevicesAt (its ++ last) (slice_get setup.trees d) o) (sym set.is) (subst (λ (o : Option Tree). AreDevicesAt (its ++ last) o (Some after)) (sym here.its) itself)))
+              (subst (λ (o : Option RouterDevice). AreDevicesAt (its ++ last) (slice_get setup.trees d) o) (sym set.is) (subst (λ (o : Option Tree). AreDevicesAt (its ++ last) o (Some after)) (sym here.its) itself)))
           by_test false f =
               devices-same (events_at setup k events) (events_at setup k (events ++ last)) (slice_get setup.trees k) (slice_get old.devices.items k) (slice_get new.devices.items k)
               (sym (filter-append (happens_at setup k) events last ∙ ap (λ l. events_at setup k events ++ l) (pulls-elsewhere setup d k start dr.more f) ∙ append-nil (events_at setup k events)))
@@ -137,7 +137,7 @@ module _ (calls : CallsAreHistory) (setup : Setup) (events : List Event) (old ne
       record { its = after; here = set.is; leads = subst (λ more. IsAt setup (events ++ closing_pulls d moment its more) new) (sym shown) (IsAt-closed answers senders numbers paths keeps) }
 
 -- what came out in a whole closing
-pub closes-by : CallsAreHistory → (setup : Setup) (events : List Event) (old new : Parts) (d moment made left : ℕ) (before after : Device) (departures : List Departure) → IsAt setup events old
+pub closes-by : CallsAreHistory → (setup : Setup) (events : List Event) (old new : Parts) (d moment made left : ℕ) (before after : RouterDevice) (departures : List Departure) → IsAt setup events old
     → IsSetAt old.devices.items d before after new.devices.items → after.kept ≡ before.kept → (after.session.keeps ≡ before.session.keeps) × (after.session.gone ≡ before.session.gone) → length (emitted before.session.log) + left ≡ before.kept
     → GivesAll (progress_of before.session) (progress_of after.session) (max (counted_moment (progress_of before.session)) moment) made left
     → departures ≡ departures_in (pulls_since (progress_of before.session) (progress_of after.session)) → ClosesBy setup events d moment after.session departures
@@ -156,12 +156,12 @@ closes-by calls setup events old new d moment made left before after departures 
     }
 
 -- a device that can be pulled is there, and so is one that can be closed
-pub can-pull : (keeps : Keeps) (devices : List Device) (d : ℕ) → CanPullAt keeps (slice_get devices d) → d < length devices
+pub can-pull : (keeps : Keeps) (devices : List RouterDevice) (d : ℕ) → CanPullAt keeps (slice_get devices d) → d < length devices
 can-pull keeps [] d can = absurd can
 can-pull keeps (device ∷ devices) zero can = omega arith
 can-pull keeps (device ∷ devices) (suc d) can = let below = can-pull keeps devices d can in omega (arith, below)
 
-pub can-close : (moment : ℕ) (devices : List Device) (d : ℕ) → CanCloseAt moment (slice_get devices d) → d < length devices
+pub can-close : (moment : ℕ) (devices : List RouterDevice) (d : ℕ) → CanCloseAt moment (slice_get devices d) → d < length devices
 can-close moment [] d can = absurd can
 can-close moment (device ∷ devices) zero can = omega arith
 can-close moment (device ∷ devices) (suc d) can = let below = can-close moment devices d can in omega (arith, below)

@@ -4,7 +4,7 @@ use Rattle.std.proofs.Crossing as heap
 use Rattle.clk_sched.proofs.tree.Tree.TheLaws.TheKnot as trees
 use Rattle.clk_packet.proofs.scheduler.Scheduler.TheSendSync as scheduler
 use Rattle.clk_sched.proofs.session.nodes.Nodes.TheSendSync as nodes
-use Rattle.clk_sched.proofs.session.emitted.Emitted.TheSendSync as emitted
+use Rattle.clk_sched.proofs.session.emitted.EmittedPackets.TheSendSync as emitted
 use Rattle.clk_sched.proofs.session.keeps.Keeps.TheSendSync as keeps
 use Rattle.clk_router.proofs.past.Past.TheSendSync as past
 use Rattle.clk_router.proofs.queues.Queues.TheSendSync as queues

@@ -22,7 +22,7 @@ use Rattle.clk_sched.specs.Step.{IsOnePullMore}
 use Rattle.clk_sched.specs.Tree.{Tree, root, leaves, queue_at, is_number}
 use Rattle.clk_sched.proofs.Callers.Due.{could-same}
 use Rattle.clk_sched.proofs.Callers.Lists.{to-all}
-use Rattle.clk_router.specs.declared.devices.Device.{Device}
+use Rattle.clk_router.specs.declared.devices.RouterDevice.{RouterDevice}
 use Rattle.clk_router.specs.declared.parts.Parts.{Parts}
 use Rattle.clk_router.specs.Course.{Course, events_of, moment_at}
 use Rattle.clk_router.specs.Due.{is_backlogged, IsDeviceDue, EmitsNoneBefore}
@@ -43,7 +43,7 @@ held-there : (setup : Setup) (d q : ℕ) (events : List Event) (room : Option Ro
     → nat_lt 0 (length (packets_in ring)) ≡ is_backlogged setup events q
 held-there setup d q events room ring at leads = search rules
 
-device-due : (setup : Setup) (events : List Event) (parts : Parts) (d : ℕ) (its : Device) (due : Option ℕ) → Stand setup events parts → slice_get parts.devices.items d ≡ Some its
+device-due : (setup : Setup) (events : List Event) (parts : Parts) (d : ℕ) (its : RouterDevice) (due : Option ℕ) → Stand setup events parts → slice_get parts.devices.items d ≡ Some its
     → IsSessionDue its.session parts.queues.rings.items due → IsDeviceDue (course setup events parts) d due
 device-due setup events parts d its due stand at found =
     subst (λ o. MatchOption o ⊥ (λ tree. IsDue (tree_could_emit tree (log_of (events_at setup d events)) (is_backlogged setup events)) (moment_at (course setup events parts) d) due)) (sym here.its)
@@ -68,7 +68,7 @@ device-due setup events parts d its due stand at found =
         ∙ could-same (turns_in (log_of (events_at setup d events))) (λ q. nat_lt 0 (length (packets_at parts.queues.rings.items q))) (is_backlogged setup events) moment 1 (root here.tree) own
 
 pub router-due : (setup : Setup) (events : List Event) (parts : Parts) (d : ℕ) (due : Option ℕ) → Stand setup events parts → d < length setup.trees
-    → ((its : Device) → slice_get parts.devices.items d ≡ Some its → IsSessionDue its.session parts.queues.rings.items due) → IsDeviceDue (course setup events parts) d due
+    → ((its : RouterDevice) → slice_get parts.devices.items d ≡ Some its → IsSessionDue its.session parts.queues.rings.items due) → IsDeviceDue (course setup events parts) d due
 router-due setup events parts d due stand within found =
     let its = member-at parts.devices.items d (let count = stand.at.device_count in omega (arith, count, within)) in
     device-due setup events parts d its.member due stand its.here (found its.member its.here)

@@ -15,7 +15,7 @@ use Rattle.clk_tree.specs.Plan.{Planned}
 use Rattle.clk_tree.specs.PlanTree.{device_count}
 use Rattle.clk_tree.specs.PlanParts.{Queued, queues_of, senders_of, number_of}
 use Rattle.clk_tree.specs.Shares.{AreTreesOf, AreSharedOut}
-use Rattle.clk_router.specs.declared.devices.Device.{Device}
+use Rattle.clk_router.specs.declared.devices.RouterDevice.{RouterDevice}
 use Rattle.clk_router.specs.declared.queues.Queues.{Queues}
 use Rattle.clk_router.specs.declared.parts.Parts.{Parts}
 use Rattle.clk_router.specs.Events.{Room, Setup, Event, is_at, events_at, log_of, history, plan_setup}
@@ -50,7 +50,7 @@ held-there setup closable d q events (Some room) None is at leads = absurd leads
 held-there setup closable d q events (Some room) (Some ring) is at leads = ap length (sym leads.leads.holds) ∙ ap (λ h. length (held h)) (sym (history-alone setup closable.apart d q room is at events))
 
 -- What a device over such a setup has kept: what came out of it, and what its queues and heads hold.
-pub kept-is : (setup : Setup) (all_events : List Event) (parts : Parts) (d : ℕ) (device : Device) → IsClosable setup → IsAt setup all_events parts → ((tree : Tree) → IsRun tree []) → ((tree : Tree) → leaves_distinct tree ≡ true → ConservesCounts tree) → slice_get parts.devices.items d ≡ Some device
+pub kept-is : (setup : Setup) (all_events : List Event) (parts : Parts) (d : ℕ) (device : RouterDevice) → IsClosable setup → IsAt setup all_events parts → ((tree : Tree) → IsRun tree []) → ((tree : Tree) → leaves_distinct tree ≡ true → ConservesCounts tree) → slice_get parts.devices.items d ≡ Some device
     → device.kept ≡ length (emitted device.session.log) + left_in device.session.tree device.session.log (λ q. length (packets_at parts.queues.rings.items q))
 kept-is setup all_events parts d device closable at start counts was =
     let kept = here.is.kept in

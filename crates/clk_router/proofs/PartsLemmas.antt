@@ -28,7 +28,7 @@ use Rattle.clk_packet.specs.Lists.{AreRising}
 use Rattle.clk_tree.specs.PlanParts.{Queued, queued, HasCapacity, number_of}
 use Rattle.clk_router.specs.declared.senders.Sender.{Sender}
 use Rattle.clk_router.specs.declared.queues.Queues.{Queues}
-use Rattle.clk_router.specs.declared.devices.Device.{Device}
+use Rattle.clk_router.specs.declared.devices.RouterDevice.{RouterDevice}
 use Rattle.clk_router.specs.declared.parts.Parts.{Parts}
 use Rattle.clk_router.specs.Events.{Room, Setup, room_of, setup_of, sender_numbers, is_at, is_of_device, Event, offered, pulled, happens_at, events_at, numbers_of, log_of, sends_to, answers_in, at_queue, history, RunsTree}
 use Rattle.clk_router.specs.Course.{room_device}
@@ -136,30 +136,30 @@ queues-answered calls setup tree device moment visits a b events its at answers 
     }
 
 -- a device of a router, with its tree
-pub record IsHere (setup : Setup) (events : List Event) (d : ℕ) (device : Device) : Type 0 where
+pub record IsHere (setup : Setup) (events : List Event) (d : ℕ) (device : RouterDevice) : Type 0 where
   pub tree : Tree
   pub its : slice_get setup.trees d ≡ Some tree
   pub is : IsDeviceAt (events_at setup d events) tree device
   pub runs : RunsTree tree (events_at setup d events)
 
-here-at : (setup : Setup) (events : List Event) (d : ℕ) (device : Device) (tree : Option Tree) (at : Option Device) → slice_get setup.trees d ≡ tree → AreDevicesAt (events_at setup d events) tree at
+here-at : (setup : Setup) (events : List Event) (d : ℕ) (device : RouterDevice) (tree : Option Tree) (at : Option RouterDevice) → slice_get setup.trees d ≡ tree → AreDevicesAt (events_at setup d events) tree at
     → MatchOption tree ⊤ (λ t. RunsTree t (events_at setup d events)) → at ≡ Some device → IsHere setup events d device
 here-at setup events d device tree at e is runs here = search rules
 
-pub device-here : (setup : Setup) (events : List Event) (parts : Parts) (d : ℕ) (device : Device) → IsAt setup events parts → slice_get parts.devices.items d ≡ Some device → IsHere setup events d device
+pub device-here : (setup : Setup) (events : List Event) (parts : Parts) (d : ℕ) (device : RouterDevice) → IsAt setup events parts → slice_get parts.devices.items d ≡ Some device → IsHere setup events d device
 device-here setup events parts d device at here =
     here-at setup events d device (slice_get setup.trees d) (slice_get parts.devices.items d) refl (at.devices d) (at.can_happen.runs d) here
 
 -- the same device over other events, where its own are the same
-pub devices-same : (es fs : List Event) (tree : Option Tree) (old new : Option Device) → es ≡ fs → new ≡ old → AreDevicesAt es tree old → AreDevicesAt fs tree new
-devices-same es fs tree old new e f is = subst (λ (o : Option Device). AreDevicesAt fs tree o) (sym f) (subst (λ l. AreDevicesAt l tree old) e is)
+pub devices-same : (es fs : List Event) (tree : Option Tree) (old new : Option RouterDevice) → es ≡ fs → new ≡ old → AreDevicesAt es tree old → AreDevicesAt fs tree new
+devices-same es fs tree old new e f is = subst (λ (o : Option RouterDevice). AreDevicesAt fs tree o) (sym f) (subst (λ l. AreDevicesAt l tree old) e is)
 
 -- what an offer counts at its device
-counts-offered : (events : List Event) (tree : Tree) (old new : Device) (p : Packet) (outcome : Offered) → IsDeviceAt events tree old → new.session ≡ old.session → new.kept ≡ old.kept + kept_by outcome
+counts-offered : (events : List Event) (tree : Tree) (old new : RouterDevice) (p : Packet) (outcome : Offered) → IsDeviceAt events tree old → new.session ≡ old.session → new.kept ≡ old.kept + kept_by outcome
     → IsDeviceAt (events ++ offered p outcome ∷ []) tree new
 counts-offered events tree old new p outcome is session kept = search (rules, flat_map-append, filter_map-append, length-append)
 
-counts-here : (events : List Event) (tree : Option Tree) (old new : Option Device) (p : Packet) (outcome : Offered) → AreDevicesAt events tree old → CountsHere outcome old new
+counts-here : (events : List Event) (tree : Option Tree) (old new : Option RouterDevice) (p : Packet) (outcome : Offered) → AreDevicesAt events tree old → CountsHere outcome old new
     → AreDevicesAt (events ++ offered p outcome ∷ []) tree new
 counts-here events tree None new p outcome is counts = absurd counts
 counts-here events tree (Some old) None p outcome is counts = absurd counts
@@ -171,12 +171,12 @@ room-device : (rooms : List Room) (q device : ℕ) → slice_get (map room_devic
 room-device rooms q device here d = search (rules, slice_get-map)
 
 -- The device of this number was one, and is another now.
-pub record IsSetAt (old : List Device) (d : ℕ) (before after : Device) (new : List Device) : Type 0 where
+pub record IsSetAt (old : List RouterDevice) (d : ℕ) (before after : RouterDevice) (new : List RouterDevice) : Type 0 where
   pub was : slice_get old d ≡ Some before
   pub is : slice_get new d ≡ Some after
   pub only : ChangesDevice old d new
 
-pub set-device : (old : List Device) (d i : ℕ) (before after : Device) → i ≡ d → d < length old → before ≡ get_or old i before → IsSetAt old d before after (slice_set old i after)
+pub set-device : (old : List RouterDevice) (d i : ℕ) (before after : RouterDevice) → i ≡ d → d < length old → before ≡ get_or old i before → IsSetAt old d before after (slice_set old i after)
 set-device old d i before after same within value = search (rules, slice_get_read, set-here, set-other)
 
 -- a sender that can send is there
@@ -186,7 +186,7 @@ can-send count (s ∷ senders) zero can = omega arith
 can-send count (s ∷ senders) (suc place) can = let below = can-send count senders place can in omega (arith, below)
 
 -- a device that can count one more is there
-pub can-count : (devices : List Device) (d : ℕ) → CanCount (slice_get devices d) → d < length devices
+pub can-count : (devices : List RouterDevice) (d : ℕ) → CanCount (slice_get devices d) → d < length devices
 can-count [] d can = absurd can
 can-count (device ∷ devices) zero can = omega arith
 can-count (device ∷ devices) (suc d) can = let below = can-count devices d can in omega (arith, below)
@@ -219,18 +219,18 @@ sending-at parts place s i device can is same read =
     counts = can.counts device s its.here path
 
 -- An outcome is counted at one device.
-pub counts-at : (old : List Device) (d : ℕ) (before after : Device) (outcome : Offered) (new : List Device) → IsSetAt old d before after new → after.session ≡ before.session → after.kept ≡ before.kept + kept_by outcome → CountsAt old d outcome new
+pub counts-at : (old : List RouterDevice) (d : ℕ) (before after : RouterDevice) (outcome : Offered) (new : List RouterDevice) → IsSetAt old d before after new → after.session ≡ before.session → after.kept ≡ before.kept + kept_by outcome → CountsAt old d outcome new
 counts-at old d before after outcome new set session kept = search rules
 
 -- What one device keeps may change, where only it does.
-pub kinds-changed : (keeps : Keeps) (old : List Device) (d : ℕ) (new : List Device) → ChangesDevice old d new → (KeepsAsAt keeps (slice_get old d) → KeepsAsAt keeps (slice_get new d))
+pub kinds-changed : (keeps : Keeps) (old : List RouterDevice) (d : ℕ) (new : List RouterDevice) → ChangesDevice old d new → (KeepsAsAt keeps (slice_get old d) → KeepsAsAt keeps (slice_get new d))
     → ((k : ℕ) → KeepsAsAt keeps (slice_get old k)) → (k : ℕ) → KeepsAsAt keeps (slice_get new k)
 kinds-changed keeps old d new changes here at k = search rules
 
-kinds-counted : (keeps : Keeps) (outcome : Offered) (old new : Option Device) → CountsHere outcome old new → KeepsAsAt keeps old → KeepsAsAt keeps new
+kinds-counted : (keeps : Keeps) (outcome : Offered) (old new : Option RouterDevice) → CountsHere outcome old new → KeepsAsAt keeps old → KeepsAsAt keeps new
 kinds-counted keeps outcome old new counts h = search rules
 
-pub kinds-set : (keeps : Keeps) (old : List Device) (d : ℕ) (before after : Device) (new : List Device) → slice_get old d ≡ Some before → slice_get new d ≡ Some after → ChangesDevice old d new → (after.session.keeps ≡ before.session.keeps) × (after.session.gone ≡ before.session.gone)
+pub kinds-set : (keeps : Keeps) (old : List RouterDevice) (d : ℕ) (before after : RouterDevice) (new : List RouterDevice) → slice_get old d ≡ Some before → slice_get new d ≡ Some after → ChangesDevice old d new → (after.session.keeps ≡ before.session.keeps) × (after.session.gone ≡ before.session.gone)
     → ((k : ℕ) → KeepsAsAt keeps (slice_get old k)) → (k : ℕ) → KeepsAsAt keeps (slice_get new k)
 kinds-set keeps old d before after new was is changes kind =
     kinds-changed keeps old d new changes (λ h. let first : KeepsAs keeps before = subst (KeepsAsAt keeps) was h in let next : KeepsAs keeps after = (kind.0 ∙ first.0, kind.1 ∙ first.1) in subst (KeepsAsAt keeps) (sym is) next)
@@ -338,7 +338,7 @@ IsAt-sent calls setup events old new place device s p outcome counted at rising 
             (sym (events-elsewhere setup d events (offered p outcome) (happens d ∙ f))) (counted.only.others d f) (at.devices d)
 
 -- A pull of a device, which changes the session of no other, leads on.
-pub IsAt-pulled : CallsAreHistory → (setup : Setup) (events : List Event) (old new : Parts) (d moment : ℕ) (before after : Device) (got : Option Packet) → IsAt setup events old → slice_get old.devices.items d ≡ Some before
+pub IsAt-pulled : CallsAreHistory → (setup : Setup) (events : List Event) (old new : Parts) (d moment : ℕ) (before after : RouterDevice) (got : Option Packet) → IsAt setup events old → slice_get old.devices.items d ≡ Some before
     → slice_get new.devices.items d ≡ Some after → ChangesDevice old.devices.items d new.devices.items → after.kept ≡ before.kept → (after.session.keeps ≡ before.session.keeps) × (after.session.gone ≡ before.session.gone) → IsPulledOnce (progress_of before.session) (progress_of after.session) moment got
     → Answers gives (tree_queue before.session.tree) old.queues (newly (progress_of before.session) (progress_of after.session)) new.queues → new.senders ≡ old.senders → new.numbers ≡ old.numbers → new.paths ≡ old.paths
     → new.keeps ≡ old.keeps → LeadsOnByPull setup new d moment got events
@@ -408,7 +408,7 @@ IsAt-pulled calls setup events old new d moment before after got at was is chang
             let same : d ≡ k = grind (arith, nat_tests) in
             subst (λ n. AreDevicesAt (events_at setup n more) (slice_get setup.trees n) (slice_get new.devices.items n)) same
             (subst (λ l. AreDevicesAt l (slice_get setup.trees d) (slice_get new.devices.items d)) (sym (events-here setup d events (pulled d moment visits) (grind (arith, nat_tests))))
-            (subst (λ (o : Option Device). AreDevicesAt (events_at setup d events ++ pulled d moment visits ∷ []) (slice_get setup.trees d) o) (sym is)
+            (subst (λ (o : Option RouterDevice). AreDevicesAt (events_at setup d events ++ pulled d moment visits ∷ []) (slice_get setup.trees d) o) (sym is)
             (subst (λ (o : Option Tree). AreDevicesAt (events_at setup d events ++ pulled d moment visits ∷ []) o (Some after)) (sym here.its) itself)))
         by_test false f =
             devices-same (events_at setup k events) (events_at setup k more) (slice_get setup.trees k) (slice_get old.devices.items k) (slice_get new.devices.items k)
@@ -441,9 +441,9 @@ capacity-at (s ∷ specs) zero spec all within is = subst (λ (q : QueueSpec). H
 capacity-at (s ∷ specs) (suc i) spec all within is = capacity-at specs i spec all.1 (omega arith) is
 
 -- What holds of a device that was pulled where it could be, and is put back.
-pub set-same : (devices : List Device) (d : ℕ) (before : Device) → before ≡ get_or devices d before → d < length devices → slice_set devices d before ≡ devices
+pub set-same : (devices : List RouterDevice) (d : ℕ) (before : RouterDevice) → before ≡ get_or devices d before → d < length devices → slice_set devices d before ≡ devices
 set-same [] d before is within = absurd (omega (arith, within))
-set-same (device ∷ devices) zero before is within = ap (λ (x : Device). x ∷ devices) is
+set-same (device ∷ devices) zero before is within = ap (λ (x : RouterDevice). x ∷ devices) is
 set-same (device ∷ devices) (suc d) before is within = ap (λ l. device ∷ l) (set-same devices d before is (omega (arith, within)))
 
 -- what follows from two facts of a success, and of a failure

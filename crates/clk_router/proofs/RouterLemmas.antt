@@ -15,7 +15,7 @@ use Rattle.clk_sched.specs.Tree.{Tree, leaves_distinct}
 use Rattle.clk_packet.specs.Lists.{AreRising}
 use Rattle.clk_tree.specs.PlanParts.{SendsWithin, number_of}
 use Rattle.clk_router.specs.declared.senders.Sender.{Sender}
-use Rattle.clk_router.specs.declared.devices.Device.{Device}
+use Rattle.clk_router.specs.declared.devices.RouterDevice.{RouterDevice}
 use Rattle.clk_router.specs.declared.parts.Parts.{Parts}
 use Rattle.clk_router.specs.declared.past.Past.{Past}
 use Rattle.clk_router.specs.Course.{Course, after, IsClosed, pulls_at, accepted_at, evicted_at, emitted_at, room_device, its_device, CanOffer, CanClose}
@@ -59,7 +59,7 @@ module _ (setup : Setup) (events : List Event) (parts : Parts) (stand : Stand se
     pub counts-left : CountsLeft (slice_get parts.devices.items d)
     counts-left = subst CountsLeft (sym its.here) least
 
-    pub left-is : (left : ℕ) → ((here : Device) → slice_get parts.devices.items d ≡ Some here → length (emitted here.session.log) + left ≡ here.kept)
+    pub left-is : (left : ℕ) → ((here : RouterDevice) → slice_get parts.devices.items d ≡ Some here → length (emitted here.session.log) + left ≡ here.kept)
         → accepted_at (course setup events parts) d ≡ evicted_at (course setup events parts) d + emitted_at (course setup events parts) d + left
     left-is left is =
         let all = is its.member its.here in
@@ -122,21 +122,21 @@ module _ (setup : Setup) (events : List Event) (parts : Parts) (stand : Stand se
       }
 
 -- the trees of the devices
-trees-each : (devices : List Device) (trees : List Tree) → length devices ≡ length trees
-    → ((i : ℕ) (device : Device) (tree : Tree) → slice_get devices i ≡ Some device → slice_get trees i ≡ Some tree → device.session.tree ≡ tree) → map device_tree devices ≡ trees
+trees-each : (devices : List RouterDevice) (trees : List Tree) → length devices ≡ length trees
+    → ((i : ℕ) (device : RouterDevice) (tree : Tree) → slice_get devices i ≡ Some device → slice_get trees i ≡ Some tree → device.session.tree ≡ tree) → map device_tree devices ≡ trees
 trees-each [] [] count h = refl
 trees-each [] (tree ∷ trees) count h = absurd (omega (arith, count))
 trees-each (device ∷ devices) [] count h = absurd (omega (arith, count))
 trees-each (device ∷ devices) (tree ∷ trees) count h = ap₂ (λ (t : Tree) ts. t ∷ ts) (h 0 device tree refl refl) (trees-each devices trees (omega (arith, count)) (λ i. h (suc i)))
 
-tree-at : (events : List Event) (o : Option Tree) (p : Option Device) (device : Device) (tree : Tree) → AreDevicesAt events o p → p ≡ Some device → o ≡ Some tree → device.session.tree ≡ tree
+tree-at : (events : List Event) (o : Option Tree) (p : Option RouterDevice) (device : RouterDevice) (tree : Tree) → AreDevicesAt events o p → p ≡ Some device → o ≡ Some tree → device.session.tree ≡ tree
 tree-at events o p device tree is e f = search rules
 
 pub trees-its : (setup : Setup) (events : List Event) (parts : Parts) → IsAt setup events parts → trees_in parts ≡ setup.trees
 trees-its setup events parts at = search (rules, trees-each)
 
 -- what an index reads is what stands there
-read-there : (devices : List Device) (d i : ℕ) (its read : Device) → slice_get devices d ≡ Some its → i ≡ d → read ≡ get_or devices i read → its ≡ read
+read-there : (devices : List RouterDevice) (d i : ℕ) (its read : RouterDevice) → slice_get devices d ≡ Some its → i ≡ d → read ≡ get_or devices i read → its ≡ read
 read-there devices d i its read here same is = sym (is ∙ ap (λ k. get_or devices k read) same ∙ get_or_from_slice_get devices d its read here)
 
 -- A router stands where its past is told as its parts went on.
@@ -154,21 +154,21 @@ course-told setup events more old new past told keeps = λ i. record { setup = (
 
 -- the pull that a session shows, and the closing pulls
 module _ (setup : Setup) (events : List Event) (old new : Parts) (d moment : ℕ) where
-  pub pull-read : (got : Option Packet) (i : ℕ) (read : Device) → LeadsOnByPull setup new d moment got events → i ≡ d → read ≡ get_or new.devices.items i read
+  pub pull-read : (got : Option Packet) (i : ℕ) (read : RouterDevice) → LeadsOnByPull setup new d moment got events → i ≡ d → read ≡ get_or new.devices.items i read
       → (result_of (visits_of 0 (visits_shown setup events d read.session)) ≡ got) × IsAt setup (events ++ pull_shown setup events d moment read.session) new
   pull-read got i read led same is =
-      subst (λ (x : Device). (result_of (visits_of 0 (visits_shown setup events d x.session)) ≡ got) × IsAt setup (events ++ pull_shown setup events d moment x.session) new)
+      subst (λ (x : RouterDevice). (result_of (visits_of 0 (visits_shown setup events d x.session)) ≡ got) × IsAt setup (events ++ pull_shown setup events d moment x.session) new)
       (read-there new.devices.items d i led.its read led.here same is) (led.result, led.leads)
 
-  pub pulls-read : (i : ℕ) (read : Device) → LeadsOnByPulls setup new d moment events → i ≡ d → read ≡ get_or new.devices.items i read → IsAt setup (events ++ pulls_shown setup events d moment read.session) new
+  pub pulls-read : (i : ℕ) (read : RouterDevice) → LeadsOnByPulls setup new d moment events → i ≡ d → read ≡ get_or new.devices.items i read → IsAt setup (events ++ pulls_shown setup events d moment read.session) new
   pulls-read i read led same is =
-      subst (λ (x : Device). IsAt setup (events ++ pulls_shown setup events d moment x.session) new) (read-there new.devices.items d i led.its read led.here same is) led.leads
+      subst (λ (x : RouterDevice). IsAt setup (events ++ pulls_shown setup events d moment x.session) new) (read-there new.devices.items d i led.its read led.here same is) led.leads
 
-  pub closes-read : (i : ℕ) (read : Device) (departures : List Departure) → LeadsOnByPulls setup new d moment events
-      → ((its : Device) → slice_get new.devices.items d ≡ Some its → ClosesBy setup events d moment its.session departures) → i ≡ d → read ≡ get_or new.devices.items i read
+  pub closes-read : (i : ℕ) (read : RouterDevice) (departures : List Departure) → LeadsOnByPulls setup new d moment events
+      → ((its : RouterDevice) → slice_get new.devices.items d ≡ Some its → ClosesBy setup events d moment its.session departures) → i ≡ d → read ≡ get_or new.devices.items i read
       → ClosesBy setup events d moment read.session departures
   closes-read i read departures led closes same is =
-      subst (λ (x : Device). ClosesBy setup events d moment x.session departures) (read-there new.devices.items d i led.its read led.here same is) (closes led.its led.here)
+      subst (λ (x : RouterDevice). ClosesBy setup events d moment x.session departures) (read-there new.devices.items d i led.its read led.here same is) (closes led.its led.here)
 
 -- a device was closed, by what its session shows
 pub IsClosed-shown : (old new : Course) (d moment : ℕ) (session : SessionLists) (departures : List Departure) → ClosesBy old.setup old.events d moment session departures

@@ -1,35 +1,26 @@
--- The totals of the packets of each sender.
-use Rattle.std.specs.Prelude.{ℕ, ◌-◌, ◌^◌, List, length, min}
-use Rattle.std.specs.List.{filter_map}
-use Rattle.clk_packet.specs.Counts.{bytes_of}
-use Rattle.clk_packet.specs.Lists.{of_sender}
-use Rattle.clk_packet.specs.declared.counts.Total.{Total}
-use Rattle.clk_packet.specs.declared.packet.Packet.{Packet}
+-- The counts of the packets of each sender.
+use Rattle.std.specs.Prelude.{ℕ, ◌^◌, ◌<◌, List}
+use Rattle.std.specs.List.{filter_map, AllByRecursion}
+use Rattle.clk_packet.specs.Counts.{counts_of}
 use Rattle.clk_tree.specs.declared.plan.parts.SenderSpec.{SenderSpec}
 use Rattle.clk_router.specs.declared.accounts.Account.{Account}
-use Rattle.clk_router.specs.Events.{Event, accepted_in, refused_in, evicted_in, emitted_in}
+use Rattle.clk_router.specs.Events.{Event, emitted_in, tally_after}
 
--- a count, which stops at 2^64 - 1
-abbrev pub capped : ℕ → ℕ
-capped n = min n (2 ^ 64 - 1)
-
--- how many packets these are, and how many bytes in all of them
-abbrev pub capped_total : List Packet → Total ℕ
-capped_total packets = record { packets = capped (length packets); bytes = capped (bytes_of packets) }
-
--- the totals of a sender's packets in some events
+-- a sender's queue, and the counts of its packets in some events
 abbrev pub account_after : List Event → SenderSpec → Account
-account_after events s = record {
-  queue = s.queue;
-  counts = record {
-    sender = s.number;
-    accepted = capped_total (of_sender s.number (filter_map accepted_in events));
-    refused = capped_total (of_sender s.number (filter_map refused_in events));
-    evicted = capped_total (of_sender s.number (filter_map evicted_in events));
-    emitted = capped_total (of_sender s.number (filter_map emitted_in events));
-  };
-}
+account_after events s = record { queue = s.queue; counts = counts_of (filter_map emitted_in events) (tally_after events s.number) }
 
 -- the number of the sender of an account
 abbrev pub account_sender : Account → ℕ
 account_sender a = a.counts.sender
+
+-- An account has fewer than 2^32 packets of each outcome.
+pub record HasFew (a : Account) : Type 0 where
+  pub accepted : a.counts.accepted.packets < 2 ^ 32
+  pub refused : a.counts.refused.packets < 2 ^ 32
+  pub evicted : a.counts.evicted.packets < 2 ^ 32
+  pub emitted : a.counts.emitted.packets < 2 ^ 32
+
+-- Each of these accounts has fewer than 2^32 packets of each outcome.
+abbrev pub AreFew : List Account → Type 0
+AreFew accounts = AllByRecursion HasFew accounts

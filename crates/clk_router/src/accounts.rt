@@ -5,7 +5,7 @@ ghost use Rattle.clk_packet.specs.Lists.{AreRising};
 ghost use Rattle.clk_sched.specs.declared.visit.Visit.{Visit};
 ghost use Rattle.clk_sched.specs.Departures.{departures_in};
 ghost use Rattle.clk_sched.specs.Log.{visits_of, result_of};
-ghost use Rattle.clk_router.specs.Accounts.{account_after, account_sender};
+ghost use Rattle.clk_router.specs.Accounts.{account_after, account_sender, AreFew};
 ghost use Rattle.clk_router.specs.Events.{Event, offered, pulled, pulls_from};
 ghost use Rattle.clk_router.specs.inside.Accounts.{put_out, with_emitted, with_packet};
 
@@ -15,7 +15,7 @@ use clk_sched::Departure;
 use clk_tree::SenderSpec;
 use std::alloc::Global;
 
-/// The counts of a sender's packets so far, each of which stops at 2^64 - 1, and its queue.
+/// The counts of a sender's packets so far, and its queue.
 #[derive(Clone, Copy, Debug)]
 pub struct Account {
     /// The number of the queue that the sender sends to.
@@ -30,12 +30,12 @@ const NONE: Total<u64> = Total {
     bytes: 0,
 };
 
-/// Adds a packet to a total.
+/// Adds a packet to a total, modulo 2^64.
 fn add(total: &mut Total<u64>, packet: Packet)
     ensures { total.new ≡ with_packet packet total.old }
 {
-    total.packets = total.packets.saturating_add(1);
-    total.bytes = total.bytes.saturating_add(u64::from(packet.length));
+    total.packets = total.packets.wrapping_add(1);
+    total.bytes = total.bytes.wrapping_add(u64::from(packet.length));
 }
 
 /// The accounts of these senders, before they have sent anything. Fault 1 if an allocation fails.
@@ -60,7 +60,8 @@ pub fn accounts_of(alloc: Global, specs: &[SenderSpec]) -> Result<Vec<Account>, 
 }
 
 /// Counts the outcome of a packet. The account of the sender that offered it stands at this place, and `numbers` has the senders of the
-/// accounts.
+/// accounts. Counts are exact as long as each sender has fewer than 2^32 packets of each outcome. In a [`Router`](crate::Router) this is
+/// always so.
 pub fn count_offered(
     accounts: &mut Vec<Account>,
     numbers: &[u16],
@@ -71,7 +72,8 @@ pub fn count_offered(
     requires alike { map account_sender accounts.old.items ≡ numbers.now }
     requires rising { AreRising numbers.now }
     requires here { slice_get numbers.now place ≡ Some packet.sender }
-    ensures { (events : List Event) (specs : _) → accounts.old.items ≡ map (account_after events) specs → accounts.new.items ≡ map (account_after (events ++ offered packet outcome ∷ [])) specs }
+    ensures { (events : List Event) (specs : _) → let after = map (account_after (events ++ offered packet outcome ∷ [])) specs in
+        AreFew after → accounts.old.items ≡ map (account_after events) specs → accounts.new.items ≡ after }
 {
     let counts = &mut accounts[place].counts;
     match outcome {
@@ -96,12 +98,13 @@ fn count_evicted(accounts: &mut Vec<Account>, numbers: &[u16], front: Packet)
     }
 }
 
-/// Counts the packet that a pull emitted, if it emitted one. `numbers` has the senders of the accounts.
+/// Counts the packet that a pull emitted, if it emitted one. `numbers` has the senders of the accounts. Counts are exact as long as each
+/// sender has fewer than 2^32 packets of each outcome.
 pub fn count_pulled(accounts: &mut Vec<Account>, numbers: &[u16], got: Option<Packet>)
     requires alike { map account_sender accounts.old.items ≡ numbers.now }
     requires rising { AreRising numbers.now }
-    ensures { (events : List Event) (specs : _) (device moment : ℕ) (visits : List Visit) → result_of (visits_of 0 visits) ≡ got → accounts.old.items ≡ map (account_after events) specs
-        → accounts.new.items ≡ map (account_after (events ++ pulled device moment visits ∷ [])) specs }
+    ensures { (events : List Event) (specs : _) (device moment : ℕ) (visits : List Visit) → let after = map (account_after (events ++ pulled device moment visits ∷ [])) specs in
+        AreFew after → result_of (visits_of 0 visits) ≡ got → accounts.old.items ≡ map (account_after events) specs → accounts.new.items ≡ after }
 {
     match got {
         Some(packet) => count_emitted(accounts, numbers, packet),
@@ -109,13 +112,14 @@ pub fn count_pulled(accounts: &mut Vec<Account>, numbers: &[u16], got: Option<Pa
     }
 }
 
-/// Counts the packets that a drain of a device emitted. `numbers` has the senders of the accounts.
+/// Counts the packets that a drain of a device emitted. `numbers` has the senders of the accounts. Counts are exact as long as each sender
+/// has fewer than 2^32 packets of each outcome.
 pub fn count_drained(accounts: &mut Vec<Account>, numbers: &[u16], departures: &[Departure])
     requires alike { map account_sender accounts.old.items ≡ numbers.now }
     requires rising { AreRising numbers.now }
     ensures alike { map account_sender accounts.new.items ≡ numbers.now }
-    ensures counted { (events : List Event) (specs : _) (device moment : ℕ) (pulls : List (List Visit)) → departures.now ≡ departures_in pulls → accounts.old.items ≡ map (account_after events) specs
-        → accounts.new.items ≡ map (account_after (events ++ pulls_from device moment pulls)) specs }
+    ensures counted { (events : List Event) (specs : _) (device moment : ℕ) (pulls : List (List Visit)) → let after = map (account_after (events ++ pulls_from device moment pulls)) specs in
+        AreFew after → departures.now ≡ departures_in pulls → accounts.old.items ≡ map (account_after events) specs → accounts.new.items ≡ after }
 {
     for departure in departures {
         count_emitted(accounts, numbers, departure.packet);

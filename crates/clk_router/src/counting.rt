@@ -80,6 +80,8 @@ impl CountingRouter {
         ensures goes_on { self.new ≡ after self.old (offered result.0 result.1 ∷ []) }
     {
         let (packet, outcome) = self.router.offer(place, length);
+        // Each sender has offered fewer than 2^32 packets, by this law, which does nothing.
+        self.router.has_account();
         let numbers = self.router.senders();
         count_offered(&mut self.accounts, numbers, place, packet, outcome);
         (packet, outcome)
@@ -93,6 +95,8 @@ impl CountingRouter {
     {
         // Nothing is kept, so that no allocation fails.
         let got = self.router.pull(device, moment).unwrap();
+        // Each sender has offered fewer than 2^32 packets, by this law, which does nothing.
+        self.router.has_account();
         count_pulled(&mut self.accounts, self.router.senders(), got);
         got
     }

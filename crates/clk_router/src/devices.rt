@@ -10,14 +10,14 @@ use std::alloc::Global;
 
 /// A device, with the log of its pulls.
 #[derive(Drop)]
-pub struct Device {
+pub struct RouterDevice {
     /// Its tree, with the log of its pulls and the packets that it emitted, as far as these are kept.
     pub session: Session,
     /// How many packets its queues accepted and didn't evict for later ones.
     pub kept: u64,
 }
 
-impl Device {
+impl RouterDevice {
     ghost use Rattle.std.specs.Prelude.{◌≡◌, ◌+◌, ◌<◌};
     ghost use Rattle.clk_router.specs.Course.{end_of_packets};
     ghost use Rattle.clk_router.specs.inside.Parts.{kept_by};
@@ -35,14 +35,14 @@ impl Device {
 }
 
 /// A device for each of these trees, before its first pull. `keeps` says what it keeps of the past. Fault 1 if an allocation fails.
-pub fn devices_of(alloc: Global, trees: Vec<Tree>, keeps: Keeps) -> Result<Vec<Device>, Fault>
+pub fn devices_of(alloc: Global, trees: Vec<Tree>, keeps: Keeps) -> Result<Vec<RouterDevice>, Fault>
     requires each { AllByRecursion CanStand trees.items }
     ensures made { IfOk result (λ devices. devices.items ≡ map (device_made keeps) trees.items) }
     ensures fault { IsOkUnless result Fault.Memory }
 {
     let mut devices = Vec::new(alloc);
     for tree in trees {
-        devices.push(Device {
+        devices.push(RouterDevice {
             session: Session::keeping(alloc, tree, keeps)?,
             kept: 0,
         })?;

@@ -42,6 +42,7 @@ impl Filled {
     pub fn remove(&mut self, queue: u16)
         requires { queue < 64 * length self.old.words.items }
         ensures count { length self.new.words.items ≡ length self.old.words.items }
+        ensures here { bit_of self.new.words.items queue ≡ 0 }
         ensures others { (q : ℕ) → q ≢ queue → bit_of self.new.words.items q ≡ bit_of self.old.words.items q }
     {
         self.words[usize::from(queue / 64)] &= !(1 << (queue % 64));

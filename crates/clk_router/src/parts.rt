@@ -4,7 +4,7 @@ ghost use Rattle.std.specs.Prelude.{◌≡◌, map, IfOk, IsOkUnless};
 ghost use Rattle.clk_tree.specs.PlanParts.{queued};
 ghost use Rattle.clk_router.specs.inside.Parts.{path_made};
 
-use crate::devices::{Device, devices_of};
+use crate::devices::{RouterDevice, devices_of};
 use crate::queues::Queues;
 use crate::senders::{Sender, numbers_of, senders_of};
 use clk_packet::{Fault, Offered, Packet};
@@ -17,7 +17,7 @@ use std::alloc::Global;
 #[derive(Drop)]
 pub struct Parts {
     /// The devices, by number.
-    pub devices: Vec<Device>,
+    pub devices: Vec<RouterDevice>,
     /// The queues, by number.
     pub queues: Queues,
     /// The device that emits the packets of each queue.

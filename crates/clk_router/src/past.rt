@@ -6,7 +6,7 @@ ghost use Rattle.clk_router.specs.Events.{Setup, plan_setup, Event, offered};
 ghost use Rattle.clk_router.specs.Stored.{setup_code, event_code};
 ghost use Rattle.clk_router.specs.inside.Past.{nothing, trees_in, pull_shown, pulls_shown};
 
-use crate::devices::Device;
+use crate::devices::RouterDevice;
 use crate::parts::Parts;
 use clk_packet::{Offered, Packet};
 use clk_tree::Plan;
@@ -46,12 +46,12 @@ impl Past {
     {}
 
     /// The device with this number was pulled once, at this moment. `device` is its state now.
-    pub fn pulled(&mut self, number: &u16, moment: &u64, device: &Device)
+    pub fn pulled(&mut self, number: &u16, moment: &u64, device: &RouterDevice)
         ensures { self.new ≡ record { setup = self.old.setup; events = self.old.events ++ pull_shown self.old.setup self.old.events number.now moment.now device.now.session } }
     {}
 
     /// The device with this number was drained, from this moment on. `device` is its state now.
-    pub fn closed(&mut self, number: &u16, moment: &u64, device: &Device)
+    pub fn closed(&mut self, number: &u16, moment: &u64, device: &RouterDevice)
         ensures { self.new ≡ record { setup = self.old.setup; events = self.old.events ++ pulls_shown self.old.setup self.old.events number.now moment.now device.now.session } }
     {}
 }

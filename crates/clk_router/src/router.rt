@@ -43,7 +43,7 @@ impl Model for Router {
 }
 
 impl Router {
-    ghost use Rattle.std.specs.Prelude.{◌≡◌, ℕ, ◌+◌, ◌<◌, ◌≤◌, List, ◌∷◌, [], Some, None, true, false, map, length, IfSome, IfOk, OnErr, IsOk, IsOkUnless};
+    ghost use Rattle.std.specs.Prelude.{◌≡◌, ℕ, ◌+◌, ◌^◌, ◌<◌, ◌≤◌, List, ◌∷◌, [], Some, None, true, false, map, length, IfSome, IfOk, OnErr, IsOk, IsOkUnless};
     ghost use Rattle.clk_packet.specs.Limits.{most_elements, most_capacity};
     ghost use Rattle.clk_sched.specs.declared.visit.Visit.{Visit};
     ghost use Rattle.clk_sched.specs.Keeps.{grows};
@@ -55,7 +55,7 @@ impl Router {
     ghost use Rattle.clk_router.specs.InsideQueues.{QueuesGoOn, AreOutOrInside};
     ghost use Rattle.clk_router.specs.Due.{IsDeviceDue, EmitsNoneBefore};
     ghost use Rattle.clk_router.specs.Drains.{DrainsEnd};
-    ghost use Rattle.clk_router.specs.Settled.{IsCourseAccounted, IsCourseSettled, AreOutOnce, AreAllOut, IsDrained};
+    ghost use Rattle.clk_router.specs.Settled.{IsCourseAccounted, IsCourseSettled, AreOutOnce, AreAllOut, IsDrained, offered_of};
 
     /// Opens the router of a plan, before anything has happened. `keeps` says what its devices keep of the past. Visits that they keep
     /// packed can't be taken out of it.
@@ -110,9 +110,12 @@ impl Router {
     }
 
     /// Each offered packet was refused, evicted or emitted, or is held as a head in its device's tree, or held in its queue: in one of
-    /// these places, once. If no packet is left for any device, all are settled. A law, which does nothing.
+    /// these places, once. If no packet is left for any device, all are settled. A sender has offered fewer than 2^32 packets. A law, which
+    /// does nothing.
+    #[inline(always)]
     pub fn has_account(&self)
         ensures accounted { IsCourseAccounted self.now.setup self.now.events }
+        ensures few { AllByRecursion (λ s. length (offered_of self.now.events s) < 2 ^ 32) (sender_numbers self.now.setup) }
         ensures once { AreOutOnce self.now.setup self.now.events }
         ensures out_or_inside { AreOutOrInside self.now.setup self.now.events }
         ensures settled { IsDrained self.now → IsCourseSettled self.now.setup self.now.events }

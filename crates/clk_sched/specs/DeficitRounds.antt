@@ -1,5 +1,6 @@
--- Deficit round robin as its paper has it (Shreedhar and Varghese 1995): whose turn it is, and a deficit counter for each input. A DRRSched
--- goes by these, visit by visit.
+-- Deficit round robin: whose turn it is, and a deficit counter for each input. A DRRSched goes by these, visit by visit. The counters, and
+-- which packets may pass, are those of Shreedhar and Varghese (1995). The order is not: there an input that gets packets goes to the end of
+-- a list, and here inputs have their turns by index, those without packets too.
 use Rattle.std.specs.Prelude.{◌≡◌, ℕ, ◌+◌, ◌-◌, ◌%◌, ◌==◌, Bool, true, false, nat_le, List, [], ◌∷◌, ◌++◌, reverse, Option, Some, None, if◌then◌else◌}
 use Rattle.clk_packet.specs.declared.packet.Packet.{Packet}
 use Rattle.clk_sched.specs.declared.visit.Visit.{Visit}

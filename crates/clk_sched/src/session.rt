@@ -24,7 +24,7 @@ use crate::ask::Ask;
 use crate::backlog::Backlog;
 use crate::limits::END_OF_PULLS;
 use crate::session::departures::{Departure, Departures};
-use crate::session::emitted::Emitted;
+use crate::session::emitted::EmittedPackets;
 use crate::session::heads::held_heads;
 use crate::session::keeps::Keeps;
 use crate::session::layout::lay_out;
@@ -45,7 +45,7 @@ pub struct Session {
     tree: Tree,
     nodes: Nodes,
     // The packets emitted at the device. If they are kept, nobody has to look for them in the log.
-    emitted: Emitted,
+    emitted: EmittedPackets,
 }
 
 impl Model for Session {
@@ -128,7 +128,7 @@ impl Session {
         Ok(Session {
             tree,
             nodes,
-            emitted: Emitted::new(alloc, keeps.packets),
+            emitted: EmittedPackets::new(alloc, keeps.packets),
         })
     }
 

@@ -14,7 +14,7 @@ use Rattle.clk_sched.specs.Departures.{departure_at, departures_in}
 use Rattle.clk_sched.specs.Log.{visits_of, moment_of, result_of}
 use Rattle.clk_tree.specs.declared.plan.parts.SenderSpec.{SenderSpec}
 use Rattle.clk_tree.specs.PlanParts.{number_of}
-use Rattle.clk_router.specs.Accounts.{account_after, account_sender}
+use Rattle.clk_router.specs.Accounts.{account_after, account_sender, AreFew}
 use Rattle.clk_router.proofs.Callers.Accounts.{accounts-senders}
 use Rattle.clk_router.specs.Course.{Course, after, events_of, accepted_at, IsPulled, IsClosed, CanOffer, CanPull, CanClose}
 use Rattle.clk_router.specs.Events.{Setup, sender_numbers, Event, offered, pulled, happens_at, events_at, number_from, pull_in, moment_in, accepted_in, evicted_in, CanHappen, pulls_from, Closes}
@@ -29,17 +29,32 @@ use Rattle.clk_script.proofs.LengthLemmas.{length-filter-le, length-filter_map-l
 pub alike-its : (setup : Setup) (events : List Event) (r : ScriptRouter) → AreRising (sender_numbers setup) → IsAt setup events r → AreAlike r
 alike-its setup events r rising at = search (rules, accounts-senders)
 
+-- The accounts of a router that went on are few.
+few-on : (setup : Setup) (events more : List Event) (old new : ScriptRouter) → IsAt setup events old → new.router ≡ after old.router more → AreFew (map (account_after new.router.events) new.router.setup.senders)
+    → AreFew (map (account_after (events ++ more)) setup.senders)
+few-on setup events more old new at goes_on few =
+    let setup_is : new.router.setup ≡ setup = ap (λ (c : Course). c.setup) goes_on ∙ at.setup_is in
+    let events_are : new.router.events ≡ events ++ more = ap (λ (c : Course). c.events) goes_on ∙ ap (λ l. l ++ more) at.events_are in
+    subst (λ (l : List Event). AreFew (map (account_after l) setup.senders)) events_are (subst (λ (s : Setup). AreFew (map (account_after new.router.events) s.senders)) setup_is few)
+
 -- A packet more was offered.
 pub IsAt-offered : (setup : Setup) (events : List Event) (old new : ScriptRouter) (p : Packet) (outcome : Offered) → IsAt setup events old → new.router ≡ after old.router (offered p outcome ∷ [])
-    → CanHappen new.router.setup new.router.events → ((before : List Event) (specs : List SenderSpec) → old.accounts.items ≡ map (account_after before) specs → new.accounts.items ≡ map (account_after (before ++ offered p outcome ∷ [])) specs) → new.evicted.items ≡ evicted_kept outcome old.evicted.items → IsAt setup (events ++ offered p outcome ∷ []) new
-IsAt-offered setup events old new p outcome at goes_on can counted evicted = search (rules, filter_map-append, append-nil)
+    → CanHappen new.router.setup new.router.events → AreFew (map (account_after new.router.events) new.router.setup.senders)
+    → ((before : List Event) (specs : List SenderSpec) → AreFew (map (account_after (before ++ offered p outcome ∷ [])) specs) → old.accounts.items ≡ map (account_after before) specs
+    → new.accounts.items ≡ map (account_after (before ++ offered p outcome ∷ [])) specs)
+    → new.evicted.items ≡ evicted_kept outcome old.evicted.items → IsAt setup (events ++ offered p outcome ∷ []) new
+IsAt-offered setup events old new p outcome at goes_on can few counted evicted =
+    let accounts = counted events setup.senders (few-on setup events (offered p outcome ∷ []) old new at goes_on few) at.accounts in search (rules, filter_map-append, append-nil, accounts)
 
 -- A device was pulled once more.
 pub LeadsOnByPull-pulled : (setup : Setup) (events : List Event) (old new : ScriptRouter) (d moment : ℕ) (got : Option Packet) → IsAt setup events old → IsPulled old.router new.router d moment got
-    → CanHappen new.router.setup new.router.events
-    → ((before : List Event) (specs : List SenderSpec) (device t : ℕ) (visits : List Visit) → result_of (visits_of 0 visits) ≡ got → old.accounts.items ≡ map (account_after before) specs → new.accounts.items ≡ map (account_after (before ++ pulled device t visits ∷ [])) specs)
+    → CanHappen new.router.setup new.router.events → AreFew (map (account_after new.router.events) new.router.setup.senders)
+    → ((before : List Event) (specs : List SenderSpec) (device t : ℕ) (visits : List Visit) → AreFew (map (account_after (before ++ pulled device t visits ∷ [])) specs) → result_of (visits_of 0 visits) ≡ got
+    → old.accounts.items ≡ map (account_after before) specs → new.accounts.items ≡ map (account_after (before ++ pulled device t visits ∷ [])) specs)
     → new.evicted ≡ old.evicted → LeadsOnByPull setup new d moment got events
-LeadsOnByPull-pulled setup events old new d moment got at pull can counted evicted = search (rules, filter_map-append, append-nil)
+LeadsOnByPull-pulled setup events old new d moment got at pull can few counted evicted =
+    let accounts = counted events setup.senders d moment pull.visits (few-on setup events (pulled d moment pull.visits ∷ []) old new at pull.goes_on few) pull.result at.accounts in
+    search (rules, filter_map-append, append-nil, accounts)
 
 -- what came out in closing pulls writes what these pulls do
 module _ (several : Bool) (d : ℕ) where
@@ -67,9 +82,9 @@ module _ (old new : ScriptRouter) (d moment : ℕ) (departures : List Departure)
       ∙ ap (λ l. events_of old.router k ++ l) (pulls-elsewhere old.router.setup d k _ closed.closes.closing other)
       ∙ append-nil (events_of old.router k)
 
-  module _ (setup : Setup) (events : List Event) (at : IsAt setup events old) (can : CanHappen new.router.setup new.router.events)
-      (counted : (before : List Event) (specs : List SenderSpec) (device t : ℕ) (pulls : List (List Visit)) → departures ≡ departures_in pulls → old.accounts.items ≡ map (account_after before) specs
-      → new.accounts.items ≡ map (account_after (before ++ pulls_from device t pulls)) specs)
+  module _ (setup : Setup) (events : List Event) (at : IsAt setup events old) (can : CanHappen new.router.setup new.router.events) (few : AreFew (map (account_after new.router.events) new.router.setup.senders))
+      (counted : (before : List Event) (specs : List SenderSpec) (device t : ℕ) (pulls : List (List Visit)) → AreFew (map (account_after (before ++ pulls_from device t pulls)) specs) → departures ≡ departures_in pulls
+      → old.accounts.items ≡ map (account_after before) specs → new.accounts.items ≡ map (account_after (before ++ pulls_from device t pulls)) specs)
       (evicted : new.evicted ≡ old.evicted) where
     setup_is : new.router.setup ≡ setup
     setup_is = ap (λ (c : Course). c.setup) closed.goes_on ∙ at.setup_is
@@ -84,6 +99,9 @@ module _ (old new : ScriptRouter) (d moment : ℕ) (departures : List Departure)
     abbrev start : ℕ
     start = max (fold max 0 (filter_map moment_in (events_of old.router d))) moment + 1
 
+    few_closed : AreFew (map (account_after (events ++ pulls_from d start closed.closes.closing)) setup.senders)
+    few_closed = subst (λ l. AreFew (map (account_after (events ++ l)) setup.senders)) closed.closes.are (few-on setup events closed.last old new at closed.goes_on few)
+
     pub LeadsOnByDrain-closed : LeadsOnByDrain setup new d moment events departures
     LeadsOnByDrain-closed =
         record {
@@ -97,7 +115,7 @@ module _ (old new : ScriptRouter) (d moment : ℕ) (departures : List Departure)
             setup_is = setup_is;
             events_are = events_are;
             accounts =
-                counted events setup.senders d start closed.closes.closing closed.emitted at.accounts
+                counted events setup.senders d start closed.closes.closing few_closed closed.emitted at.accounts
                 ∙ ap (λ l. map (account_after (events ++ l)) setup.senders) (sym closed.closes.are);
             evicted =
                 ap (λ ps. ps.items) evicted ∙ at.evicted ∙ sym (pulls-add_none evicted_in (λ k n visits. refl) events d start closed.closes.closing)

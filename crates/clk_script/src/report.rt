@@ -1,11 +1,9 @@
 //! The report of a router's senders, by their accounts.
 
-ghost use Rattle.std.specs.Prelude.{◌≡◌, ◌<◌, ◌^◌, Some, length, map};
-ghost use Rattle.std.specs.List.{flat_map, AllByRecursion};
+ghost use Rattle.std.specs.Prelude.{◌≡◌, Some, map};
+ghost use Rattle.std.specs.List.{flat_map};
 ghost use Rattle.clk_packet.specs.Bytes.{Wrote};
 ghost use Rattle.clk_router.specs.Accounts.{account_after};
-ghost use Rattle.clk_router.specs.Events.{sender_numbers};
-ghost use Rattle.clk_router.specs.Settled.{offered_of};
 ghost use Rattle.clk_script.specs.Meaning.{ending_text};
 ghost use Rattle.clk_script.specs.AccountLines.{account_line};
 
@@ -13,23 +11,12 @@ use clk_packet::{Fault, Sink};
 use clk_report::report_line;
 use clk_router::{Account, Router};
 
-/// The lines of its senders' accounts are the report of a router. A law. It reads how many packets each sender has offered: fewer than
-/// 2^32, so that no total of its account is capped.
+/// The lines of its senders' accounts are the report of a router. A law, which does nothing.
 pub fn accounts_tell(router: &Router)
     ensures { flat_map account_line (map (account_after router.now.events) router.now.setup.senders) ≡ ending_text router.now.setup (Some 0) router.now.events }
 {
     // Only its own device emits packets of a sender, by this law, which does nothing.
     router.has_account();
-    see_offers(router);
-}
-
-// Reads how many packets each sender has offered.
-fn see_offers(router: &Router)
-    ensures { AllByRecursion (λ s. length (offered_of router.now.events s) < 2 ^ 32) (sender_numbers router.now.setup) }
-{
-    for place in 0..router.senders().len() {
-        let _ = router.sent(place);
-    }
 }
 
 /// Writes the line of each account, in order. Doesn't allocate.

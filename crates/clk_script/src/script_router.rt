@@ -67,8 +67,9 @@ impl ScriptRouter {
         ensures fault { IsOkUnless result Fault.Memory }
     {
         let (packet, outcome) = self.router.offer(place, length);
-        // A law, which does nothing.
+        // Laws, which do nothing: all events can happen, and each sender has offered fewer than 2^32 packets.
         self.router.has_happened();
+        self.router.has_account();
         let numbers = self.router.senders();
         count_offered(&mut self.accounts, numbers, place, packet, outcome);
         self.keep_evicted(outcome)?;
@@ -98,8 +99,9 @@ impl ScriptRouter {
         ensures fault { IsOkUnless result Fault.Memory }
     {
         let got = self.router.pull(device, moment)?;
-        // A law, which does nothing.
+        // Laws, which do nothing: all events can happen, and each sender has offered fewer than 2^32 packets.
         self.router.has_happened();
+        self.router.has_account();
         count_pulled(&mut self.accounts, self.router.senders(), got);
         self.keep(got)?;
         Ok(got)
@@ -139,8 +141,9 @@ impl ScriptRouter {
         ensures fault { IsOkUnless result Fault.Memory }
     {
         let departures = self.router.close(alloc, device, moment)?;
-        // A law, which does nothing.
+        // Laws, which do nothing: all events can happen, and each sender has offered fewer than 2^32 packets.
         self.router.has_happened();
+        self.router.has_account();
         count_drained(&mut self.accounts, self.router.senders(), &departures);
         Ok(departures)
     }

@@ -1,13 +1,12 @@
 -- How the account of each sender changes by one packet.
-use Rattle.std.specs.Prelude.{ℕ, ◌+◌, ◌==◌, if◌then◌else◌}
+use Rattle.std.specs.Prelude.{ℕ, ◌+◌, ◌%◌, ◌^◌, ◌==◌, if◌then◌else◌}
 use Rattle.clk_packet.specs.declared.counts.Total.{Total}
 use Rattle.clk_packet.specs.declared.packet.Packet.{Packet}
 use Rattle.clk_router.specs.declared.accounts.Account.{Account}
-use Rattle.clk_router.specs.Accounts.{capped}
 
--- a total with one packet more
+-- a total with one packet more, modulo 2^64
 abbrev pub with_packet : Packet → Total ℕ → Total ℕ
-with_packet p t = record { packets = capped (t.packets + 1); bytes = capped (t.bytes + p.length) }
+with_packet p t = record { packets = (t.packets + 1) % 2 ^ 64; bytes = (t.bytes + p.length) % 2 ^ 64 }
 
 -- a sender's total with one packet more, if the packet is this sender's
 abbrev pub with_its : ℕ → Packet → Total ℕ → Total ℕ

@@ -21,7 +21,7 @@ use Rattle.clk_tree.specs.declared.plan.parts.SenderSpec.{SenderSpec}
 use Rattle.clk_packet.specs.Lists.{AreRising}
 use Rattle.clk_tree.specs.PlanParts.{Queued, SendsWithin}
 use Rattle.clk_router.specs.declared.senders.Sender.{Sender}
-use Rattle.clk_router.specs.declared.devices.Device.{Device}
+use Rattle.clk_router.specs.declared.devices.RouterDevice.{RouterDevice}
 use Rattle.clk_router.specs.declared.parts.Parts.{Parts}
 use Rattle.clk_router.specs.inside.Closable.{HasLowBound, IsClosable}
 use Rattle.clk_router.specs.Course.{room_device, end_of_packets}
@@ -41,7 +41,7 @@ pub record CanStand (tree : Tree) : Type 0 where
   pub bound : HasLowBound tree
 
 -- a device over a tree, before its first pull
-abbrev pub device_made : Keeps → Tree → Device
+abbrev pub device_made : Keeps → Tree → RouterDevice
 device_made keeps tree = record { session = record { tree = tree; log = []; keeps = keeps; gone = 0 }; kept = 0 }
 
 -- a sender as it is made
@@ -78,24 +78,24 @@ sender_after events spec = record {
 }
 
 -- These events of a device lead to its state over its tree. `kept` is how many packets its queues accepted and didn't evict.
-pub record IsDeviceAt (events : List Event) (tree : Tree) (device : Device) : Type 0 where
+pub record IsDeviceAt (events : List Event) (tree : Tree) (device : RouterDevice) : Type 0 where
   pub tree_is : device.session.tree ≡ tree
   pub log : device.session.log ≡ log_of events
   pub kept : device.kept + length (filter_map evicted_in events) ≡ length (filter_map accepted_in events)
 
 -- If a device has a tree, these events lead to its state; if it has none, there is no device.
-abbrev pub AreDevicesAt : List Event → Option Tree → Option Device → Type 0
+abbrev pub AreDevicesAt : List Event → Option Tree → Option RouterDevice → Type 0
 AreDevicesAt events None None = ⊤
 AreDevicesAt events None (Some device) = ⊥
 AreDevicesAt events (Some tree) None = ⊥
 AreDevicesAt events (Some tree) (Some device) = IsDeviceAt events tree device
 
 -- A device keeps what it was told to keep, and no visit is gone from its log.
-abbrev pub KeepsAs : Keeps → Device → Type 0
+abbrev pub KeepsAs : Keeps → RouterDevice → Type 0
 KeepsAs keeps device = (device.session.keeps ≡ keeps) × (device.session.gone ≡ 0)
 
 -- A device keeps what it was told to keep, if it exists.
-abbrev pub KeepsAsAt : Keeps → Option Device → Type 0
+abbrev pub KeepsAsAt : Keeps → Option RouterDevice → Type 0
 KeepsAsAt keeps None = ⊤
 KeepsAsAt keeps (Some device) = KeepsAs keeps device
 
@@ -133,7 +133,7 @@ CanSendOn count None = ⊥
 CanSendOn count (Some s) = (s.queue < count) × (s.sent + 1 < 2 ^ 32)
 
 -- one more packet can be counted at a device
-abbrev pub CanCount : Option Device → Type 0
+abbrev pub CanCount : Option RouterDevice → Type 0
 CanCount None = ⊥
 CanCount (Some device) = device.kept < end_of_packets
 
@@ -147,24 +147,24 @@ pub record CanOfferAt (parts : Parts) (place : ℕ) : Type 0 where
   pub counts : (device : ℕ) (s : Sender) → slice_get parts.senders.items place ≡ Some s → slice_get parts.paths.items s.queue ≡ Some device → CanCount (slice_get parts.devices.items device)
 
 -- a device exists and can be pulled, whatever the moment
-abbrev pub CanPullAt : Keeps → Option Device → Type 0
+abbrev pub CanPullAt : Keeps → Option RouterDevice → Type 0
 CanPullAt keeps None = ⊥
 CanPullAt keeps (Some device) = KeepsAs keeps device × (pulls_made (progress_of device.session) < end_of_pulls)
 
 -- a device emitted no more packets than it counts as kept
-abbrev pub CountsLeft : Option Device → Type 0
+abbrev pub CountsLeft : Option RouterDevice → Type 0
 CountsLeft None = ⊥
 CountsLeft (Some device) = length (emitted device.session.log) ≤ device.kept
 
 -- a device can be drained from a moment on
-abbrev pub CanCloseAt : ℕ → Option Device → Type 0
+abbrev pub CanCloseAt : ℕ → Option RouterDevice → Type 0
 CanCloseAt moment None = ⊥
 CanCloseAt moment (Some device) =
     (length (emitted device.session.log) ≤ device.kept) × (device.kept ≤ length (emitted device.session.log) + most_left)
     × (max (counted_moment (progress_of device.session)) moment < end_of_drains) × (pulls_made (progress_of device.session) < end_of_drained_pulls)
 
 -- Of these devices only the one with this number may have changed.
-pub record ChangesDevice (old : List Device) (number : ℕ) (new : List Device) : Type 0 where
+pub record ChangesDevice (old : List RouterDevice) (number : ℕ) (new : List RouterDevice) : Type 0 where
   pub count : length new ≡ length old
   pub others : (k : ℕ) → (number == k) ≡ false → slice_get new k ≡ slice_get old k
 
@@ -174,26 +174,26 @@ kept_by Accepted = 1
 kept_by outcome = 0
 
 -- An offer with this outcome is counted at a device.
-abbrev pub CountsHere : Offered → Option Device → Option Device → Type 0
+abbrev pub CountsHere : Offered → Option RouterDevice → Option RouterDevice → Type 0
 CountsHere outcome None new = ⊥
 CountsHere outcome (Some old) None = ⊥
 CountsHere outcome (Some old) (Some new) = (new.session ≡ old.session) × (new.kept ≡ old.kept + kept_by outcome)
 
 -- An offer with this outcome is counted at the device with this number, and no other device changes.
-pub record CountsAt (old : List Device) (number : ℕ) (outcome : Offered) (new : List Device) : Type 0 where
+pub record CountsAt (old : List RouterDevice) (number : ℕ) (outcome : Offered) (new : List RouterDevice) : Type 0 where
   pub here : CountsHere outcome (slice_get old number) (slice_get new number)
   pub only : ChangesDevice old number new
 
 -- One more pull of a device, at this moment, led on from these events to this result, as its session shows.
 pub record LeadsOnByPull (setup : Setup) (new : Parts) (device moment : ℕ) (got : Option Packet) (events : List Event) : Type 0 where
-  pub its : Device
+  pub its : RouterDevice
   pub here : slice_get new.devices.items device ≡ Some its
   pub result : result_of (visits_of 0 (visits_shown setup events device its.session)) ≡ got
   pub leads : IsAt setup (events ++ pull_shown setup events device moment its.session) new
 
 -- The pulls of a drain of a device, from a moment on, led on from these events, as its session shows.
 pub record LeadsOnByPulls (setup : Setup) (new : Parts) (device moment : ℕ) (events : List Event) : Type 0 where
-  pub its : Device
+  pub its : RouterDevice
   pub here : slice_get new.devices.items device ≡ Some its
   pub leads : IsAt setup (events ++ pulls_shown setup events device moment its.session) new
 

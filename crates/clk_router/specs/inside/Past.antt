@@ -4,7 +4,7 @@ use Rattle.clk_sched.specs.declared.visit.Visit.{Visit}
 use Rattle.clk_sched.specs.Session.{SessionLists}
 use Rattle.clk_sched.specs.Log.{pulls}
 use Rattle.clk_sched.specs.Tree.{Tree}
-use Rattle.clk_router.specs.declared.devices.Device.{Device}
+use Rattle.clk_router.specs.declared.devices.RouterDevice.{RouterDevice}
 use Rattle.clk_router.specs.declared.parts.Parts.{Parts}
 use Rattle.clk_router.specs.Events.{Setup, Event, pulled, events_at, log_of, closing_pulls}
 
@@ -13,7 +13,7 @@ abbrev pub nothing : Setup
 nothing = record { trees = []; queues = []; senders = []; names = [] }
 
 -- the tree of a device
-abbrev pub device_tree : Device → Tree
+abbrev pub device_tree : RouterDevice → Tree
 device_tree device = device.session.tree
 
 -- the trees of the devices of a router

@@ -152,6 +152,17 @@ pulled-back gives a t u b q r x m before now got out state can turn back = subst
           pulls = pulls-put a (with_state a x Prio) u (with_state u x now) x Prio before now got (is-put a x Prio (state-there a x m can)) state h.turn (is-put u x now (kept-there a u x m (edges_of a.inputs.items x) can k));
         }
 
+-- It was pulled once another state is put in the place of one that stayed there.
+pub pulled-put : {S : Type 0} (gives : S → ℕ → Option Packet → S → Type 0) (a u b : Nodes) (q r : S) (x m : ℕ) (before now : State) (got : Option Packet) → slice_get a.states.items x ≡ Some before → CanPull a x m
+    → HadTurn gives a u q r x before now got → b ≡ with_state u x now → WasPulled gives a b q r x got
+pulled-put gives a u b q r x m before now got state can turn back =
+    subst (λ (n : Nodes). WasPulled gives a n q r x got) (sym back)
+    (record {
+      keeps = keeps-put a u x (edges_of a.inputs.items x) now turn.keeps (fits-each a.inputs.items x now turn.fits);
+      answers = turn.answers;
+      pulls = pulls-put a a u (with_state u x now) x before before now got (still-put a x before state) state turn.turn (is-put u x now (kept-there a u x m (edges_of a.inputs.items x) can turn.keeps));
+    })
+
 -- A node that holds the same in its place was pulled by its turn.
 pub pulled-still : {S : Type 0} (gives : S → ℕ → Option Packet → S → Type 0) (a b : Nodes) (q r : S) (x : ℕ) (s : State) (got : Option Packet) → slice_get a.states.items x ≡ Some s → HadTurn gives a b q r x s s got → WasPulled gives a b q r x got
 pulled-still gives a b q r x s got state h = search rules

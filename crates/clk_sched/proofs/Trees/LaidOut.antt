@@ -112,7 +112,7 @@ edges-all table next (node class inputs row) h = search (rules, entries-after, (
 match-weaker : {X : Type 0} (P Q : X → Type 0) (o : Option X) → ((x : X) → P x → Q x) → MatchOption o ⊥ P → MatchOption o ⊥ Q
 match-weaker P Q o f h = search rules
 
--- What stands at the inputs of a row is within what is told of the row.
+-- What stands at the inputs of a row is within what a table says of the row.
 within-all : (table : List Inputs) (x next : ℕ) (row : Row) (b : Below) → b.first ≤ first_leaf row → last_leaf row ≤ b.last → next + nodes row ≤ suc (x + b.nodes) → Sits IsEntry table next (entries next row)
     → AllByRecursion (IsWithin table x b) (inputs_of next row)
 within-all table x next end b low high most h = tt

@@ -14,7 +14,7 @@ use Rattle.clk_sched.specs.inside.Holds.Deficit.{HoldsDeficits}
 use Rattle.clk_sched.specs.Answers.{Answers}
 use Rattle.clk_sched.specs.inside.Places.{AllFit, edges_at, input_at, queue_asked}
 use Rattle.clk_sched.specs.inside.Pulling.{Keeps, Asks, AsksAll, IsVisitAt, added, now_of}
-use Rattle.clk_sched.specs.inside.Turning.{IsIdle}
+use Rattle.clk_sched.specs.inside.Turning.{HasAsked, IsIdle}
 use Rattle.clk_sched.specs.inside.Looking.{looking, IsHead, Logs, Settles, Looks, LooksAt}
 use Rattle.clk_sched.proofs.Nodes.Pulling.{pulling-looks}
 use Rattle.clk_sched.proofs.Classes.Deficits.{head-held}
@@ -106,3 +106,24 @@ looks-at-idle gives a c q x d later passed fit is idle logs settles =
     subst (LooksAt gives a c q q x d later None) (settles.in_vain refl)
     (looks-at-asked gives a a c q q x d later None passed (idle-there gives a q x d.cursor idle) is (keeps-more a a 0 _ (keeps-none a fit) (omega arith)) (asks-queue a x d.cursor idle.leaf None idle.stands)
     (queue-answers gives a q q x d.cursor idle.leaf None idle.stands idle.gives_none) logs settles)
+
+-- An input that was asked in vain and holds no head was looked at.
+pub looks-at-vain : {S : Type 0} (gives : S → ℕ → Option Packet → S → Type 0) (a c : Nodes) (q r : S) (x : ℕ) (d later : Deficits) → IsHead d None → HasAsked gives a c q r x d.cursor None → Settles d later None false
+    → LooksAt gives a c q r x d later None false
+looks-at-vain gives a c q r x d later is asked settles =
+    let v = looking a x d.cursor None true false in
+    record {
+      keeps = asked.keeps;
+      answers = asked.answers;
+      length_is = settles.length_is;
+      moves = settles.moves;
+      looks = record {
+        visit = v;
+        input = refl;
+        gets = refl;
+        passes = refl;
+        asks = asked.asks;
+        lawful = λ quanta inputs earlier held. looks-lawful d later v None quanta inputs earlier settles held refl (sym (head-held quanta inputs earlier d None is held)) refl tt;
+        holds = λ quanta inputs earlier held. settles.holds quanta inputs earlier v held held.cursor_is refl refl;
+      };
+    }

@@ -216,7 +216,7 @@ record Meets {S : Type 0} (gives : S → ℕ → Option Packet → S → Type 0)
 meets-next : {S : Type 0} (gives : S → ℕ → Option Packet → S → Type 0) (a : Nodes) (q : S) (x : ℕ) (d : Deficits) (count k : ℕ) → IsBound gives a q x d count → k < count → IsGone gives a q x d k
     → Meets gives (with_idle_at a x d.cursor k) q x d k (passed-all k d)
 meets-next gives a q x d count k bound l gone = record {
-  can = let fits = bound.fits in going-can gives a (with_idle_at a x d.cursor k) q x d (passed-all k d) bound.more k bound.may gone (omega (arith, l, fits));
+  can = let fits = bound.fits in (going-can gives a (with_idle_at a x d.cursor k) q x d (passed-all k d) bound.more k bound.may gone (omega (arith, l, fits))).0;
   is_free = free;
   is_idle = let i = bound.each k l in subst (IsIdle gives (with_idle_at a x d.cursor k) q x) (sym free.at) (record { leaf = i.leaf; stands = i.stands; gives_none = i.gives_none });
 }

@@ -43,7 +43,7 @@ pub record IsResting (d e : Deficits) (k : ℕ) : Type 0 where
 either-none : (a b : Bool) → (a || b) ≡ false → (a ≡ false) × (b ≡ false)
 either-none a b e = search rules
 
-no-head : (o : Option Packet) → is_some o ≡ false → o ≡ None
+pub no-head : (o : Option Packet) → is_some o ≡ false → o ≡ None
 no-head None e = refl
 no-head (Some p) e = absurd (false≢true (sym e))
 

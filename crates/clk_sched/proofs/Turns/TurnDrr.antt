@@ -204,10 +204,10 @@ looks-below d looks count below all = omega (arith, below, all)
 
 -- A DRRSched that may go on can ask the next.
 pub going-can : {S : Type 0} (gives : S → ℕ → Option Packet → S → Type 0) (a b : Nodes) (q : S) (x : ℕ) (d mid : Deficits) (more k : ℕ) → MayGoOn gives a q x d more → GoesOnInVain gives a b q x d mid k → k < more
-    → CanPull b x (edges_at b.inputs.items x mid.cursor)
+    → CanPull b x (edges_at b.inputs.items x mid.cursor) × IsSome (input_at b.inputs.items x mid.cursor)
 going-can gives a b q x d mid more k h goes l =
     let within = h.within in
-    (making-can gives h.first b h.before q x h.begun mid (h.looks + k) h.can h.fits (goes h.first h.before h.begun h.looks h.making (omega (arith, within, l))) (omega (arith, within, l))).0
+    making-can gives h.first b h.before q x h.begun mid (h.looks + k) h.can h.fits (goes h.first h.before h.begun h.looks h.making (omega (arith, within, l))) (omega (arith, within, l))
 
 -- the visits in vain, none so far and one more
 pub goes-none : {S : Type 0} (gives : S → ℕ → Option Packet → S → Type 0) (a : Nodes) (q : S) (x : ℕ) (d : Deficits) → GoesOnInVain gives a a q x d d 0

@@ -24,6 +24,7 @@ use Rattle.clk_sched.proofs.Lists.Members.{all-weaker, all-split}
 use Rattle.clk_sched.proofs.Lists.Ranges.{range-append}
 use Rattle.clk_sched.proofs.Nodes.Asking.{keeps-more, asks-front, asked-vain, edges-append, apart-split, can-go_on}
 use Rattle.clk_sched.proofs.Nodes.Asked.{entry}
+use Rattle.clk_sched.proofs.Nodes.Placed.{fits-there, fits-each}
 use Rattle.clk_sched.proofs.Nodes.InTwo.{past, past-length, in_order-first, index-first, index-second, asked-both}
 use Rattle.clk_sched.proofs.Classes.Orders.{IsOrderOf, IsBeyond, around}
 use Rattle.clk_sched.proofs.Classes.RoundRobinTurns.{round_robin-order}
@@ -108,8 +109,8 @@ pub record Begins (table : List Inputs) (x n first : ℕ) : Type 0 where
   pub few : n ≤ 64
 
 pub begins : (a : Nodes) (x n : ℕ) (b : Beginning) (p : Inputs) → CanPull a x (edges_of a.inputs.items x) → p ≡ get_or a.inputs.items x p → n ≡ vec_len p.each
-    → IfSome (slice_get a.inputs.items x) (λ (q : Inputs). b.input < length q.each.items) → Begins a.inputs.items x n b.input
-begins a x n b p can e all fits =
+    → slice_get a.states.items x ≡ Some (RoundRobin b) → Begins a.inputs.items x n b.input
+begins a x n b p can e all state =
     let place : slice_get a.inputs.items x ≡ Some p = entry a.inputs.items x p can.there e in
     let count : n ≡ length p.each.items = all ∙ p.each.ok.0 in
     let few = (can.wired x p place).few in
@@ -117,7 +118,7 @@ begins a x n b p can e all fits =
       inputs = p;
       place = place;
       count = count;
-      low = subst (λ m. b.input < m) (sym count) (subst (λ o. IfSome o (λ (q : Inputs). b.input < length q.each.items)) place fits);
+      low = subst (λ m. b.input < m) (sym count) (fits-each a.inputs.items x (RoundRobin b) (fits-there a.inputs.items a.states.items x (RoundRobin b) can.fit state) p place);
       few = omega (arith, few, count);
     }
 

@@ -84,9 +84,9 @@ below_of p = record { edges = p.edges; nodes = p.nodes; first = p.first; last = 
 abbrev pub IsWithin : List Inputs → ℕ → Below → Input → Type 0
 IsWithin table x below (Queue q) = (below.first ≤ q) × (q ≤ below.last)
 IsWithin table x below (Node m) =
-    MatchOption (slice_get table m) ⊥ (λ (p : Inputs). (below.first ≤ (below_of p).first) × ((below_of p).last ≤ below.last) × (m + (below_of p).nodes ≤ x + below.nodes))
+    MatchOption (slice_get table m) ⊥ (λ (p : Inputs). (below.first ≤ p.first) × (p.last ≤ below.last) × (m + p.nodes ≤ x + below.nodes))
 
--- Each node of a table has schedulers after it at its inputs, and tells how many edges there are from it and below, and what is below.
+-- Each node of a table has schedulers after it at its inputs, and says how many edges there are from it and below, and what is below.
 pub record IsWired (table : List Inputs) (x : ℕ) (p : Inputs) : Type 0 where
   pub few : length p.each.items ≤ most_inputs
   pub after : AllByRecursion (IsAfter (length table) x) p.each.items

@@ -71,6 +71,10 @@ IsIdleTo gives (suc deep) table states q x = IfSome (slice_get states x) IsAtRes
 abbrev pub IsIdleNode : {S : Type 0} → (S → ℕ → Option Packet → S → Type 0) → Nodes → S → ℕ → Type 0
 IsIdleNode gives n q x = (deep : ℕ) → length n.inputs.items ≤ x + deep → IsIdleTo gives deep n.inputs.items n.states.items q x
 
+-- What stands at an input of node x gives nothing: a queue, or a node that is at rest with all nodes below it.
+abbrev pub IsIdleInput : {S : Type 0} → (S → ℕ → Option Packet → S → Type 0) → Nodes → S → ℕ → ℕ → Type 0
+IsIdleInput gives n q x i = (deep : ℕ) → length n.inputs.items ≤ suc x + deep → IsIdleAt gives q (λ m. IsIdleTo gives deep n.inputs.items n.states.items q m) (input_at n.inputs.items x i)
+
 -- a node and so many after it are at rest
 abbrev pub AreAtRest : List State → ℕ → ℕ → Type 0
 AreAtRest states x after = (y : ℕ) → x ≤ y → y ≤ x + after → IfSome (slice_get states y) IsAtRest

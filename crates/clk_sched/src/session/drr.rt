@@ -7,7 +7,7 @@ ghost use Rattle.clk_sched.specs.declared.session.drr.Served.{Served};
 
 use crate::ask::Ask;
 use crate::session::inputs::input_after;
-use crate::session::nodes::{MANY, Nodes};
+use crate::session::nodes::Nodes;
 use crate::session::state::State;
 use crate::visit::Visit;
 use clk_packet::Packet;
@@ -199,7 +199,6 @@ impl Deficits {
     {
         let inputs = self.row.len() as u16;
         let mut looks = 0;
-        let mut again = false;
         while looks < inputs {
             let head = self.head();
             match head {
@@ -210,13 +209,12 @@ impl Deficits {
                     looks += 1;
                 }
                 None => {
-                    let (got, passed) = self.look_by_asking(nodes, q, node, again);
+                    let (got, passed) = self.look_by_asking(nodes, q, node);
                     if passed {
                         return got;
                     }
                     looks += 1;
-                    again = got.is_none();
-                    if got.is_none() && inputs - looks >= MANY {
+                    if got.is_none() {
                         looks += self.pass_over_idle(nodes, q, node, inputs - looks);
                     }
                 }
@@ -243,7 +241,7 @@ impl Deficits {
         self.visit(nodes, node, head, false)
     }
 
-    /// Asks the input whose turn it is, at which no head is held. Returns what was got, and whether it is passed. `again` is as in `Nodes::ask`.
+    /// Asks the input whose turn it is, at which no head is held. Returns what was got, and whether it is passed.
     #[cycle(pull)]
     #[inline]
     fn look_by_asking<Q: Ask>(
@@ -251,19 +249,18 @@ impl Deficits {
         nodes: &mut Nodes,
         q: &mut Q,
         node: u16,
-        again: bool,
     ) -> (Option<Packet>, bool)
         requires can_pull { CanPull nodes.old node (edges_at nodes.old.inputs.items node self.old.cursor) }
         requires within { IsSome (input_at nodes.old.inputs.items node self.old.cursor) }
         requires none_held { IsHead self.old None }
         ensures { LooksAt Q.gives nodes.old nodes.new q.old q.new node self.old self.new result.0 result.1 }
     {
-        let got = nodes.ask(q, node, self.cursor, again);
+        let got = nodes.ask(q, node, self.cursor);
         (got, self.visit(nodes, node, got, true))
     }
 
-    /// Skips inputs, from the one whose turn it is on and `most` at most, that hold no head and whose queues are known to be empty. Records
-    /// a visit to each, and returns how many.
+    /// Skips inputs, from the one whose turn it is on and `most` at most, that hold no head and are known to give nothing. Records a visit to
+    /// each, and returns how many.
     // A function of its own, so that a turn that looks at held heads pays nothing for it.
     #[inline(never)]
     fn pass_over_idle<Q: Ask>(&mut self, nodes: &mut Nodes, q: &Q, node: u16, most: u16) -> u16
@@ -276,8 +273,34 @@ impl Deficits {
         if count > 0 {
             nodes.record_idle(node, self.cursor, count);
             self.pass_over(count);
+            return count;
         }
-        count
+        for count in 0..most {
+            if !self.skip(nodes, q, node) {
+                return count;
+            }
+        }
+        most
+    }
+
+    /// Skips the input whose turn it is, if it holds no head, visits aren't kept, and it is known that asking it gives nothing and changes
+    /// nothing below it. Returns whether it did.
+    #[inline]
+    fn skip<Q: Ask>(&mut self, nodes: &mut Nodes, q: &Q, node: u16) -> bool
+        requires can_pull { CanPull nodes.old node (edges_at nodes.old.inputs.items node self.old.cursor) }
+        requires within { IsSome (input_at nodes.old.inputs.items node self.old.cursor) }
+        ensures skips { result ≡ true → LooksAt Q.gives nodes.old nodes.new q.now q.now node self.old self.new None false }
+        ensures nodes_stay { result ≡ false → nodes.new ≡ nodes.old }
+        ensures stays { result ≡ false → self.new ≡ self.old }
+    {
+        if self.head().is_some() {
+            return false;
+        }
+        if !nodes.skip(q, node, self.cursor) {
+            return false;
+        }
+        self.settle(None, true);
+        true
     }
 
     /// How many inputs, from the one whose turn it is on and `most` at most, hold no head, without a gap.
@@ -293,8 +316,7 @@ impl Deficits {
         count
     }
 
-    /// How many inputs, from the one whose turn it is on and `count` at most, are queues known to be empty, without a gap. It is 0 if so
-    /// few inputs are left that asking each is faster.
+    /// How many inputs, from the one whose turn it is on and `count` at most, are queues known to be empty, without a gap.
     #[inline]
     fn idle_ahead<Q: Ask>(&self, nodes: &Nodes, q: &Q, node: u16, count: u16) -> u16
         requires there { node < length nodes.now.inputs.items }
@@ -303,9 +325,6 @@ impl Deficits {
         ensures ahead { AreIdleAhead Q.gives nodes.now q.now node self.now result }
     {
         let left = (self.row.len() as u16 - self.cursor).min(count);
-        if left < MANY {
-            return 0;
-        }
         nodes.idle_from(q, node, self.cursor, left)
     }
 

@@ -9,20 +9,20 @@ use std::alloc::{AllocError, Global};
 
 /// The packets emitted, in order, if they are kept, and how many were emitted.
 #[derive(Drop)]
-pub struct Emitted {
+pub struct EmittedPackets {
     pub packets: Vec<Packet>,
     pub keeps: bool,
     pub count: u64,
 }
 
-impl Emitted {
+impl EmittedPackets {
     /// Nothing was emitted so far. Emitted packets will be kept, or only counted.
-    pub fn new(alloc: Global, keeps: bool) -> Emitted
+    pub fn new(alloc: Global, keeps: bool) -> EmittedPackets
         ensures packets { result.packets.items ≡ [] }
         ensures keeps { result.keeps ≡ keeps }
         ensures count { result.count ≡ 0 }
     {
-        Emitted {
+        EmittedPackets {
             packets: Vec::new(alloc),
             keeps,
             count: 0,

@@ -96,6 +96,22 @@ impl Log {
         ensures unkept { self.old.kind.keeps || self.old.kind.packs ≡ false → IsOk result }
         ensures refused { OnErr result (self.new ≡ self.old) }
     {
+        if self.keeps_any {
+            return self.begin_kept(visits);
+        }
+        self.all.begin(&visits);
+        Ok(())
+    }
+
+    // Begins a pull of whose visits some are kept. A call of its own, as `push_kept` is.
+    #[inline(never)]
+    fn begin_kept(&mut self, visits: usize) -> Result<(), AllocError>
+        requires room { self.old.kind.latest ≡ true → visits ≤ self.old.kind.room }
+        ensures ready { OnOk result (self.new ≡ with_pull self.old visits) }
+        ensures few { OnOk result (self.old.kind.keeps || self.old.kind.packs ≡ true → self.old.kind.gone ≡ 0 → length self.old.items + visits < 2 ^ 63) }
+        ensures unkept { self.old.kind.keeps || self.old.kind.packs ≡ false → IsOk result }
+        ensures refused { OnErr result (self.new ≡ self.old) }
+    {
         reserve_kept(&mut self.kept, self.keeps, visits)?;
         reserve_packed(&mut self.packed, self.packs, visits)?;
         if self.keeps_latest {

@@ -14,8 +14,8 @@ use crate::visit::Visit;
 use clk_packet::Packet;
 use std::mem::{forget, replace};
 
-/// From this number of inputs on, looking for empty ones is faster than asking each, where they are asked in an order of their own.
-pub const MANY: u16 = 8;
+/// From this number of inputs on, a StrideSched looks for empty ones first, which is then faster than asking each.
+const MANY: u16 = 8;
 
 /// The nodes of a tree in a pull, with the log.
 #[derive(Drop)]
@@ -62,35 +62,6 @@ impl Nodes {
         }
     }
 
-    /// Pulls a node. With `again` it looks whether the pull can be skipped.
-    // Inlined as a function, so that only this branch clears room for the result.
-    #[cycle(pull)]
-    #[inline(always)]
-    fn pull_or_skip<Q: Ask>(&mut self, q: &mut Q, node: u16, again: bool) -> Option<Packet>
-        requires can_pull { CanPull self.old node (edges_of self.old.inputs.items node) }
-        ensures { WasPulled Q.gives self.old self.new q.old q.new node result }
-    {
-        if again {
-            self.pull_again(q, node)
-        } else {
-            self.pull(q, node)
-        }
-    }
-
-    /// Pulls a node, or skips the pull if it is known to give nothing and to change nothing.
-    // A function of its own, so that a pull that gives a packet at once pays nothing for it.
-    #[cycle(pull)]
-    #[inline(never)]
-    fn pull_again<Q: Ask>(&mut self, q: &mut Q, node: u16) -> Option<Packet>
-        requires can_pull { CanPull self.old node (edges_of self.old.inputs.items node) }
-        ensures { WasPulled Q.gives self.old self.new q.old q.new node result }
-    {
-        if self.skip(q, node) {
-            return None;
-        }
-        self.pull(q, node)
-    }
-
     /// Takes the state of a node out for its turn. `Prio` stands in its place meanwhile.
     #[inline]
     pub fn take(&mut self, node: u16) -> State
@@ -111,8 +82,8 @@ impl Nodes {
         forget(replace(&mut self.states[node as usize], state));
     }
 
-    /// Asks inputs of a node in this order until one gives a packet, and returns its place in the order and the packet. `again` is as in
-    /// `ask`, for the first.
+    /// Asks inputs of a node in this order until one gives a packet, and returns its place in the order and the packet. `vain` says that the
+    /// first may well be idle.
     #[cycle(pull)]
     #[inline(always)]
     pub fn ask_in_order<Q: Ask>(
@@ -120,7 +91,7 @@ impl Nodes {
         q: &mut Q,
         node: u16,
         order: &[Rank],
-        again: bool,
+        vain: bool,
     ) -> Option<(usize, Packet)>
         requires can_pull { CanPull self.old node (edges_in self.old.inputs.items node (inputs_in order.now)) }
         requires within { AllByRecursion (λ i. IsSome (input_at self.old.inputs.items node i)) (inputs_in order.now) }
@@ -129,16 +100,20 @@ impl Nodes {
         ensures asked { HasAskedAll Q.gives self.old self.new q.old q.new node (inputs_in order.now) result }
     {
         let mut place = 0;
+        if vain {
+            place = self.pass_resting_of(q, node, order);
+        }
         while place < order.len() {
             let idle = self.pass_idle_of(q, node, &order[place..]);
             if idle > 0 {
                 place += idle;
                 continue;
             }
-            if let Some(packet) = self.look(q, node, order[place].input, again || place > 0) {
+            if let Some(packet) = self.look(q, node, order[place].input) {
                 return Some((place, packet));
             }
             place += 1;
+            place += self.pass_resting_of(q, node, &order[place..]);
         }
         None
     }
@@ -146,7 +121,7 @@ impl Nodes {
     /// Skips the longest run of consecutive, equal-pass inputs, from the first of these on, whose queues are known to be empty. Records a
     /// visit to each, and returns how many. It is 0 if the first is not known to be empty, or if they are so few that asking each is faster.
     #[inline]
-    fn pass_idle_of<Q: Ask>(&mut self, q: &Q, node: u16, order: &[Rank]) -> usize
+    pub fn pass_idle_of<Q: Ask>(&mut self, q: &Q, node: u16, order: &[Rank]) -> usize
         requires can_pull { CanPull self.old node (edges_in self.old.inputs.items node (inputs_in order.now)) }
         requires within { AllByRecursion (λ i. IsSome (input_at self.old.inputs.items node i)) (inputs_in order.now) }
         requires order { AreInOrder order.now }
@@ -172,7 +147,8 @@ impl Nodes {
         count
     }
 
-    /// Asks `count` inputs of a node, from `first` on, until one gives a packet. Returns its place among them and the packet.
+    /// Asks `count` inputs of a node, from `first` on, until one gives a packet. Returns its place among them and the packet. `vain` says
+    /// that the first may well be idle.
     #[cycle(pull)]
     #[inline(always)]
     pub fn ask_in_turn<Q: Ask>(
@@ -181,6 +157,7 @@ impl Nodes {
         node: u16,
         first: u16,
         count: u16,
+        vain: bool,
     ) -> Option<(u16, Packet)>
         requires can_pull { CanPull self.old node (edges_in self.old.inputs.items node (range_with_len first count)) }
         requires within { AllByRecursion (λ i. IsSome (input_at self.old.inputs.items node i)) (range_with_len first count) }
@@ -189,13 +166,17 @@ impl Nodes {
         ensures asked { HasAskedAll Q.gives self.old self.new q.old q.new node (range_with_len first count) result }
     {
         let mut place = 0;
+        if vain {
+            place = self.pass_resting(q, node, first, count);
+        }
         while place < count {
             place += self.pass_idle(q, node, first + place, count - place);
             if place < count {
-                if let Some(packet) = self.look(q, node, first + place, place > 0) {
+                if let Some(packet) = self.look(q, node, first + place) {
                     return Some((place, packet));
                 }
                 place += 1;
+                place += self.pass_resting(q, node, first + place, count - place);
             }
         }
         None
@@ -232,15 +213,15 @@ impl Nodes {
         }
     }
 
-    /// Asks what stands at an input of a node, records the visit, and returns what it got. `again` is as in `ask`.
+    /// Asks what stands at an input of a node, records the visit, and returns what it got.
     #[cycle(pull)]
     #[inline(always)]
-    pub fn look<Q: Ask>(&mut self, q: &mut Q, node: u16, input: u16, again: bool) -> Option<Packet>
+    pub fn look<Q: Ask>(&mut self, q: &mut Q, node: u16, input: u16) -> Option<Packet>
         requires can_pull { CanPull self.old node (edges_at self.old.inputs.items node input) }
         requires within { IsSome (input_at self.old.inputs.items node input) }
         ensures { HasAsked Q.gives self.old self.new q.old q.new node input result }
     {
-        let got = self.ask(q, node, input, again);
+        let got = self.ask(q, node, input);
         self.record(node, input, got);
         got
     }
@@ -286,10 +267,10 @@ impl Nodes {
         });
     }
 
-    /// Asks what stands at an input of a node. With `again`, as after an input that gave nothing, it looks whether it can be skipped.
+    /// Asks what stands at an input of a node.
     #[cycle(pull)]
     #[inline(always)]
-    pub fn ask<Q: Ask>(&mut self, q: &mut Q, node: u16, input: u16, again: bool) -> Option<Packet>
+    pub fn ask<Q: Ask>(&mut self, q: &mut Q, node: u16, input: u16) -> Option<Packet>
         requires can_pull { CanPull self.old node (edges_at self.old.inputs.items node input) }
         requires within { IsSome (input_at self.old.inputs.items node input) }
         ensures keeps { Keeps self.old self.new (edges_at self.old.inputs.items node input - 1) }
@@ -299,7 +280,7 @@ impl Nodes {
     {
         match self.inputs[node as usize].each[input as usize] {
             Input::Queue(leaf) => q.ask(leaf),
-            Input::Node(child) => self.pull_or_skip(q, child, again),
+            Input::Node(child) => self.pull(q, child),
         }
     }
 }

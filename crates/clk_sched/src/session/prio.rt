@@ -21,7 +21,7 @@ pub fn pull_device<Q: Ask>(nodes: &mut Nodes, q: &mut Q) -> Option<Packet>
     requires one { IfSome (slice_get nodes.old.inputs.items 0) (λ p. length p.each.items ≡ 1) }
     ensures { WasPulled Q.gives nodes.old nodes.new q.old q.new 0 result }
 {
-    nodes.look(q, DEVICE, 0, false)
+    nodes.look(q, DEVICE, 0)
 }
 
 /// Pulls a PrioSched.
@@ -33,7 +33,7 @@ pub fn pull_prio<Q: Ask>(nodes: &mut Nodes, q: &mut Q, node: u16) -> Option<Pack
     ensures { WasPulled Q.gives nodes.old nodes.new q.old q.new node result }
 {
     let inputs = nodes.inputs[node as usize].each.len() as u16;
-    match nodes.ask_in_turn(q, node, 0, inputs) {
+    match nodes.ask_in_turn(q, node, 0, inputs, false) {
         Some((_, packet)) => Some(packet),
         None => None,
     }

@@ -1,34 +1,100 @@
 //! Nodes that give nothing and change nothing, since all queues below them are empty.
 
 use crate::ask::Ask;
+use crate::session::inputs::Input;
 use crate::session::nodes::Nodes;
+use crate::session::stride::Rank;
 
 impl Nodes {
-    ghost use Rattle.std.specs.Prelude.{◌≡◌, ◌<◌, ◌+◌, ◌||◌, true, false, length, List, None, MatchBool};
+    ghost use Rattle.std.specs.Prelude.{◌≡◌, ◌<◌, ◌≤◌, ◌+◌, ◌||◌, true, false, length, take, List, None, IsSome};
+    ghost use Rattle.std.specs.List.{AllByRecursion, range_with_len};
+    ghost use Rattle.clk_packet.specs.Limits.{most_inputs};
     ghost use Rattle.clk_sched.specs.declared.visit.Visit.{Visit};
-    ghost use Rattle.clk_sched.specs.inside.Places.{AreWired, AllFit, edges_of};
+    ghost use Rattle.clk_sched.specs.inside.Places.{AreWired, AllFit, edges_at, edges_in, input_at};
     ghost use Rattle.clk_sched.specs.inside.Pulling.{CanPull};
-    ghost use Rattle.clk_sched.specs.inside.Resting.{IsIdleNode, AreAtRest, with_block};
-    ghost use Rattle.clk_sched.specs.inside.Turning.{WasPulled};
+    ghost use Rattle.clk_sched.specs.inside.Ranks.{AreInOrder, inputs_in};
+    ghost use Rattle.clk_sched.specs.inside.Resting.{IsIdleNode, IsIdleInput, AreAtRest, with_block};
+    ghost use Rattle.clk_sched.specs.inside.Turning.{HasAsked, HasAskedAll};
 
-    /// Skips a pull of a node, if visits aren't kept and the pull is known to give nothing and to change nothing. Returns whether it did.
-    pub fn skip<Q: Ask>(&mut self, q: &Q, node: u16) -> bool
-        requires can_pull { CanPull self.old node (edges_of self.old.inputs.items node) }
-        ensures { MatchBool result (WasPulled Q.gives self.old self.new q.now q.now node None) (self.new ≡ self.old) }
+    /// Skips inputs of a node, from `first` on and `count` at most, of which it is known that asking them gives nothing and changes nothing.
+    /// Records a visit to each, and returns how many. It is 0 where visits are kept, and where all inputs are queues in a row: `pass_idle`
+    /// skips these together.
+    // A function of its own, so that a pull that gets a packet at once pays nothing for it.
+    #[inline(never)]
+    pub fn pass_resting<Q: Ask>(&mut self, q: &Q, node: u16, first: u16, count: u16) -> u16
+        requires can_pull { CanPull self.old node (edges_in self.old.inputs.items node (range_with_len first count)) }
+        requires within { AllByRecursion (λ i. IsSome (input_at self.old.inputs.items node i)) (range_with_len first count) }
+        requires few { first + count ≤ most_inputs }
+        ensures within { result ≤ count }
+        ensures asked { HasAskedAll Q.gives self.old self.new q.now q.now node (range_with_len first result) None }
+    {
+        if self.inputs[node as usize].queues_from().is_some() {
+            return 0;
+        }
+        for place in 0..count {
+            if !self.skip(q, node, first + place) {
+                return place;
+            }
+        }
+        count
+    }
+
+    /// Skips inputs of a node in this order, as `pass_resting` does. Queues in a row are skipped together here.
+    #[inline(never)]
+    pub fn pass_resting_of<Q: Ask>(&mut self, q: &Q, node: u16, order: &[Rank]) -> usize
+        requires can_pull { CanPull self.old node (edges_in self.old.inputs.items node (inputs_in order.now)) }
+        requires within { AllByRecursion (λ i. IsSome (input_at self.old.inputs.items node i)) (inputs_in order.now) }
+        requires order { AreInOrder order.now }
+        ensures within { result ≤ length order.now }
+        ensures asked { HasAskedAll Q.gives self.old self.new q.now q.now node (take result (inputs_in order.now)) None }
+    {
+        let idle = self.pass_idle_of(q, node, order);
+        if idle > 0 {
+            return idle;
+        }
+        for place in 0..order.len() {
+            if !self.skip(q, node, order[place].input) {
+                return place;
+            }
+        }
+        order.len()
+    }
+
+    /// Skips an input of a node, if visits aren't kept and it is known that asking it gives nothing and changes nothing. Records a visit to
+    /// it, and returns whether it did.
+    #[inline]
+    pub fn skip<Q: Ask>(&mut self, q: &Q, node: u16, input: u16) -> bool
+        requires can_pull { CanPull self.old node (edges_at self.old.inputs.items node input) }
+        requires within { IsSome (input_at self.old.inputs.items node input) }
+        ensures asked { result ≡ true → HasAsked Q.gives self.old self.new q.now q.now node input None }
+        ensures stays { result ≡ false → self.new ≡ self.old }
     {
         if self.log.keeps_any() {
             return false;
         }
-        if !self.is_idle(q, node) {
+        if !self.rests_at(q, node, input) {
             return false;
         }
-        self.pass_visits(node);
+        self.pass_visits(node, input);
         true
     }
 
-    // Adds visits of a node, and of those below it, which only contracts see.
+    /// Whether what stands at an input of a node is known to give nothing and to change nothing if it is asked.
     #[inline]
-    fn pass_visits(&mut self, _node: u16)
+    fn rests_at<Q: Ask>(&self, q: &Q, node: u16, input: u16) -> bool
+        requires can_pull { CanPull self.now node (edges_at self.now.inputs.items node input) }
+        requires within { IsSome (input_at self.now.inputs.items node input) }
+        ensures { result ≡ true → IsIdleInput Q.gives self.now q.now node input }
+    {
+        match self.inputs[node as usize].each[input as usize] {
+            Input::Queue(leaf) => q.idle_from(leaf, 1) == 1,
+            Input::Node(child) => self.is_idle(q, child),
+        }
+    }
+
+    // Adds the visit to an input of a node, and those below it, which only contracts see.
+    #[inline]
+    fn pass_visits(&mut self, _node: u16, _input: u16)
         ghost visits: { List Visit }
         requires unkept { self.old.log.kind.keeps || (self.old.log.kind.packs || self.old.log.kind.latest) ≡ false }
         ensures { self.new ≡ with_block self.old visits }

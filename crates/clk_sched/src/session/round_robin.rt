@@ -1,6 +1,7 @@
 //! The state and the pull of a RoundRobinSched.
 
 use crate::ask::Ask;
+use crate::session::inputs::input_after;
 use crate::session::nodes::Nodes;
 use crate::session::state::State;
 use clk_packet::Packet;
@@ -12,14 +13,15 @@ pub struct Beginning {
 }
 
 impl Beginning {
-    ghost use Rattle.std.specs.Prelude.{◌<◌, length, None, IfSome, slice_get};
+    ghost use Rattle.std.specs.Prelude.{◌≡◌, ◌<◌, length, Some, IfSome, slice_get};
     ghost use Rattle.clk_sched.specs.inside.Places.{edges_of};
     ghost use Rattle.clk_sched.specs.inside.Pulling.{CanPull};
-    ghost use Rattle.clk_sched.specs.inside.Turning.{WasPulled, HadTurn};
+    ghost use Rattle.clk_sched.specs.inside.Turning.{WasPulled};
     ghost use Rattle.clk_sched.specs.inside.Holds.OfClass.{IsRoundRobin};
     ghost use Rattle.clk_sched.specs.declared.session.state.State.TheVariants.{RoundRobin};
 
     /// Pulls a RoundRobinSched.
+    // What it holds stays in its place, since nothing of it is needed while inputs are asked.
     #[cycle(pull)]
     #[inline(never)]
     pub fn pull<Q: Ask>(nodes: &mut Nodes, q: &mut Q, node: u16) -> Option<Packet>
@@ -27,33 +29,34 @@ impl Beginning {
         requires holds { IfSome (slice_get nodes.old.states.items node) IsRoundRobin }
         ensures { WasPulled Q.gives nodes.old nodes.new q.old q.new node result }
     {
-        let State::RoundRobin(mut beginning) = nodes.take(node) else {
-            unreachable!()
-        };
-        let got = beginning.turn(nodes, q, node);
-        nodes.put(node, State::RoundRobin(beginning));
-        got
-    }
-
-    // The turn of a RoundRobinSched.
-    #[cycle(pull)]
-    fn turn<Q: Ask>(&mut self, nodes: &mut Nodes, q: &mut Q, node: u16) -> Option<Packet>
-        requires can_pull { CanPull nodes.old node (edges_of nodes.old.inputs.items node) }
-        requires fits { IfSome (slice_get nodes.old.inputs.items node) (λ p. self.old.input < length p.each.items) }
-        ensures { HadTurn Q.gives nodes.old nodes.new q.old q.new node (RoundRobin self.old) (RoundRobin self.new) result }
-    {
         let inputs = nodes.inputs[node as usize].each.len() as u16;
-        let first = self.input;
-        if let Some((place, packet)) = nodes.ask_in_turn(q, node, first, inputs - first) {
-            self.input = (first + place + 1) % inputs;
+        let beginning = Beginning::of(nodes, node);
+        let first = beginning.input;
+        if let Some((place, packet)) = nodes.ask_in_turn(q, node, first, inputs - first, false) {
+            let input = input_after(first + place, inputs);
+            nodes.put(node, State::RoundRobin(Beginning { input }));
             return Some(packet);
         }
-        match nodes.ask_in_turn(q, node, 0, first) {
+        match nodes.ask_in_turn(q, node, 0, first, true) {
             Some((place, packet)) => {
-                self.input = place + 1;
+                let input = place + 1;
+                nodes.put(node, State::RoundRobin(Beginning { input }));
                 Some(packet)
             }
             None => None,
+        }
+    }
+
+    // What a RoundRobinSched holds.
+    #[inline]
+    fn of(nodes: &Nodes, node: u16) -> Beginning
+        requires there { node < length nodes.now.states.items }
+        requires holds { IfSome (slice_get nodes.now.states.items node) IsRoundRobin }
+        ensures { slice_get nodes.now.states.items node ≡ Some (RoundRobin result) }
+    {
+        match &nodes.states[node as usize] {
+            State::RoundRobin(beginning) => *beginning,
+            _ => unreachable!(),
         }
     }
 }

@@ -117,7 +117,7 @@ impl Bucket {
             Bucket::answer_up(nodes, node, last, None);
             return None;
         }
-        let got = nodes.ask(q, last, 0, false);
+        let got = nodes.ask(q, last, 0);
         Bucket::answer_at(nodes, last, got);
         Bucket::answer_up(nodes, node, last, got);
         got

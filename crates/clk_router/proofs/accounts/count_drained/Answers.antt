@@ -15,4 +15,4 @@ returns-clause-counted c =
     let counted : c.loop-departure.accounts.items ≡ map (departed all) c.args.accounts.now.items =
     sym (ap (λ ds. map (departed ds) c.loop-departure.accounts.items) none ∙ departed-none c.loop-departure.accounts.items) ∙ c.loop-departure.invariant.0
     in
-    λ events specs device moment pulls are were. counted ∙ ap (λ ds. map (departed ds) c.args.accounts.now.items) are ∙ ap (map (departed (departures_in pulls))) were ∙ accounts-drained events device moment pulls specs
+    λ events specs device moment pulls few are were. counted ∙ ap (λ ds. map (departed ds) c.args.accounts.now.items) are ∙ ap (map (departed (departures_in pulls))) were ∙ accounts-drained events device moment pulls specs few

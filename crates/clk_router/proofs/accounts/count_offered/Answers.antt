@@ -19,7 +19,7 @@ returns-in-Accepted c =
     taken_in-at old c.args.numbers.now p c.args.place c.requires.alike c.requires.here c.args.place c.index_mut.result.now c.requires.rising refl c.index_mut.ensures.value c.add.new.total c.add.ensures
     ∙ ap (λ o. map (noted p o) old) (sym c.in-Accepted.is)
     in
-    λ events specs are. counted ∙ ap (map (noted p c.args.outcome)) are ∙ accounts-offered events p c.args.outcome specs
+    λ events specs few are. counted ∙ ap (map (noted p c.args.outcome)) are ∙ accounts-offered events p c.args.outcome specs few
 
 pub returns-in-Refused : goal.returns-in-Refused
 returns-in-Refused c =
@@ -29,7 +29,7 @@ returns-in-Refused c =
     turned_away-at old c.args.numbers.now p c.args.place c.requires.alike c.requires.here c.args.place c.index_mut.result.now c.requires.rising refl c.index_mut.ensures.value c.add-in-Refused.new.total c.add-in-Refused.ensures
     ∙ ap (λ o. map (noted p o) old) (sym c.in-Refused.is)
     in
-    λ events specs are. counted ∙ ap (map (noted p c.args.outcome)) are ∙ accounts-offered events p c.args.outcome specs
+    λ events specs few are. counted ∙ ap (map (noted p c.args.outcome)) are ∙ accounts-offered events p c.args.outcome specs few
 
 pub returns-in-Evicted : goal.returns-in-Evicted
 returns-in-Evicted c =
@@ -37,4 +37,4 @@ returns-in-Evicted c =
     let p = c.args.packet in
     let taken = taken_in-at old c.args.numbers.now p c.args.place c.requires.alike c.requires.here c.args.place c.index_mut.result.now c.requires.rising refl c.index_mut.ensures.value c.add-in-Evicted.new.total c.add-in-Evicted.ensures in
     let counted = c.count_evicted.ensures ∙ ap (map (put_out c.in-Evicted.front)) taken ∙ evicted-both p c.in-Evicted.front old ∙ ap (λ o. map (noted p o) old) (sym c.in-Evicted.is) in
-    λ events specs are. counted ∙ ap (map (noted p c.args.outcome)) are ∙ accounts-offered events p c.args.outcome specs
+    λ events specs few are. counted ∙ ap (map (noted p c.args.outcome)) are ∙ accounts-offered events p c.args.outcome specs few

@@ -1,10 +1,11 @@
 use Rattle.std.proofs.lemmas.Bool.Decides.{nat_tests}
 use Rattle.std.proofs.lemmas.Grind.{common_steps, elements}
-use Rattle.std.proofs.Common.{IfSome, slice_get, ◌≡◌, ◌+◌, ◌<◌, ◌≤◌, true, length, take, Some, None, IsSome, refl, sym, ap, ◌∙◌, subst, arith, rules}
+use Rattle.std.proofs.Common.{IfSome, slice_get, ◌≡◌, ℕ, ◌+◌, ◌-◌, ◌<◌, ◌≤◌, true, List, [], length, take, drop, Option, Some, None, IsSome, refl, sym, ap, ◌∙◌, subst, arith, rules}
 use Rattle.std.specs.Global.{Box}
 use Rattle.std.specs.List.{AllByRecursion, range_with_len}
 use Rattle.std.proofs.lemmas.List.{length-drop, length-map}
 use Rattle.std.proofs.lemmas.List.FromFn.{length-range_with_len, get_or-range_with_len}
+use Rattle.clk_packet.specs.declared.packet.Packet.{Packet}
 use Rattle.clk_sched.specs.declared.session.drr.Deficits.{Deficits}
 use Rattle.clk_sched.specs.declared.session.stride.Passes.{Passes}
 use Rattle.clk_sched.specs.declared.session.stride.Rank.{Rank}
@@ -15,11 +16,12 @@ use Rattle.clk_sched.specs.declared.session.state.State.TheVariants.{RoundRobin,
 use Rattle.clk_sched.specs.inside.Places.{edges_in, input_at}
 use Rattle.clk_sched.specs.inside.Pulling.{CanPull}
 use Rattle.clk_sched.specs.inside.Ranks.{AreInOrder, inputs_in}
-use Rattle.clk_sched.proofs.Nodes.Asking.{keeps-more, answers-then, asking-ready, asking-given, asking-next, asking-all}
+use Rattle.clk_sched.proofs.Lists.Ranges.{range-front}
+use Rattle.clk_sched.proofs.Nodes.Asking.{IsAsking, asking-first, asked-vain, keeps-more, answers-then, asking-ready, asking-given, asking-next, asking-all}
 use Rattle.clk_sched.proofs.Nodes.Asked.{entry, rank_at, entry-input, input-is, edges-scheduler, queue-visited, asks-queue, asks-child}
 use Rattle.clk_sched.proofs.Classes.RankLemmas.{after-place, inputs-after, in_order-after}
 use Rattle.clk_sched.proofs.Nodes.Idle.{rest-can, asking-past, asking-still, turn-can, turn-past}
-use Rattle.clk_sched.proofs.Nodes.Placed.{can-turn, kept-there, pulled-back}
+use Rattle.clk_sched.proofs.Nodes.Placed.{can-turn, kept-there, pulled-back, pulled-put, pulled-still}
 use Rattle.clk_sched.proofs.Turns.TurnPrio.{prio-asks, prio-pulled}
 use Rattle.clk_sched.proofs.Turns.TurnRoundRobin.{begins, may-first, may-second, had-first, had-second, had-none}
 use Rattle.clk_sched.proofs.Nodes.Logged.{queue-answers, asked-logged}
@@ -28,10 +30,11 @@ use Rattle.clk_sched.proofs.Turns.TurnDrr.{looks-below, making-first, making-can
 use Rattle.clk_sched.proofs.Turns.TurnStride.{FitsAt, stride-in_order, stride-may, had-won, had-lost}
 use Rattle.clk_sched.proofs.Turns.ShaperRow.{below-refused, below-answered, whole-answered, answers-keep, goes-may, goes-room, goes-edges, goes-order, goes-inputs}
 use Rattle.clk_sched.specs.inside.Tokens.{GoesDown}
-use Rattle.clk_sched.specs.inside.Turning.{HasAskedAll, WasPulled}
+use Rattle.clk_sched.specs.inside.Turning.{HadTurn, HasAsked, HasAskedAll, WasPulled}
 use Rattle.clk_sched.specs.inside.Looking.{IsHead}
 use Rattle.clk_sched.proofs.Nodes.InOrder.{packet_of}
 use Rattle.clk_sched.proofs.session.+pull.Goals as goal
+use Rattle.clk_sched.proofs.session.+pull.Goals.{nodes::Nodes::ask_in_order-then-vain, nodes::Nodes::ask_in_order-else-vain, nodes::Nodes::ask_in_turn-then-vain, nodes::Nodes::ask_in_turn-else-vain}
 
 -- a box with something else in it
 abbrev boxed : {X : Type 0} → Box X → X → Box X
@@ -54,7 +57,7 @@ nodes::Nodes::ask-returns-in-Node-clause-asks g t c =
     let table = c.args.self.now.inputs.items in
     let place = entry table c.args.node c.index.result.now (c.requires.can_pull.there) c.index.ensures in
     let input : input_at table c.args.node c.args.input ≡ Some (Node c.in-Node.child) = input-is table c.args.node c.args.input c.index.result.now c.index-2.result.now place c.requires.within c.index-2.ensures ∙ ap Some c.in-Node.is in
-    asks-child c.args.self.now c.pull_or_skip.new.self c.args.node c.args.input c.in-Node.child c.pull_or_skip.result input c.pull_or_skip.ensures.pulls
+    asks-child c.args.self.now c.pull.new.self c.args.node c.args.input c.in-Node.child c.pull.result input c.pull.ensures.pulls
 
 pub nodes::Nodes::ask_in_order-pass_idle_of-idle-requires : goal.nodes::Nodes::ask_in_order-pass_idle_of-idle-requires
 nodes::Nodes::ask_in_order-pass_idle_of-idle-requires g t c =
@@ -98,14 +101,48 @@ nodes::Nodes::ask_in_order-returns-in-Some-clause-asked g t c =
     let h = asking-still g.Q.Ask.gives c.args.self.now c.loop-place.self now c.args.q.now c.loop-place.q c.args.node k c.pass_idle_of-idle.result c.args.order.now (omega arith) c.loop-place.invariant.1 c.pass_idle_of-idle.ensures.asked in
     asking-given g.Q.Ask.gives c.args.self.now now c.look.new.self c.args.q.now c.loop-place.q c.look.new.q c.args.node k (rank_at c.args.order.now k).input c.look.result c.in-Some.packet order (subst (λ n. k < n) (sym (length-map c.args.order.now (λ (r : Rank). r.input))) c.loop-place-test.true) h (entry-input c.args.order.now k c.loop-place-test.true) c.in-Some.is c.look.ensures
 
+-- what was asked once an input gave nothing
+order-vain : {S : Type 0} (gives : S → ℕ → Option Packet → S → Type 0) (a b n c : Nodes) (p q r : S) (x k idle : ℕ) (order : List Rank) (got : Option Packet) → k < length order → idle ≡ 0 → IsAsking gives a b p q x (take k (inputs_in order))
+    → HasAskedAll gives b n q q x (take idle (inputs_in (take (length order - k) (drop k order)))) None → got ≡ None → HasAsked gives n c q r x (rank_at order k).input got → IsAsking gives a c p r x (take (k + 1) (inputs_in order))
+order-vain gives a b n c p q r x k idle order got below none h past vain asked =
+    asking-next gives a n c p q r x k (rank_at order k).input got (inputs_in order) (subst (λ m. k < m) (sym (length-map order (λ (s : Rank). s.input))) below) (asking-still gives a b n p q x k idle order none h past) (entry-input order k below) vain asked
+
+pub nodes::Nodes::ask_in_order-pass_resting_of-place-requires-in-loop-place : goal.nodes::Nodes::ask_in_order-pass_resting_of-place-requires-in-loop-place
+nodes::Nodes::ask_in_order-pass_resting_of-place-requires-in-loop-place g t c =
+    let k = c.loop-place.place in
+    let h = order-vain g.Q.Ask.gives c.args.self.now c.loop-place.self c.pass_idle_of-idle.new.self c.look.new.self c.args.q.now c.loop-place.q c.look.new.q c.args.node k c.pass_idle_of-idle.result c.args.order.now c.look.result c.loop-place-test.true (omega arith)
+    c.loop-place.invariant.1 c.pass_idle_of-idle.ensures.asked c.in_default.is c.look.ensures in
+    let rest = rest-can g.Q.Ask.gives c.args.self.now c.look.new.self c.args.q.now c.look.new.q c.args.node (k + 1) (inputs_in c.args.order.now) c.requires.can_pull c.requires.within h in
+    let after = sym (inputs-after c.args.order.now (k + 1)) in
+    record {
+      can_pull = subst (λ l. CanPull c.look.new.self c.args.node (edges_in c.look.new.self.inputs.items c.args.node l)) after rest.0;
+      within = subst (AllByRecursion (λ i. IsSome (input_at c.look.new.self.inputs.items c.args.node i))) after rest.1;
+      order = subst AreInOrder (sym (after-place c.args.order.now (k + 1))) (in_order-after (k + 1) c.args.order.now c.requires.order);
+    }
+
+pub nodes::Nodes::ask_in_order-loop-place-init : goal.nodes::Nodes::ask_in_order-loop-place-init
+nodes::Nodes::ask_in_order-loop-place-init g t c =
+    elim c.if-vain.branch [
+      | nodes::Nodes::ask_in_order-then-vain w ↦ search (rules, asked-vain)
+      | nodes::Nodes::ask_in_order-else-vain w ↦ (
+        omega arith,
+        subst (λ k. IsAsking g.Q.Ask.gives c.args.self.now c.if-vain.self c.args.q.now c.args.q.now c.args.node (take k (inputs_in c.args.order.now))) (sym w.place-is)
+            (subst (λ now. IsAsking g.Q.Ask.gives c.args.self.now now c.args.q.now c.args.q.now c.args.node []) (sym w.self-is) (asking-first g.Q.Ask.gives c.args.self.now c.args.q.now c.args.node c.requires.can_pull.fit)),
+      )
+    ]
+
 pub nodes::Nodes::ask_in_order-loop-place-preserved : goal.nodes::Nodes::ask_in_order-loop-place-preserved
 nodes::Nodes::ask_in_order-loop-place-preserved g t c =
     let k = c.loop-place.place in
-    let now = c.pass_idle_of-idle.new.self in
-    let h = asking-still g.Q.Ask.gives c.args.self.now c.loop-place.self now c.args.q.now c.loop-place.q c.args.node k c.pass_idle_of-idle.result c.args.order.now (omega arith) c.loop-place.invariant.1 c.pass_idle_of-idle.ensures.asked in
-    let test = c.loop-place-test.true in (
-      omega (arith, test),
-      asking-next g.Q.Ask.gives c.args.self.now now c.look.new.self c.args.q.now c.loop-place.q c.look.new.q c.args.node k (rank_at c.args.order.now k).input c.look.result (inputs_in c.args.order.now) (subst (λ n. k < n) (sym (length-map c.args.order.now (λ (r : Rank). r.input))) test) h (entry-input c.args.order.now k test) c.in_default.is c.look.ensures,
+    let n = c.pass_resting_of-place-in-loop-place.result in
+    let within = c.pass_resting_of-place-in-loop-place.ensures.within in
+    let size = ap length (after-place c.args.order.now (k + 1)) ∙ length-drop (k + 1) c.args.order.now in
+    let test = c.loop-place-test.true in
+    let h = order-vain g.Q.Ask.gives c.args.self.now c.loop-place.self c.pass_idle_of-idle.new.self c.look.new.self c.args.q.now c.loop-place.q c.look.new.q c.args.node k c.pass_idle_of-idle.result c.args.order.now c.look.result test (omega arith)
+    c.loop-place.invariant.1 c.pass_idle_of-idle.ensures.asked c.in_default.is c.look.ensures in (
+      omega (arith, test, within, size),
+      asking-past g.Q.Ask.gives c.args.self.now c.look.new.self c.pass_resting_of-place-in-loop-place.new.self c.args.q.now c.look.new.q c.args.node (k + 1) n (inputs_in c.args.order.now) h
+          (subst (λ l. HasAskedAll g.Q.Ask.gives c.look.new.self c.pass_resting_of-place-in-loop-place.new.self c.look.new.q c.look.new.q c.args.node (take n l) None) (inputs-after c.args.order.now (k + 1)) c.pass_resting_of-place-in-loop-place.ensures.asked),
     )
 
 pub nodes::Nodes::ask_in_order-returns : goal.nodes::Nodes::ask_in_order-returns
@@ -137,13 +174,43 @@ nodes::Nodes::ask_in_turn-returns-in-Some g t c =
       asked = asking-given g.Q.Ask.gives c.args.self.now c.pass_idle-place.new.self c.look.new.self c.args.q.now c.loop-place.q c.look.new.q c.args.node k (c.args.first + k) c.look.result c.in-Some.packet order (subst (λ n. k < n) (sym (length-range_with_len c.args.first c.args.count)) test) past (sym (get_or-range_with_len c.args.first c.args.count k 0 test)) c.in-Some.is c.look.ensures;
     }
 
+-- what was asked once an input gave nothing
+turn-vain : {S : Type 0} (gives : S → ℕ → Option Packet → S → Type 0) (a b n c : Nodes) (p q r : S) (x first count k idle : ℕ) (got : Option Packet) → k + idle < count → IsAsking gives a b p q x (take k (range_with_len first count))
+    → HasAskedAll gives b n q q x (range_with_len (first + k) idle) None → got ≡ None → HasAsked gives n c q r x (first + (k + idle)) got → IsAsking gives a c p r x (take (k + idle + 1) (range_with_len first count))
+turn-vain gives a b n c p q r x first count k idle got below h past vain asked =
+    asking-next gives a n c p q r x (k + idle) (first + (k + idle)) got (range_with_len first count) (subst (λ m. k + idle < m) (sym (length-range_with_len first count)) below) (turn-past gives a b n p q x first count k idle (omega (arith, below)) h past)
+    (sym (get_or-range_with_len first count (k + idle) 0 below)) vain asked
+
+pub nodes::Nodes::ask_in_turn-pass_resting-place-requires-then-place-count : goal.nodes::Nodes::ask_in_turn-pass_resting-place-requires-then-place-count
+nodes::Nodes::ask_in_turn-pass_resting-place-requires-then-place-count g t c =
+    let k = c.loop-place.place + c.pass_idle-place.result + 1 in
+    let test : c.loop-place.place + c.pass_idle-place.result < c.args.count = c.if-place-count.true in
+    let few = c.requires.few in
+    let h = turn-vain g.Q.Ask.gives c.args.self.now c.loop-place.self c.pass_idle-place.new.self c.look.new.self c.args.q.now c.loop-place.q c.look.new.q c.args.node c.args.first c.args.count c.loop-place.place c.pass_idle-place.result c.look.result test
+    c.loop-place.invariant.1 c.pass_idle-place.ensures.asked c.in_default.is c.look.ensures in
+    let can = turn-can g.Q.Ask.gives c.args.self.now c.look.new.self c.args.q.now c.look.new.q c.args.node c.args.first c.args.count k (omega (arith, test)) c.requires.can_pull c.requires.within h in
+    record { can_pull = can.0; within = can.1; few = omega (arith, test, few) }
+
+pub nodes::Nodes::ask_in_turn-loop-place-init : goal.nodes::Nodes::ask_in_turn-loop-place-init
+nodes::Nodes::ask_in_turn-loop-place-init g t c =
+    elim c.if-vain.branch [
+      | nodes::Nodes::ask_in_turn-then-vain w ↦ search (rules, asked-vain, range-front)
+      | nodes::Nodes::ask_in_turn-else-vain w ↦ (
+        omega arith,
+        subst (λ k. IsAsking g.Q.Ask.gives c.args.self.now c.if-vain.self c.args.q.now c.args.q.now c.args.node (take k (range_with_len c.args.first c.args.count))) (sym w.place-is)
+            (subst (λ now. IsAsking g.Q.Ask.gives c.args.self.now now c.args.q.now c.args.q.now c.args.node []) (sym w.self-is) (asking-first g.Q.Ask.gives c.args.self.now c.args.q.now c.args.node c.requires.can_pull.fit)),
+      )
+    ]
+
 pub nodes::Nodes::ask_in_turn-loop-place-preserved-then-place-count : goal.nodes::Nodes::ask_in_turn-loop-place-preserved-then-place-count
 nodes::Nodes::ask_in_turn-loop-place-preserved-then-place-count g t c =
-    let order = range_with_len c.args.first c.args.count in
-    let k = c.loop-place.place + c.pass_idle-place.result in
-    let test : k < c.args.count = c.if-place-count.true in
-    let past = turn-past g.Q.Ask.gives c.args.self.now c.loop-place.self c.pass_idle-place.new.self c.args.q.now c.loop-place.q c.args.node c.args.first c.args.count c.loop-place.place c.pass_idle-place.result (omega (arith, test)) c.loop-place.invariant.1 c.pass_idle-place.ensures.asked in
-    (omega (arith, test), asking-next g.Q.Ask.gives c.args.self.now c.pass_idle-place.new.self c.look.new.self c.args.q.now c.loop-place.q c.look.new.q c.args.node k (c.args.first + k) c.look.result order (subst (λ n. k < n) (sym (length-range_with_len c.args.first c.args.count)) test) past (sym (get_or-range_with_len c.args.first c.args.count k 0 test)) c.in_default.is c.look.ensures)
+    let k = c.loop-place.place + c.pass_idle-place.result + 1 in
+    let test : c.loop-place.place + c.pass_idle-place.result < c.args.count = c.if-place-count.true in
+    let within = c.pass_resting-place-then-place-count.ensures.within in
+    let most : k + c.pass_resting-place-then-place-count.result ≤ c.args.count = omega (arith, test, within) in
+    let h = turn-vain g.Q.Ask.gives c.args.self.now c.loop-place.self c.pass_idle-place.new.self c.look.new.self c.args.q.now c.loop-place.q c.look.new.q c.args.node c.args.first c.args.count c.loop-place.place c.pass_idle-place.result c.look.result test
+    c.loop-place.invariant.1 c.pass_idle-place.ensures.asked c.in_default.is c.look.ensures in
+    (most, turn-past g.Q.Ask.gives c.args.self.now c.look.new.self c.pass_resting-place-then-place-count.new.self c.args.q.now c.look.new.q c.args.node c.args.first c.args.count k c.pass_resting-place-then-place-count.result most h c.pass_resting-place-then-place-count.ensures.asked)
 
 pub nodes::Nodes::ask_in_turn-loop-place-preserved : goal.nodes::Nodes::ask_in_turn-loop-place-preserved
 nodes::Nodes::ask_in_turn-loop-place-preserved g t c =
@@ -229,8 +296,8 @@ drr::Deficits::turn-pass_over_idle-looks-requires g t c =
       within = omega (arith, below);
     }
 
-pub drr::Deficits::turn-loop-looks-preserved-then-inputs-looks-ge-MANY : goal.drr::Deficits::turn-loop-looks-preserved-then-inputs-looks-ge-MANY
-drr::Deficits::turn-loop-looks-preserved-then-inputs-looks-ge-MANY g t c =
+pub drr::Deficits::turn-loop-looks-preserved-then-is_none : goal.drr::Deficits::turn-loop-looks-preserved-then-is_none
+drr::Deficits::turn-loop-looks-preserved-then-is_none g t c =
     let below : c.loop-looks.looks < length c.args.self.now.row.items = looks-below c.args.self.now c.loop-looks.looks c.len-inputs.result c.loop-looks-test.true c.len-inputs.ensures.value in
     let few = c.pass_over_idle-looks.ensures.few in (
       c.pass_over_idle-looks.ensures.goes_on c.args.nodes.now c.args.q.now c.args.self.now (c.loop-looks.looks + 1)
@@ -251,42 +318,58 @@ drr::Deficits::turn-returns g t c =
     let all : c.loop-looks.looks ≡ length d.row.items = let f = c.loop-looks-test.false in let m = c.loop-looks.invariant.1 in omega (arith, f, m) in
     had-ended g.Q.Ask.gives a c.loop-looks.nodes c.args.q.now c.loop-looks.q x d c.loop-looks.self None c.requires.can_pull c.requires.fits (making-all g.Q.Ask.gives a c.loop-looks.nodes c.args.q.now c.loop-looks.q x d c.loop-looks.self c.loop-looks.looks c.loop-looks.invariant.0 all)
 
-pub round_robin::Beginning::turn-ask_in_turn-requires : goal.round_robin::Beginning::turn-ask_in_turn-requires
-round_robin::Beginning::turn-ask_in_turn-requires g t c =
-    let h = begins c.args.nodes.now c.args.node c.len-inputs.result c.args.self.now c.index.result.now c.requires.can_pull c.index.ensures c.len-inputs.ensures c.requires.fits in
-    let may = may-first c.args.nodes.now c.args.node c.len-inputs.result c.args.self.now.input h c.requires.can_pull in
+pub round_robin::Beginning::pull-ask_in_turn-requires : goal.round_robin::Beginning::pull-ask_in_turn-requires
+round_robin::Beginning::pull-ask_in_turn-requires g t c =
+    let b = c.of-beginning.result in
+    let h = begins c.args.nodes.now c.args.node c.len-inputs.result b c.index.result.now c.requires.can_pull c.index.ensures c.len-inputs.ensures c.of-beginning.ensures in
+    let may = may-first c.args.nodes.now c.args.node c.len-inputs.result b.input h c.requires.can_pull in
     λ κs le. (omega arith, (search, (may.0, (may.1, may.2))))
 
-pub round_robin::Beginning::turn-overflow_add-self : goal.round_robin::Beginning::turn-overflow_add-self
-round_robin::Beginning::turn-overflow_add-self g t c = grind (arith, common_steps, elements, nat_tests, begins)
+pub round_robin::Beginning::pull-overflow_sub-inputs : goal.round_robin::Beginning::pull-overflow_sub-inputs
+round_robin::Beginning::pull-overflow_sub-inputs g t c =
+    let b = c.of-beginning.result in
+    let low = (begins c.args.nodes.now c.args.node c.len-inputs.result b c.index.result.now c.requires.can_pull c.index.ensures c.len-inputs.ensures c.of-beginning.ensures).low in
+    omega (arith, low)
 
-pub round_robin::Beginning::turn-overflow_add-self-in-Some : goal.round_robin::Beginning::turn-overflow_add-self-in-Some
-round_robin::Beginning::turn-overflow_add-self-in-Some g t c = grind (arith, common_steps, elements, nat_tests, begins)
+pub round_robin::Beginning::pull-overflow_add-first : goal.round_robin::Beginning::pull-overflow_add-first
+round_robin::Beginning::pull-overflow_add-first g t c = grind (arith, common_steps, elements, nat_tests, begins)
 
-pub round_robin::Beginning::turn-returns-in-Some : goal.round_robin::Beginning::turn-returns-in-Some
-round_robin::Beginning::turn-returns-in-Some g t c = search (rules, begins, had-first)
+pub round_robin::Beginning::pull-overflow_add-input : goal.round_robin::Beginning::pull-overflow_add-input
+round_robin::Beginning::pull-overflow_add-input g t c = grind (arith, common_steps, elements, nat_tests, begins)
 
-pub round_robin::Beginning::turn-ask_in_turn-requires-2 : goal.round_robin::Beginning::turn-ask_in_turn-requires-2
-round_robin::Beginning::turn-ask_in_turn-requires-2 g t c =
-    let h = begins c.args.nodes.now c.args.node c.len-inputs.result c.args.self.now c.index.result.now c.requires.can_pull c.index.ensures c.len-inputs.ensures c.requires.fits in
+pub round_robin::Beginning::pull-returns-in-Some : goal.round_robin::Beginning::pull-returns-in-Some
+round_robin::Beginning::pull-returns-in-Some g t c =
+    let b = c.of-beginning.result in
+    let h = begins c.args.nodes.now c.args.node c.len-inputs.result b c.index.result.now c.requires.can_pull c.index.ensures c.len-inputs.ensures c.of-beginning.ensures in
+    pulled-put g.Q.Ask.gives c.args.nodes.now c.ask_in_turn.new.self c.put.new.self c.args.q.now c.ask_in_turn.new.q c.args.node _ (RoundRobin b) (RoundRobin (record { input = c.input_after-input.result })) (Some c.in-Some.packet) c.of-beginning.ensures c.requires.can_pull
+    (subst (λ next. HadTurn g.Q.Ask.gives c.args.nodes.now c.ask_in_turn.new.self c.args.q.now c.ask_in_turn.new.q c.args.node (RoundRobin b) (RoundRobin (record { input = next })) (Some c.in-Some.packet)) (sym c.input_after-input.ensures)
+    (had-first g.Q.Ask.gives c.args.nodes.now c.ask_in_turn.new.self c.args.q.now c.ask_in_turn.new.q c.args.node c.len-inputs.result b.input c.in-Some.place c.in-Some.packet c.ask_in_turn.result h c.requires.can_pull c.in-Some.is c.ask_in_turn.ensures.place c.ask_in_turn.ensures.asked))
+    c.put.ensures
+
+pub round_robin::Beginning::pull-ask_in_turn-requires-2 : goal.round_robin::Beginning::pull-ask_in_turn-requires-2
+round_robin::Beginning::pull-ask_in_turn-requires-2 g t c =
+    let b = c.of-beginning.result in
+    let h = begins c.args.nodes.now c.args.node c.len-inputs.result b c.index.result.now c.requires.can_pull c.index.ensures c.len-inputs.ensures c.of-beginning.ensures in
     let kept = c.ask_in_turn.ensures.asked.keeps in
-    let may = may-second c.args.nodes.now c.ask_in_turn.new.self c.args.node c.len-inputs.result c.args.self.now.input h c.requires.can_pull kept in
+    let may = may-second c.args.nodes.now c.ask_in_turn.new.self c.args.node c.len-inputs.result b.input h c.requires.can_pull kept in
     λ κs le. (omega arith, (search, (may.0, (may.1, may.2))))
 
-pub round_robin::Beginning::turn-overflow_add-self-in-Some-ask_in_turn : goal.round_robin::Beginning::turn-overflow_add-self-in-Some-ask_in_turn
-round_robin::Beginning::turn-overflow_add-self-in-Some-ask_in_turn g t c = grind (arith, common_steps, elements, nat_tests, begins)
+pub round_robin::Beginning::pull-returns-in-Some-ask_in_turn : goal.round_robin::Beginning::pull-returns-in-Some-ask_in_turn
+round_robin::Beginning::pull-returns-in-Some-ask_in_turn g t c =
+    let b = c.of-beginning.result in
+    let h = begins c.args.nodes.now c.args.node c.len-inputs.result b c.index.result.now c.requires.can_pull c.index.ensures c.len-inputs.ensures c.of-beginning.ensures in
+    pulled-put g.Q.Ask.gives c.args.nodes.now c.ask_in_turn-2.new.self c.put-in-Some-ask_in_turn.new.self c.args.q.now c.ask_in_turn-2.new.q c.args.node _ (RoundRobin b) (RoundRobin (record { input = c.in-Some-ask_in_turn.place + 1 })) (Some c.in-Some-ask_in_turn.packet) c.of-beginning.ensures c.requires.can_pull
+    (had-second g.Q.Ask.gives c.args.nodes.now c.ask_in_turn.new.self c.ask_in_turn-2.new.self c.args.q.now c.ask_in_turn.new.q c.ask_in_turn-2.new.q c.args.node c.len-inputs.result b.input c.in-Some-ask_in_turn.place c.in-Some-ask_in_turn.packet c.ask_in_turn.result c.ask_in_turn-2.result h c.requires.can_pull
+    c.in_default.is c.ask_in_turn.ensures.asked c.in-Some-ask_in_turn.is c.ask_in_turn-2.ensures.place c.ask_in_turn-2.ensures.asked)
+    c.put-in-Some-ask_in_turn.ensures
 
-pub round_robin::Beginning::turn-returns-in-Some-ask_in_turn : goal.round_robin::Beginning::turn-returns-in-Some-ask_in_turn
-round_robin::Beginning::turn-returns-in-Some-ask_in_turn g t c =
-    let h = begins c.args.nodes.now c.args.node c.len-inputs.result c.args.self.now c.index.result.now c.requires.can_pull c.index.ensures c.len-inputs.ensures c.requires.fits in
-    had-second g.Q.Ask.gives c.args.nodes.now c.ask_in_turn.new.self c.ask_in_turn-2.new.self c.args.q.now c.ask_in_turn.new.q c.ask_in_turn-2.new.q c.args.node c.len-inputs.result c.args.self.now.input c.in-Some-ask_in_turn.place c.in-Some-ask_in_turn.packet c.ask_in_turn.result c.ask_in_turn-2.result h c.requires.can_pull
-    c.in_default.is c.ask_in_turn.ensures.asked c.in-Some-ask_in_turn.is c.ask_in_turn-2.ensures.place c.ask_in_turn-2.ensures.asked
-
-pub round_robin::Beginning::turn-returns-in-None : goal.round_robin::Beginning::turn-returns-in-None
-round_robin::Beginning::turn-returns-in-None g t c =
-    let h = begins c.args.nodes.now c.args.node c.len-inputs.result c.args.self.now c.index.result.now c.requires.can_pull c.index.ensures c.len-inputs.ensures c.requires.fits in
-    had-none g.Q.Ask.gives c.args.nodes.now c.ask_in_turn.new.self c.ask_in_turn-2.new.self c.args.q.now c.ask_in_turn.new.q c.ask_in_turn-2.new.q c.args.node c.len-inputs.result c.args.self.now.input c.ask_in_turn.result c.ask_in_turn-2.result h c.requires.can_pull
-    c.in_default.is c.ask_in_turn.ensures.asked c.in-None.is c.ask_in_turn-2.ensures.asked
+pub round_robin::Beginning::pull-returns-in-None : goal.round_robin::Beginning::pull-returns-in-None
+round_robin::Beginning::pull-returns-in-None g t c =
+    let b = c.of-beginning.result in
+    let h = begins c.args.nodes.now c.args.node c.len-inputs.result b c.index.result.now c.requires.can_pull c.index.ensures c.len-inputs.ensures c.of-beginning.ensures in
+    pulled-still g.Q.Ask.gives c.args.nodes.now c.ask_in_turn-2.new.self c.args.q.now c.ask_in_turn-2.new.q c.args.node (RoundRobin b) None c.of-beginning.ensures
+    (had-none g.Q.Ask.gives c.args.nodes.now c.ask_in_turn.new.self c.ask_in_turn-2.new.self c.args.q.now c.ask_in_turn.new.q c.ask_in_turn-2.new.q c.args.node c.len-inputs.result b.input c.ask_in_turn.result c.ask_in_turn-2.result h c.requires.can_pull
+    c.in_default.is c.ask_in_turn.ensures.asked c.in-None.is c.ask_in_turn-2.ensures.asked)
 
 pub stride::Passes::turn-ask_in_order-requires : goal.stride::Passes::turn-ask_in_order-requires
 stride::Passes::turn-ask_in_order-requires g t c =
@@ -302,18 +385,6 @@ stride::Passes::turn-returns-in-Some g t c = search (rules, had-won)
 
 pub stride::Passes::turn-returns-in-None : goal.stride::Passes::turn-returns-in-None
 stride::Passes::turn-returns-in-None g t c = search (rules, had-lost)
-
-pub round_robin::Beginning::pull-turn-got-requires : goal.round_robin::Beginning::pull-turn-got-requires
-round_robin::Beginning::pull-turn-got-requires g t c =
-    let a = c.args.nodes.now in
-    let can = can-turn a c.take.new.self c.args.node (RoundRobin c.in-RoundRobin.beginning) c.take.ensures.taken (c.take.ensures.state ∙ ap Some c.in-RoundRobin.is) c.requires.can_pull in
-    let same = ap (λ (n : Nodes). length n.inputs.items) c.take.ensures.taken in
-    λ κs le. (omega (arith, same), (search, (can.0, can.1)))
-
-pub round_robin::Beginning::pull-returns : goal.round_robin::Beginning::pull-returns
-round_robin::Beginning::pull-returns g t c =
-    pulled-back g.Q.Ask.gives c.args.nodes.now c.take.new.self c.turn-got.new.nodes c.put.new.self c.args.q.now c.turn-got.new.q c.args.node _ (RoundRobin c.in-RoundRobin.beginning) (RoundRobin c.turn-got.new.self) c.turn-got.result c.take.ensures.taken
-    (c.take.ensures.state ∙ ap Some c.in-RoundRobin.is) c.requires.can_pull c.turn-got.ensures c.put.ensures
 
 pub drr::Deficits::pull-turn-got-requires : goal.drr::Deficits::pull-turn-got-requires
 drr::Deficits::pull-turn-got-requires g t c =

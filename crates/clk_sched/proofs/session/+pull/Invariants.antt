@@ -7,7 +7,7 @@ use Rattle.clk_sched.proofs.session.+pull.Given as goal
 
 -- a node is pulled before those below it, and each step of its pull before the next
 abbrev rank : ℕ → ℕ → ℕ → ℕ
-rank size x step = 9 * (size - x) + step
+rank size x step = 7 * (size - x) + step
 
 abbrev pub decreases-nodes::Nodes::ask : goal.decreases-nodes::Nodes::ask
 decreases-nodes::Nodes::ask g l = rank (length l.self.now.inputs.items) l.node 0
@@ -23,9 +23,6 @@ decreases-nodes::Nodes::ask_in_turn g l = rank (length l.self.now.inputs.items) 
 
 abbrev pub decreases-drr::Deficits::look_by_asking : goal.decreases-drr::Deficits::look_by_asking
 decreases-drr::Deficits::look_by_asking g l = rank (length l.nodes.now.inputs.items) l.node 3
-
-abbrev pub decreases-round_robin::Beginning::turn : goal.decreases-round_robin::Beginning::turn
-decreases-round_robin::Beginning::turn g l = rank (length l.nodes.now.inputs.items) l.node 4
 
 abbrev pub decreases-drr::Deficits::turn : goal.decreases-drr::Deficits::turn
 decreases-drr::Deficits::turn g l = rank (length l.nodes.now.inputs.items) l.node 4
@@ -51,23 +48,17 @@ decreases-shaper::Bucket::pull g l = rank (length l.nodes.now.inputs.items) l.no
 abbrev pub decreases-nodes::Nodes::pull : goal.decreases-nodes::Nodes::pull
 decreases-nodes::Nodes::pull g l = rank (length l.self.now.inputs.items) l.node 6
 
-abbrev pub decreases-nodes::Nodes::pull_or_skip : goal.decreases-nodes::Nodes::pull_or_skip
-decreases-nodes::Nodes::pull_or_skip g l = rank (length l.self.now.inputs.items) l.node 8
-
-abbrev pub decreases-nodes::Nodes::pull_again : goal.decreases-nodes::Nodes::pull_again
-decreases-nodes::Nodes::pull_again g l = rank (length l.self.now.inputs.items) l.node 7
-
 abbrev pub decreases-nodes::Nodes::ask_in_order-loop-place : goal.decreases-nodes::Nodes::ask_in_order-loop-place
 decreases-nodes::Nodes::ask_in_order-loop-place g l = length l.order - l.place
 
 abbrev pub invariant-nodes::Nodes::ask_in_order-loop-place : goal.invariant-nodes::Nodes::ask_in_order-loop-place
-invariant-nodes::Nodes::ask_in_order-loop-place g l = (l.place ≤ length l.fn.order) × IsAsking g.Q.Ask.gives l.initial.self l.self l.initial.q l.q l.node (take l.place (inputs_in l.fn.order))
+invariant-nodes::Nodes::ask_in_order-loop-place g l = (l.place ≤ length l.fn.order) × IsAsking g.Q.Ask.gives l.fn.self l.self l.fn.q l.q l.node (take l.place (inputs_in l.fn.order))
 
 abbrev pub decreases-nodes::Nodes::ask_in_turn-loop-place : goal.decreases-nodes::Nodes::ask_in_turn-loop-place
 decreases-nodes::Nodes::ask_in_turn-loop-place g l = l.count - l.place
 
 abbrev pub invariant-nodes::Nodes::ask_in_turn-loop-place : goal.invariant-nodes::Nodes::ask_in_turn-loop-place
-invariant-nodes::Nodes::ask_in_turn-loop-place g l = (l.place ≤ l.count) × IsAsking g.Q.Ask.gives l.initial.self l.self l.initial.q l.q l.node (take l.place (range_with_len l.fn.first l.fn.count))
+invariant-nodes::Nodes::ask_in_turn-loop-place g l = (l.place ≤ l.count) × IsAsking g.Q.Ask.gives l.fn.self l.self l.fn.q l.q l.node (take l.place (range_with_len l.fn.first l.fn.count))
 
 abbrev pub decreases-drr::Deficits::turn-loop-looks : goal.decreases-drr::Deficits::turn-loop-looks
 decreases-drr::Deficits::turn-loop-looks g l = l.inputs - l.looks

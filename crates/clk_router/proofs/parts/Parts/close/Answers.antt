@@ -1,6 +1,6 @@
 use Rattle.std.proofs.Common.{◌≡◌, refl, subst, arith}
 use Rattle.std.specs.Vec.{with_item}
-use Rattle.clk_router.specs.declared.devices.Device.{Device}
+use Rattle.clk_router.specs.declared.devices.RouterDevice.{RouterDevice}
 use Rattle.clk_router.specs.declared.parts.Parts.{Parts}
 use Rattle.clk_router.specs.inside.Parts.{ClosesBy}
 use Rattle.clk_sched.proofs.Callers.Drained.{either-drained, drained-ok, unless-after}
@@ -13,7 +13,7 @@ pub returns-clause-leads : goal.returns-clause-leads
 returns-clause-leads c =
     let old = c.args.self.now in
     let before = c.index_mut.result.now in
-    let after : Device = record { session = c.close.new.self; kept = before.kept } in
+    let after : RouterDevice = record { session = c.close.new.self; kept = before.kept } in
     let set = set-device old.devices.items c.args.device c.from.result before after c.from.ensures (can-close c.args.moment old.devices.items c.args.device c.requires.can) c.index_mut.ensures.value in
     let drain = c.close.ensures.drained.1 in
     let some = either-drained c.close.ensures.drained.0 c.close.result drain in
@@ -24,7 +24,7 @@ pub returns-clause-closed : goal.returns-clause-closed
 returns-clause-closed c =
     let old = c.args.self.now in
     let before = c.index_mut.result.now in
-    let after : Device = record { session = c.close.new.self; kept = before.kept } in
+    let after : RouterDevice = record { session = c.close.new.self; kept = before.kept } in
     let set = set-device old.devices.items c.args.device c.from.result before after c.from.ensures (can-close c.args.moment old.devices.items c.args.device c.requires.can) c.index_mut.ensures.value in
     let left = c.left-left.ensures before set.was in
     let new : Parts = record old { devices = with_item old.devices c.from.result after; queues = c.close.new.q } in
@@ -32,7 +32,7 @@ returns-clause-closed c =
     drained-ok c.close.ensures.drained.0 c.close.result
     (λ departures all told setup events at its here.
     let same : after ≡ its = cc (set.is, here) in
-    subst (λ (d : Device). ClosesBy setup events c.args.device c.args.moment d.session departures.items) same
+    subst (λ (d : RouterDevice). ClosesBy setup events c.args.device c.args.moment d.session departures.items) same
     (closes-by c.calls_are_history.ensures setup events old new c.args.device c.args.moment c.close.ensures.drained.0 _ before after departures.items at set refl (drain.keeps, drain.gone) left all told))
     drain c.close.ensures.departures
 

@@ -16,7 +16,7 @@ use denote.Steps.{nothing, opens, closes}
 use denote.Triple.Walked.{Stays, walk_of, says, stay_ref, stay_dropped, Goes-ref, Goes-dropped, ends_at}
 use Rattle.clk_router.specs.declared.past.Past.{Past}
 use Rattle.clk_router.specs.contracts.past.Past.{the_row as R}
-use Rattle.clk_router.specs.contracts.devices.Device.{the_row as D}
+use Rattle.clk_router.specs.contracts.devices.RouterDevice.{the_row as D}
 use Rattle.clk_router.specs.inside.Past.{pull_shown}
 use Rattle.clk_router.specs.contracts.past.Past.pulled as f
 use Rattle.clk_router.proofs.past.Past.pulled.Statement.{statement}

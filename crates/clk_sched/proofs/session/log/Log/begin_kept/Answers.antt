@@ -1,5 +1,5 @@
 use Rattle.std.proofs.Common.{◌∙◌, arith}
-use Rattle.clk_sched.proofs.session.log.Log.begin.Goals as goal
+use Rattle.clk_sched.proofs.session.log.Log.begin_kept.Goals as goal
 
 pub invariant_of-self-in_err-reserve_packed : goal.invariant_of-self-in_err-reserve_packed
 invariant_of-self-in_err-reserve_packed c = (
