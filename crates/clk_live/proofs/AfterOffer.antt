@@ -14,8 +14,8 @@ use Rattle.clk_router.specs.declared.queue_state.QueueState.{QueueState}
 use Rattle.clk_router.specs.Accounts.{account_after}
 use Rattle.clk_router.specs.Course.{Course, after, IsQueueState}
 use Rattle.clk_router.specs.Events.{Room, offered, NamesItsOffer}
-use Rattle.clk_live.specs.declared.taking.Outcome.{Outcome}
-use Rattle.clk_live.specs.declared.taking.Outcome.TheVariants.{Accepted, Refused, Evicted}
+use Rattle.clk_live.specs.declared.taking.OfferOutcome.{OfferOutcome}
+use Rattle.clk_live.specs.declared.taking.OfferOutcome.TheVariants.{Accepted, Refused, Evicted}
 use Rattle.clk_live.specs.State.{Seen, IsTokenOf}
 use Rattle.clk_live.specs.Taking.{offer_outcome, HasToken}
 use Rattle.clk_live.specs.inside.Kept.{IsKept}
@@ -24,13 +24,13 @@ use Rattle.clk_live.proofs.QueueTokens.{EvictedHas}
 use Rattle.clk_live.proofs.Steps.{Stands, TookNext, ItsQueue, its-queue, no_account, account-queue, read-is, number, is-item, its-token, room-for, evicted-has, kept-offered}
 
 -- what was noted is what became of the offer
-noted-outcome : (p : Packet) (b : Buffer ℕ) (capacity token : ℕ) (outcome : Offered) (noted : Outcome) (left : Buffer ℕ) → IsNoted b capacity token outcome noted left → NamesItsOffer (offered p outcome) → outcome ≡ offer_outcome p noted
+noted-outcome : (p : Packet) (b : Buffer ℕ) (capacity token : ℕ) (outcome : Offered) (noted : OfferOutcome) (left : Buffer ℕ) → IsNoted b capacity token outcome noted left → NamesItsOffer (offered p outcome) → outcome ≡ offer_outcome p noted
 noted-outcome p b capacity token offer.Accepted noted left h names = sym (ap (offer_outcome p) h.0)
 noted-outcome p b capacity token (offer.Refused r) noted left h names = ap offer.Refused names ∙ sym (ap (offer_outcome p) h.0)
 noted-outcome p b capacity token (offer.Evicted front) noted left h names = sym (ap (offer_outcome p) h.1)
 
 -- the token of an evicted packet, as contracts say it
-pub has-token : (l : Seen) (noted : Outcome) → EvictedHas (IsTokenOf l.course.setup l.items) noted → HasToken l noted
+pub has-token : (l : Seen) (noted : OfferOutcome) → EvictedHas (IsTokenOf l.course.setup l.items) noted → HasToken l noted
 has-token l Accepted h = tt
 has-token l Refused h = tt
 has-token l (Evicted front token) h = h
@@ -105,7 +105,7 @@ module _ {old new : Course} {items : List (List Item)} {buffers : List (Buffer �
         subst (λ (b : Buffer ℕ). CanNote b state.capacity outcome) (sym own)
         (subst (λ k. CanNote queue.b k outcome) capacity-is (room-for h.stand h.took queue))
 
-    module _ (noted : Outcome) (left : Buffer ℕ) (notes : IsNoted read state.capacity x.token outcome noted left) where
+    module _ (noted : OfferOutcome) (left : Buffer ℕ) (notes : IsNoted read state.capacity x.token outcome noted left) where
       its-notes : IsNoted queue.b queue.room.capacity x.token outcome noted left
       its-notes = subst (λ k. IsNoted queue.b k x.token outcome noted left) (sym capacity-is) (subst (λ (b : Buffer ℕ). IsNoted b state.capacity x.token outcome noted left) own notes)
 

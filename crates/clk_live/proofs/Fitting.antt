@@ -16,8 +16,8 @@ use Rattle.clk_router.specs.Events.{Room, offered, sends_to, at_queue, history, 
 use Rattle.clk_router.specs.InsideQueues.{QueueGoesOn, QueuesGoOn}
 use Rattle.clk_tree.specs.PlanParts.{SendsWithin}
 use Rattle.clk_tree.specs.declared.plan.parts.SenderSpec.{SenderSpec}
-use Rattle.clk_live.specs.declared.taking.Outcome.{Outcome}
-use Rattle.clk_live.specs.declared.taking.Outcome.TheVariants.{Accepted, Refused, Evicted}
+use Rattle.clk_live.specs.declared.taking.OfferOutcome.{OfferOutcome}
+use Rattle.clk_live.specs.declared.taking.OfferOutcome.TheVariants.{Accepted, Refused, Evicted}
 use Rattle.clk_live.specs.declared.taking.Taken.{Taken}
 use Rattle.clk_live.specs.State.{LiveState, Seen, AllGoOn}
 use Rattle.clk_live.specs.Taking.{offer_outcome, IsTaken, IsQueueFull}
@@ -52,7 +52,7 @@ module _ (c : Course) (place : ℕ) (x : SenderSpec) (at : slice_get c.setup.sen
   pub all-held : IsQueueFull c place → state.held ≡ state.capacity
   all-held full = is.holds ∙ ap (λ q. length (held (history c.setup q c.events))) same ∙ full-holds c place x room at its-room full
 
-by-outcome : (t : Taken) (o : Outcome) → ((offer_outcome t.packet o ≡ offer.Accepted → ⊥) → ⊥) → o ≡ Accepted
+by-outcome : (t : Taken) (o : OfferOutcome) → ((offer_outcome t.packet o ≡ offer.Accepted → ⊥) → ⊥) → o ≡ Accepted
 by-outcome t Accepted must = refl
 by-outcome t Refused must = absurd (must (λ e. cc))
 by-outcome t (Evicted front token) must = absurd (must (λ e. cc))

@@ -11,19 +11,19 @@ use Rattle.clk_sched.specs.Tree.{Tree, root}
 use Rattle.clk_sched.specs.FewHeads.{drrs_above}
 use Rattle.clk_router.specs.Events.{Room, Setup, Event, offered, pulled, history, CanHappen}
 use Rattle.clk_router.specs.InsideQueues.{is_of_queue, heads_of, inside_of, emitted_from, QueueGoesOn, QueuesGoOn}
-use Rattle.clk_live.specs.declared.taking.Outcome.{Outcome}
-use Rattle.clk_live.specs.declared.taking.Outcome.TheVariants.{Evicted}
+use Rattle.clk_live.specs.declared.taking.OfferOutcome.{OfferOutcome}
+use Rattle.clk_live.specs.declared.taking.OfferOutcome.TheVariants.{Evicted}
 use Rattle.clk_live.specs.inside.Kept.{drrs_in, most_inside}
 use Rattle.clk_live.specs.inside.Noted.{CanNote, IsNoted}
 use Rattle.clk_live.proofs.Lists.{there, zip-length, zip-push, zip-out}
 
 -- the token of the packet that was evicted, if one was
-abbrev pub EvictedHas : (Packet → ℕ → Type 0) → Outcome → Type 0
+abbrev pub EvictedHas : (Packet → ℕ → Type 0) → OfferOutcome → Type 0
 EvictedHas R (Evicted front token) = R front token
 EvictedHas R outcome = Unit
 
 -- the tokens of a queue after an offer to it
-pub record Notes (R : Packet → ℕ → Type 0) (inside : List Packet) (capacity : ℕ) (outcome : Outcome) (b : Buffer ℕ) : Type 0 where
+pub record Notes (R : Packet → ℕ → Type 0) (inside : List Packet) (capacity : ℕ) (outcome : OfferOutcome) (b : Buffer ℕ) : Type 0 where
   pub tokens : AllZip R inside b.items
   pub same : b.capacity ≡ capacity
   pub evicted : EvictedHas R outcome
@@ -81,7 +81,7 @@ module _ (setup : Setup) (law : QueuesGoOn setup) (q : ℕ) (room : Room) (is : 
         (f.0, omega (arith, f.1), omega (arith, le, many, capacity))
 
     -- the tokens are again those of the packets inside
-    pub notes : (token : ℕ) → R p token → (outcome : Offered) (noted : Outcome) (new : Buffer ℕ) → CanHappen setup (events ++ offered p outcome ∷ []) → IsNoted b room.capacity token outcome noted new
+    pub notes : (token : ℕ) → R p token → (outcome : Offered) (noted : OfferOutcome) (new : Buffer ℕ) → CanHappen setup (events ++ offered p outcome ∷ []) → IsNoted b room.capacity token outcome noted new
         → Notes R (inside_of setup room.device q (events ++ offered p outcome ∷ [])) b.capacity noted new
     notes token its offer.Accepted noted new more (is_accepted, is_new) = record {
       tokens = subst (λ (x : Buffer ℕ). AllZip R (inside_of setup room.device q (events ++ offered p offer.Accepted ∷ [])) x.items) (sym is_new)

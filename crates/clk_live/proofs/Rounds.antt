@@ -10,7 +10,7 @@ use Rattle.clk_packet.specs.Lists.{AreRising}
 use Rattle.clk_router.specs.Course.{sender_at}
 use Rattle.clk_router.specs.Events.{Setup, sender_numbers}
 use Rattle.clk_sched.specs.Examples.Priority.{p0_0}
-use Rattle.clk_live.specs.declared.taking.Outcome.TheVariants.{Refused}
+use Rattle.clk_live.specs.declared.taking.OfferOutcome.TheVariants.{Refused}
 use Rattle.clk_live.specs.declared.taking.Taken.{Taken}
 use Rattle.clk_live.specs.State.{LiveState, starts_at}
 use Rattle.clk_live.specs.Taking.{AreOf, AreSharesOr, StartsNext, after_place, count_of}

@@ -26,7 +26,7 @@ use Rattle.clk_router.specs.Events.{Room, Setup, Event, offered, pulled, sender_
 use Rattle.clk_router.specs.InsideQueues.{is_of_queue, inside_of, emitted_from, QueuesGoOn}
 use Rattle.clk_router.specs.Settled.{offered_of}
 use Rattle.clk_router.proofs.Callers.Apart.{one-queue}
-use Rattle.clk_live.specs.declared.taking.Outcome.{Outcome}
+use Rattle.clk_live.specs.declared.taking.OfferOutcome.{OfferOutcome}
 use Rattle.clk_live.specs.State.{IsTokenOf}
 use Rattle.clk_live.specs.Outcome.{item_length, packet_length}
 use Rattle.clk_live.specs.inside.Kept.{AreOffered, AreTokens, IsKept}
@@ -257,7 +257,7 @@ module _ {old : Course} {items : List (List Item)} {buffers : List (Buffer ℕ)}
       pub room-for : CanNote i.b i.room.capacity outcome
       room-for = can-note old.setup stand.law i.spec.queue i.room i.queue (IsTokenOf old.setup (set items place (before ++ x ∷ []))) old.events stand.can p i.own i.b tokens was.capacity outcome took.more
 
-      module _ (noted : Outcome) (new : Buffer ℕ) (is : IsNoted i.b i.room.capacity x.token outcome noted new) where
+      module _ (noted : OfferOutcome) (new : Buffer ℕ) (is : IsNoted i.b i.room.capacity x.token outcome noted new) where
         after-offer : Notes (IsTokenOf old.setup (set items place (before ++ x ∷ []))) (inside_of old.setup i.room.device i.spec.queue (old.events ++ offered p outcome ∷ [])) i.b.capacity noted new
         after-offer = notes old.setup stand.law i.spec.queue i.room i.queue (IsTokenOf old.setup (set items place (before ++ x ∷ []))) old.events stand.can p i.own i.b tokens was.capacity x.token its-token outcome noted new took.more is
 

@@ -9,8 +9,8 @@ use Rattle.clk_router.specs.Course.{Course}
 use Rattle.clk_router.specs.Events.{Event, offered}
 use Rattle.clk_router.specs.SettledExamples.{course_of, emits, p0_1, p1_1}
 use Rattle.clk_live.specs.declared.pulling.Emitted.{Emitted}
-use Rattle.clk_live.specs.declared.taking.Outcome.{Outcome}
-use Rattle.clk_live.specs.declared.taking.Outcome.TheVariants.{Accepted}
+use Rattle.clk_live.specs.declared.taking.OfferOutcome.{OfferOutcome}
+use Rattle.clk_live.specs.declared.taking.OfferOutcome.TheVariants.{Accepted}
 use Rattle.clk_live.specs.declared.taking.Taken.{Taken}
 use Rattle.clk_live.specs.State.{Seen}
 
@@ -35,7 +35,7 @@ abbrev pub one_kept : Seen
 one_kept = state [] (packet_item 100 7 ∷ []) []
 
 -- what a take returns
-abbrev pub told : Packet → ℕ → Outcome → Taken
+abbrev pub told : Packet → ℕ → OfferOutcome → Taken
 told p token outcome = record { packet = p; token = token; outcome = outcome }
 
 -- before the second packet of sender 1 is taken: the first, with token 5, is in its queue

@@ -14,19 +14,19 @@ use Rattle.clk_inlet.specs.declared.outlet.Outlet.{Outlet}
 use Rattle.clk_router.specs.Chains.{IsChain}
 use Rattle.clk_router.specs.Course.{Course, after, sender_at}
 use Rattle.clk_router.specs.Events.{Room, Setup, offered, history}
-use Rattle.clk_live.specs.declared.taking.Outcome.{Outcome}
-use Rattle.clk_live.specs.declared.taking.Outcome.TheVariants.{Accepted, Refused, Evicted}
+use Rattle.clk_live.specs.declared.taking.OfferOutcome.{OfferOutcome}
+use Rattle.clk_live.specs.declared.taking.OfferOutcome.TheVariants.{Accepted, Refused, Evicted}
 use Rattle.clk_live.specs.declared.taking.Taken.{Taken}
 use Rattle.clk_live.specs.State.{LiveState, Seen, starts_at, IsTokenOf}
 
 -- the outcome of the packet's offer, without tokens
-abbrev pub offer_outcome : Packet → Outcome → Offered
+abbrev pub offer_outcome : Packet → OfferOutcome → Offered
 offer_outcome p Accepted = offer.Accepted
 offer_outcome p Refused = offer.Refused p
 offer_outcome p (Evicted front token) = offer.Evicted front
 
 -- if another packet was evicted, the token came with it
-abbrev pub HasToken : Seen → Outcome → Type 0
+abbrev pub HasToken : Seen → OfferOutcome → Type 0
 HasToken s (Evicted front token) = IsTokenOf s.course.setup s.items front token
 HasToken s outcome = ⊤
 

@@ -3,7 +3,7 @@
 ghost use Rattle.std.specs.Prelude.{[], None};
 ghost use Rattle.clk_sched.specs.Examples.Priority.{p0_0, p1_0};
 ghost use Rattle.clk_router.specs.SettledExamples.{two_devices, p0_1, p1_1, p7_0};
-ghost use Rattle.clk_live.specs.declared.taking.Outcome.TheVariants.{Accepted, Refused, Evicted};
+ghost use Rattle.clk_live.specs.declared.taking.OfferOutcome.TheVariants.{Accepted, Refused, Evicted};
 ghost use Rattle.clk_live.specs.State.{IsTokenOf};
 ghost use Rattle.clk_live.specs.Taking.{IsTaken, IsQueueFull, AreSharesOr};
 ghost use Rattle.clk_live.specs.Pulling.{IsPulledLive};

@@ -19,4 +19,4 @@ pub use examples::{
 pub use live::Live;
 pub use pulling::Emitted;
 pub use reclaiming::Reclaimed;
-pub use taking::{Outcome, Taken};
+pub use taking::{OfferOutcome, Taken};

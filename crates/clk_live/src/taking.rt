@@ -18,7 +18,7 @@ const NO_ITEM: Item = Item {
 
 /// The outcome of a packet that was taken from its inlet and offered to its queue.
 #[derive(Clone, Copy, Debug, PartialEq, Eq)]
-pub enum Outcome {
+pub enum OfferOutcome {
     /// The queue accepted it.
     Accepted,
     /// The queue was full and refused it.
@@ -40,7 +40,7 @@ pub struct Taken {
     /// The token that came with it.
     pub token: u64,
     /// The outcome of its offer.
-    pub outcome: Outcome,
+    pub outcome: OfferOutcome,
 }
 
 impl Live {
@@ -83,7 +83,7 @@ impl Live {
         ensures taken { IfSome result (λ t. IsTaken place (seen self.old) t (seen self.new)) }
         ensures none { result ≡ None → seen self.new ≡ seen self.old }
         ensures gave_all { result ≡ None → GaveAllWanted true self.old self.new place }
-        ensures accepted { IfSome result (λ t. t.outcome ≡ Outcome.Accepted) }
+        ensures accepted { IfSome result (λ t. t.outcome ≡ OfferOutcome.Accepted) }
         ensures full { StayFull self.old.course self.new.course }
         ensures outlets { AllGoOn self.old.outlets self.new.outlets }
         ensures turn { self.new.turn ≡ self.old.turn }
@@ -100,7 +100,7 @@ impl Live {
         ensures taken { IfSome result (λ t. IsTaken place (seen self.old) t (seen self.new)) }
         ensures none { result ≡ None → seen self.new ≡ seen self.old }
         ensures gave_all { result ≡ None → GaveAll self.old.outlets self.new.outlets place }
-        ensures accepted { (IsQueueFull self.old.course place → ⊥) → IfSome result (λ t. t.outcome ≡ Outcome.Accepted) }
+        ensures accepted { (IsQueueFull self.old.course place → ⊥) → IfSome result (λ t. t.outcome ≡ OfferOutcome.Accepted) }
         ensures full { StayFull self.old.course self.new.course }
         ensures outlets { AllGoOn self.old.outlets self.new.outlets }
         ensures turn { self.new.turn ≡ self.old.turn }

@@ -4,7 +4,7 @@ ghost use Rattle.std.specs.Prelude.{◌≡◌, ◌+◌, ◌<◌, ◌≤◌, ◌+
 ghost use Rattle.circular_buffer.specs.Buffer.{buffer};
 ghost use Rattle.clk_live.specs.inside.Noted.{CanNote, IsNoted};
 
-use crate::taking::Outcome;
+use crate::taking::OfferOutcome;
 use circular_buffer::HeapCircularBuffer;
 use clk_packet::Offered;
 
@@ -15,22 +15,22 @@ pub(crate) fn note_offer(
     capacity: usize,
     token: u64,
     outcome: Offered,
-) -> Outcome
+) -> OfferOutcome
     requires { CanNote tokens.old capacity outcome }
     ensures { IsNoted tokens.old capacity token outcome result tokens.new }
 {
     match outcome {
         Offered::Accepted => {
             tokens.push_back(token);
-            Outcome::Accepted
+            OfferOutcome::Accepted
         }
-        Offered::Refused(_) => Outcome::Refused,
+        Offered::Refused(_) => OfferOutcome::Refused,
         Offered::Evicted(packet) => {
             // The evicted packet stands right behind the heads. Its queue is full, so all tokens inside beyond `capacity` are of heads.
             let heads = tokens.len() - capacity;
             let evicted = take_out(tokens, heads);
             tokens.push_back(token);
-            Outcome::Evicted {
+            OfferOutcome::Evicted {
                 packet,
                 token: evicted,
             }

@@ -29,7 +29,7 @@ use Rattle.clk_live.specs.Outcome.{item_length, packet_length, AreOffersOf, IsLi
 use Rattle.clk_script.specs.Script.{most_moment, most_lines}
 use Rattle.clk_script.specs.Record.{FitsLimits}
 use Rattle.clk_script.specs.Meaning.{CloseFirst, command_of}
-use Rattle.clk_live_run.specs.declared.senders.Sender.{Sender}
+use Rattle.clk_live_run.specs.declared.senders.SenderInlet.{SenderInlet}
 use Rattle.clk_live_run.specs.Run.{moments_at, OffersAll, IsLiveRun}
 use Rattle.clk_live_run.specs.Recorded.{IsRecorded, failures_with}
 use Rattle.clk_live_run.specs.inside.Sending.{HasSentAll}
@@ -56,18 +56,18 @@ paced-none step l none popped_none =
     }
 
 -- What all senders send is what was taken of them.
-pub items-sent : (traces : List (List Packet)) (senders : List Sender) → items_in (map (λ (s : Sender). items_of (sent_by traces s.number)) senders) ≡ sent_in traces (map (λ (s : Sender). s.number) senders)
+pub items-sent : (traces : List (List Packet)) (senders : List SenderInlet) → items_in (map (λ (s : SenderInlet). items_of (sent_by traces s.number)) senders) ≡ sent_in traces (map (λ (s : SenderInlet). s.number) senders)
 items-sent traces [] = refl
 items-sent traces (s ∷ senders) = ap₂ (λ m n. m + n) (length-map (sent_by traces s.number) _) (items-sent traces senders)
 
 -- Each sender offered what it sends.
-pub all-sent : (traces : List (List Packet)) (events : List Event) (numbers : List ℕ) (senders : List Sender) → map (λ (s : Sender). s.number) senders ≡ numbers
-    → AllZip (AreOffersOf events) numbers (map (λ (s : Sender). items_of (sent_by traces s.number)) senders) → AllByRecursion (OffersAll traces events) numbers
+pub all-sent : (traces : List (List Packet)) (events : List Event) (numbers : List ℕ) (senders : List SenderInlet) → map (λ (s : SenderInlet). s.number) senders ≡ numbers
+    → AllZip (AreOffersOf events) numbers (map (λ (s : SenderInlet). items_of (sent_by traces s.number)) senders) → AllByRecursion (OffersAll traces events) numbers
 all-sent traces events [] senders e h = tt
 all-sent traces events (n ∷ numbers) [] e h = absurd h
 all-sent traces events (n ∷ numbers) (s ∷ senders) e h =
     let same : s.number ≡ n = cc in
-    let rest : map (λ (x : Sender). x.number) senders ≡ numbers = cc in
+    let rest : map (λ (x : SenderInlet). x.number) senders ≡ numbers = cc in
     let lengths : map item_length (items_of (sent_by traces s.number)) ≡ map packet_length (sent_by traces s.number) = map-map item_length _ (sent_by traces s.number) in
     (sym h.0 ∙ lengths ∙ ap (λ k. map packet_length (sent_by traces k)) same, all-sent traces events numbers senders rest h.1)
 
@@ -142,8 +142,8 @@ fits-script step pulls limit l so few low =
     }
 
 -- A run, once its devices are drained.
-pub ran : (traces : List (List Packet)) (step pulls limit : ℕ) (senders : List Sender) (l closed : LiveState) → HasPaced step pulls l → pulls ≤ limit → (drained : HasClosed (length l.course.setup.trees) l closed)
-    → map (λ (s : Sender). s.number) senders ≡ sender_numbers l.course.setup → (seen l).items ≡ map (λ (s : Sender). items_of (sent_by traces s.number)) senders
+pub ran : (traces : List (List Packet)) (step pulls limit : ℕ) (senders : List SenderInlet) (l closed : LiveState) → HasPaced step pulls l → pulls ≤ limit → (drained : HasClosed (length l.course.setup.trees) l closed)
+    → map (λ (s : SenderInlet). s.number) senders ≡ sender_numbers l.course.setup → (seen l).items ≡ map (λ (s : SenderInlet). items_of (sent_by traces s.number)) senders
     → IsLiveOutcome closed.course (map taken closed.outlets) → IsLiveRun traces step limit closed.course.setup l.course.events drained.closed
 ran traces step pulls limit senders l closed so few drained numbers items outcome =
     let setup : closed.course.setup ≡ l.course.setup = ap (λ (c : Course). c.setup) drained.goes_on in
@@ -170,25 +170,25 @@ sent-more traces [] x = omega arith
 sent-more traces (y ∷ senders) x = let rest = sent-more traces senders x in omega (arith, rest)
 
 -- What was offered through all inlets, once their senders are through.
-abbrev inlet_of : Sender → Inlet
+abbrev inlet_of : SenderInlet → Inlet
 inlet_of s = s.inlet
 
-abbrev pub sends : List (List Packet) → Sender → List Item
+abbrev pub sends : List (List Packet) → SenderInlet → List Item
 sends traces s = items_of (sent_by traces s.number)
 
-pub all-through : (room : ℕ) (traces : List (List Packet)) (senders : List Sender) (old new : List Inlet) → map (λ (s : Sender). s.inlet) senders ≡ old → AllByRecursion (λ (i : Inlet). (pushed i ≡ []) × (fits i ≡ room)) old
+pub all-through : (room : ℕ) (traces : List (List Packet)) (senders : List SenderInlet) (old new : List Inlet) → map (λ (s : SenderInlet). s.inlet) senders ≡ old → AllByRecursion (λ (i : Inlet). (pushed i ≡ []) × (fits i ≡ room)) old
     → AllZip (HasSentAll traces) senders new → map offered_items new ≡ map (sends traces) senders
 all-through room traces senders old new inlets none sent =
     all_offered inlet_of (sends traces) senders new (subst (AllByRecursion (λ (i : Inlet). offered_items i ≡ [])) (sym inlets) (nothing_yet room old none)) sent
 
 -- the inlets are the other halves of the outlets still
-pub still-halves : (traces : List (List Packet)) (senders : List Sender) (old new : List Inlet) (before after : List Outlet) → map (λ (s : Sender). s.inlet) senders ≡ old → AllZip AreHalves old before → AllZip (HasSentAll traces) senders new
+pub still-halves : (traces : List (List Packet)) (senders : List SenderInlet) (old new : List Inlet) (before after : List Outlet) → map (λ (s : SenderInlet). s.inlet) senders ≡ old → AllZip AreHalves old before → AllZip (HasSentAll traces) senders new
     → AllGoOn before after → AllZip AreHalves new after
 still-halves traces senders old new before after inlets halves sent goes =
     all_go_on new before after (come_back inlet_of (sends traces) senders new before (subst (λ (is : List Inlet). AllZip AreHalves is before) (sym inlets) halves) sent) goes
 
 -- no more was taken than a trace tells
-pub taken-is : (traces : List (List Packet)) (senders : List Sender) (l : LiveState) (numbers : List ℕ) → (seen l).items ≡ map (sends traces) senders → map (λ (s : Sender). s.number) senders ≡ numbers → taken_in l ≡ sent_in traces numbers
+pub taken-is : (traces : List (List Packet)) (senders : List SenderInlet) (l : LiveState) (numbers : List ℕ) → (seen l).items ≡ map (sends traces) senders → map (λ (s : SenderInlet). s.number) senders ≡ numbers → taken_in l ≡ sent_in traces numbers
 taken-is traces senders l numbers items are = ap items_in items ∙ items-sent traces senders ∙ ap (sent_in traces) are
 
 pub sent-few : (traces : List (List Packet)) (numbers : List ℕ) → AreRising numbers → packets_in traces ≤ most_records → sent_in traces numbers ≤ most_left

@@ -10,8 +10,8 @@ use Rattle.clk_live.specs.Sending.{HasSent}
 use Rattle.clk_live.proofs.Callers.Sending.{sent_then}
 use Rattle.std.specs.declared.thread.PromisedHandle.{PromisedHandle}
 use Rattle.clk_packet.specs.Trace.{sent_by}
-use Rattle.clk_live_run.specs.declared.senders.Sender.{Sender}
-use Rattle.clk_live_run.specs.declared.threads.Sending.{Sending}
+use Rattle.clk_live_run.specs.declared.senders.SenderInlet.{SenderInlet}
+use Rattle.clk_live_run.specs.declared.threads.SenderEnd.{SenderEnd}
 use Rattle.clk_live_run.specs.inside.Consuming.{items_of}
 use Rattle.clk_live_run.specs.inside.Sending.{IsStarted, GaveBack, HasSentAll}
 
@@ -39,7 +39,7 @@ sent-all old mid new packets n all so same halves =
     record { offered = same ∙ so.offered ∙ ap (λ xs. offered old ++ items_of xs) (take_all n packets all); halves = λ o h. halves o (so.halves o h) }
 
 -- What a thread promised by its handle, it promised of its sender.
-pub sent-so : (traces : List (List Packet)) (s : Sender) (h : PromisedHandle Inlet Sending) (i : Inlet) → IsStarted traces s h → GaveBack h i → HasSentAll traces s i
+pub sent-so : (traces : List (List Packet)) (s : SenderInlet) (h : PromisedHandle Inlet SenderEnd) (i : Inlet) → IsStarted traces s h → GaveBack h i → HasSentAll traces s i
 sent-so traces s h i started back =
     subst (λ (x : Inlet). HasSent x (items_of (sent_by traces s.number)) i) started.inlet
     (subst (λ (n : ℕ). HasSent h.promise.inlet.value (items_of (sent_by traces n)) i) started.number

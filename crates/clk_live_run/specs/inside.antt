@@ -2,3 +2,4 @@
 pub mod Consuming
 pub mod Recording
 pub mod Sending
+pub mod Counts

@@ -13,12 +13,12 @@ const EACH: u32 = 64;
 
 /// A live router, and the record of what happens to it.
 #[derive(Drop)]
-pub struct Consumer<R: Sink + Drop> {
+pub struct RecordedLive<R: Sink + Drop> {
     pub live: Live,
     pub recording: Recording<R>,
 }
 
-impl<R: Sink + Drop> Consumer<R> {
+impl<R: Sink + Drop> RecordedLive<R> {
     ghost use Rattle.std.specs.Prelude.{◌≡◌, ◌≤◌, ◌<◌, ◌*◌, ℕ, length};
     ghost use Rattle.clk_gate.specs.Limits.{most_limit, most_step};
     ghost use Rattle.clk_sched.specs.Limits.{end_of_moments};

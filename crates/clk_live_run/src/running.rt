@@ -10,21 +10,21 @@ ghost use Rattle.std.specs.List.{AllZip};
 ghost use Rattle.clk_inlet.specs.Halves.{offered, taken, AreHalves};
 ghost use Rattle.clk_live.specs.State.{seen};
 ghost use Rattle.clk_live.specs.Outcome.{AreAllEnded, IsLiveOutcome};
-ghost use Rattle.clk_router.specs.Accounts.{capped};
 ghost use Rattle.clk_router.specs.Course.{CanClose};
 ghost use Rattle.clk_script.specs.Script.{most_lines};
 ghost use Rattle.clk_script.specs.declared.script.Command.{Command};
 ghost use Rattle.clk_live_run.specs.inside.Consuming.{HasClosed};
+ghost use Rattle.clk_live_run.specs.inside.Counts.{capped};
 ghost use Rattle.clk_live_run.specs.inside.Recording.{SinkAt, IsRecordOf, IsEnded};
 ghost use Rattle.clk_live_run.specs.Run.{LiveRunOf, IsFaultOfLive, MayBeTooLong};
 ghost use Rattle.clk_live_run.specs.Recorded.{IsRecorded, failures_with};
 
 use crate::closing::close_devices;
-use crate::consumer::Consumer;
+use crate::consumer::RecordedLive;
 use crate::outcome::LiveOutcome;
 use crate::recording::Recording;
 use crate::senders::senders_of;
-use crate::threads::{Ended, Terms, run_threads};
+use crate::threads::{Ended, LiveTerms, run_threads};
 use clk_gate::{Gate, check_senders};
 use clk_live::Live;
 use clk_packet::{Fault, Sink, Traces};
@@ -79,11 +79,11 @@ pub fn run_live<H: Threads + Wait, P: Wait + Sync, G: Gate + Sync, R: Sink + Dro
     let _ = traces.count(0);
     let (live, inlets) = Live::open(alloc, plan, ROOM)?;
     let senders = senders_of(alloc, live.router().senders(), inlets)?;
-    let consumer = Consumer {
+    let consumer = RecordedLive {
         live,
         recording: Recording::new(recording, sink),
     };
-    let terms = Terms {
+    let terms = LiveTerms {
         wait,
         traces,
         gate,
@@ -109,7 +109,7 @@ fn close<P: Wait, R: Sink + Drop>(wait: &P, ended: Ended<R>) -> LiveOutcome<R>
         consumer,
         mut inlets,
     } = ended;
-    let Consumer {
+    let RecordedLive {
         mut live,
         recording,
     } = consumer;

@@ -16,7 +16,7 @@ use std::thread;
 
 /// What a sender's thread gets: its number, and its inlet.
 #[derive(Drop)]
-pub struct Sender {
+pub struct SenderInlet {
     pub number: u16,
     pub inlet: Inlet,
 }
@@ -26,7 +26,11 @@ pub struct Sender {
 /// # Errors
 ///
 /// Fault 1 if an allocation fails.
-pub fn senders_of(alloc: Global, numbers: &[u16], inlets: Vec<Inlet>) -> Result<Vec<Sender>, Fault>
+pub fn senders_of(
+    alloc: Global,
+    numbers: &[u16],
+    inlets: Vec<Inlet>,
+) -> Result<Vec<SenderInlet>, Fault>
     requires many { length inlets.items ≡ length numbers.now }
     ensures inlets { IfOk result (λ senders. map (λ sender. sender.inlet) senders.items ≡ inlets.items) }
     ensures numbers { IfOk result (λ senders. map (λ sender. sender.number) senders.items ≡ numbers.now) }
@@ -35,7 +39,7 @@ pub fn senders_of(alloc: Global, numbers: &[u16], inlets: Vec<Inlet>) -> Result<
     let mut senders = Vec::new(alloc);
     for inlet in inlets {
         let number = numbers[senders.len()];
-        senders.push(Sender { number, inlet })?;
+        senders.push(SenderInlet { number, inlet })?;
     }
     Ok(senders)
 }

@@ -9,8 +9,8 @@ ghost use Rattle.clk_live_run.specs.inside.Consuming.{items_of, commands_of, Has
 ghost use Rattle.clk_live_run.specs.inside.Recording.{LeadsOn};
 ghost use Rattle.clk_live_run.specs.inside.Sending.{IsStarted, GaveBack, HasSentAll};
 
-use crate::consumer::Consumer;
-use crate::senders::{Sender, send_all};
+use crate::consumer::RecordedLive;
+use crate::senders::{SenderInlet, send_all};
 use clk_gate::Gate;
 use clk_inlet::Inlet;
 use clk_packet::{Sink, Traces};
@@ -22,7 +22,7 @@ use std::thread::{Promise, PromisedHandle, Scope, Threads};
 
 /// What the threads of a run share: what is sent, when devices are pulled, and the gate.
 #[derive(Drop)]
-pub struct Terms<'a, P: Wait, G: Gate> {
+pub struct LiveTerms<'a, P: Wait, G: Gate> {
     pub wait: &'a P,
     pub traces: &'a Traces,
     pub gate: &'a G,
@@ -34,13 +34,13 @@ pub struct Terms<'a, P: Wait, G: Gate> {
 
 /// What a sender's thread promises: it gives its inlet back, through which it has sent all that the sender sends.
 #[derive(Drop)]
-pub struct Sending {
+pub struct SenderEnd {
     traces: Snapshot<Traces>,
     number: u16,
     inlet: Snapshot<Inlet>,
 }
 
-impl Promise<Inlet> for Sending {
+impl Promise<Inlet> for SenderEnd {
     ghost use Rattle.clk_packet.specs.Trace.{sent_by};
     ghost use Rattle.clk_live.specs.Sending.{HasSent};
     ghost use Rattle.clk_live_run.specs.inside.Consuming.{items_of};
@@ -51,16 +51,16 @@ impl Promise<Inlet> for Sending {
 // Starts a sender's thread. What threads share is lent piece by piece, so that contracts see what the closure captures.
 fn start<'s, E, P: Wait + Sync, G: Gate + Sync>(
     scope: &Scope<'s, E>,
-    terms: &'s Terms<'s, P, G>,
-    sender: Sender,
-) -> Result<PromisedHandle<Inlet, Sending>, AllocError>
+    terms: &'s LiveTerms<'s, P, G>,
+    sender: SenderInlet,
+) -> Result<PromisedHandle<Inlet, SenderEnd>, AllocError>
     ensures traces { IfOk result (λ handle. handle.promise.traces.value ≡ terms.now.traces.now) }
     ensures number { IfOk result (λ handle. handle.promise.number ≡ sender.number) }
     ensures inlet { IfOk result (λ handle. handle.promise.inlet.value ≡ sender.inlet) }
 {
-    let Sender { number, inlet } = sender;
+    let SenderInlet { number, inlet } = sender;
     let (wait, traces, gate) = (terms.wait, terms.traces, terms.gate);
-    let promise = Sending {
+    let promise = SenderEnd {
         traces: Snapshot::of(traces),
         number,
         inlet: Snapshot::of(&inlet),
@@ -75,9 +75,9 @@ fn start<'s, E, P: Wait + Sync, G: Gate + Sync>(
 fn start_all<'s, E, P: Wait + Sync, G: Gate + Sync>(
     scope: &Scope<'s, E>,
     alloc: Global,
-    terms: &'s Terms<'s, P, G>,
-    senders: Vec<Sender>,
-) -> Result<Vec<PromisedHandle<Inlet, Sending>>, AllocError>
+    terms: &'s LiveTerms<'s, P, G>,
+    senders: Vec<SenderInlet>,
+) -> Result<Vec<PromisedHandle<Inlet, SenderEnd>>, AllocError>
     ensures started { IfOk result (λ handles. AllZip (IsStarted terms.now.traces.now) senders.items handles.items) }
 {
     let mut handles = Vec::new(alloc);
@@ -91,7 +91,7 @@ fn start_all<'s, E, P: Wait + Sync, G: Gate + Sync>(
 fn join_all<R: Threads>(
     rt: &R,
     alloc: Global,
-    handles: Vec<PromisedHandle<Inlet, Sending>>,
+    handles: Vec<PromisedHandle<Inlet, SenderEnd>>,
 ) -> Result<Vec<Inlet>, AllocError>
     ensures sent { IfOk result (λ inlets. AllZip GaveBack handles.items inlets.items) }
 {
@@ -105,7 +105,7 @@ fn join_all<R: Threads>(
 /// What a run has after all its threads have ended.
 #[derive(Drop)]
 pub struct Ended<R: Sink + Drop> {
-    pub consumer: Consumer<R>,
+    pub consumer: RecordedLive<R>,
     pub inlets: Vec<Inlet>,
 }
 
@@ -117,9 +117,9 @@ pub struct Ended<R: Sink + Drop> {
 pub fn run_threads<H: Threads + Wait, P: Wait + Sync, G: Gate + Sync, R: Sink + Drop>(
     rt: &H,
     alloc: Global,
-    terms: &Terms<P, G>,
-    consumer: Consumer<R>,
-    senders: Vec<Sender>,
+    terms: &LiveTerms<P, G>,
+    consumer: RecordedLive<R>,
+    senders: Vec<SenderInlet>,
 ) -> Result<Ended<R>, AllocError>
     requires step { terms.now.step ≤ most_step }
     requires limit { terms.now.limit ≤ most_limit }

@@ -4,7 +4,7 @@ ghost use Rattle.std.specs.Prelude.{◌<◌, length};
 
 use crate::steps::{EMPTY_SLOT, NONE_DEPARTED, NONE_EMITTED, Row, Sent, Step, token_of};
 use clk_inlet::Inlet;
-use clk_live::{DrainEnd, Emitted, Live, Outcome, Taken};
+use clk_live::{DrainEnd, Emitted, Live, OfferOutcome, Taken};
 use clk_packet::{Fault, Packet};
 use clk_tree::Plan;
 use std::alloc::Global;
@@ -17,13 +17,13 @@ fn is_sent(packet: Packet, token: u64, sent: Sent) -> bool {
 
 // Whether the packet was taken with its token, and accepted.
 fn is_accepted(taken: &Taken, sent: Sent) -> bool {
-    is_sent(taken.packet, taken.token, sent) && taken.outcome == Outcome::Accepted
+    is_sent(taken.packet, taken.token, sent) && taken.outcome == OfferOutcome::Accepted
 }
 
 // Whether the second packet was evicted with its token.
-fn is_evicted(outcome: Outcome, sent: Sent) -> bool {
+fn is_evicted(outcome: OfferOutcome, sent: Sent) -> bool {
     match outcome {
-        Outcome::Evicted { packet, token } => is_sent(packet, token, sent),
+        OfferOutcome::Evicted { packet, token } => is_sent(packet, token, sent),
         _ => false,
     }
 }
@@ -180,7 +180,7 @@ impl Bench {
                 .take(rt, sent.0)
                 .is_some_and(|one| is_accepted(&one, sent)),
             Step::Refused(sent) => self.take(rt, sent.0).is_some_and(|one| {
-                is_sent(one.packet, one.token, sent) && one.outcome == Outcome::Refused
+                is_sent(one.packet, one.token, sent) && one.outcome == OfferOutcome::Refused
             }),
             Step::Evicts(sent, evicted) => self.take(rt, sent.0).is_some_and(|one| {
                 is_sent(one.packet, one.token, sent) && is_evicted(one.outcome, evicted)

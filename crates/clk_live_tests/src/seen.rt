@@ -5,7 +5,7 @@ ghost use Rattle.clk_live.specs.State.{AllGoOn};
 
 use crate::senders::{SENDERS, length_of};
 use crate::steps::{EMPTY_SLOT, token_of};
-use clk_live::{Emitted, Live, Outcome, Taken};
+use clk_live::{Emitted, Live, OfferOutcome, Taken};
 use clk_packet::Packet;
 use std::alloc::{AllocError, Global};
 use std::process::Abort;
@@ -106,9 +106,11 @@ fn tokens_out(rt: &impl Abort, alloc: Global, seen: &Seen) -> Result<Vec<u64>, A
     for one in &seen.taken {
         let token = assert_token(rt, one.packet, one.token);
         match one.outcome {
-            Outcome::Accepted => {}
-            Outcome::Refused => tokens.push(token)?,
-            Outcome::Evicted { packet, token } => tokens.push(assert_token(rt, packet, token))?,
+            OfferOutcome::Accepted => {}
+            OfferOutcome::Refused => tokens.push(token)?,
+            OfferOutcome::Evicted { packet, token } => tokens.push(assert_token(
+                rt, packet, token,
+            ))?,
         }
     }
     for one in &seen.emitted {

@@ -1,6 +1,6 @@
 //! The steps of a worked row, and the tokens of its packets.
 
-use clk_live::{Departed, DrainEnd, Emitted, Outcome, Taken};
+use clk_live::{Departed, DrainEnd, Emitted, OfferOutcome, Taken};
 use clk_packet::Packet;
 
 /// A packet of a row: its sender, its number and its length in bytes.
@@ -73,7 +73,7 @@ const NO_PACKET: Packet = Packet {
 pub const EMPTY_SLOT: Taken = Taken {
     packet: NO_PACKET,
     token: 0,
-    outcome: Outcome::Refused,
+    outcome: OfferOutcome::Refused,
 };
 
 /// What a place holds before a pull emits a packet into it.

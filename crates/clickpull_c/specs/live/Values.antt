@@ -3,8 +3,8 @@ use Rattle.std.specs.Prelude.{ℕ}
 use Rattle.clk_packet.specs.declared.packet.Packet.{Packet}
 use Rattle.clk_live.specs.declared.draining.Departed.{Departed}
 use Rattle.clk_live.specs.declared.pulling.Emitted.{Emitted}
-use Rattle.clk_live.specs.declared.taking.Outcome.{Outcome}
-use Rattle.clk_live.specs.declared.taking.Outcome.TheVariants.{Accepted, Refused, Evicted}
+use Rattle.clk_live.specs.declared.taking.OfferOutcome.{OfferOutcome}
+use Rattle.clk_live.specs.declared.taking.OfferOutcome.TheVariants.{Accepted, Refused, Evicted}
 use Rattle.clk_live.specs.declared.taking.Taken.{Taken}
 use Rattle.clickpull_c.specs.declared.live.values.CDeparted.{CDeparted}
 use Rattle.clickpull_c.specs.declared.live.values.CEmitted.{CEmitted}
@@ -13,7 +13,7 @@ use Rattle.clickpull_c.specs.declared.statuses.TheConstants.{ACCEPTED, REFUSED, 
 use Rattle.clickpull_c.specs.Values.{no_packet, packet_in_c}
 
 -- a packet that was taken, with its token and outcome, as C sees them
-abbrev pub told_in_c : Packet → ℕ → Outcome → CTaken
+abbrev pub told_in_c : Packet → ℕ → OfferOutcome → CTaken
 told_in_c p token Accepted = record { packet = packet_in_c p; token = token; evicted = no_packet; evicted_token = 0; outcome = ACCEPTED }
 told_in_c p token Refused = record { packet = packet_in_c p; token = token; evicted = no_packet; evicted_token = 0; outcome = REFUSED }
 told_in_c p token (Evicted front its) = record { packet = packet_in_c p; token = token; evicted = packet_in_c front; evicted_token = its; outcome = EVICTED }

@@ -12,7 +12,7 @@ use super::handle::LiveHandle;
 use super::router::LiveRouter;
 use super::values::{CTaken, taken_for_c};
 use crate::statuses::{RECLAIMED, UNKNOWN_SENDER, given_status};
-use clk_live::{Live, Outcome, Taken};
+use clk_live::{Live, OfferOutcome, Taken};
 use clk_packet::Packet;
 
 /// How many packets one call takes at most.
@@ -32,7 +32,7 @@ const FREE: Taken = Taken {
         length: 1,
     },
     token: 0,
-    outcome: Outcome::Accepted,
+    outcome: OfferOutcome::Accepted,
 };
 
 /// Takes packets that wait in the inlet of the sender with this number, as many as find a place, 64 at most. Offers each to the sender's

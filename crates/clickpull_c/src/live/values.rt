@@ -5,7 +5,7 @@ ghost use Rattle.clickpull_c.specs.live.Values.{taken_in_c, emitted_in_c, depart
 
 use crate::statuses::{ACCEPTED, EVICTED, REFUSED};
 use crate::values::{CPacket, packet_for_c};
-use clk_live::{Departed, Emitted, Outcome, Taken};
+use clk_live::{Departed, Emitted, OfferOutcome, Taken};
 
 /// A packet that was taken from its inlet and offered to its queue. In C it is the struct `clk_taken`.
 #[repr(C)]
@@ -55,9 +55,9 @@ pub fn taken_for_c(taken: Taken) -> CTaken
         length: 0,
     };
     let (evicted, evicted_token, outcome) = match taken.outcome {
-        Outcome::Accepted => (none, 0, ACCEPTED),
-        Outcome::Refused => (none, 0, REFUSED),
-        Outcome::Evicted { packet, token } => (packet_for_c(packet), token, EVICTED),
+        OfferOutcome::Accepted => (none, 0, ACCEPTED),
+        OfferOutcome::Refused => (none, 0, REFUSED),
+        OfferOutcome::Evicted { packet, token } => (packet_for_c(packet), token, EVICTED),
     };
     CTaken {
         packet: packet_for_c(taken.packet),

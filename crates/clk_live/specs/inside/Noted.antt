@@ -3,8 +3,8 @@ use Rattle.std.specs.Prelude.{◌≡◌, ℕ, ◌+◌, ◌-◌, ◌<◌, ◌≤�
 use Rattle.circular_buffer.specs.Buffer.{Buffer, buffer}
 use Rattle.clk_packet.specs.declared.packet.Offered.{Offered}
 use Rattle.clk_packet.specs.declared.packet.Offered.TheVariants as offer
-use Rattle.clk_live.specs.declared.taking.Outcome.{Outcome}
-use Rattle.clk_live.specs.declared.taking.Outcome.TheVariants.{Accepted, Refused, Evicted}
+use Rattle.clk_live.specs.declared.taking.OfferOutcome.{OfferOutcome}
+use Rattle.clk_live.specs.declared.taking.OfferOutcome.TheVariants.{Accepted, Refused, Evicted}
 
 -- there is room for the token of a packet with this outcome, whose queue holds `capacity` packets at most
 abbrev pub CanNote : Buffer ℕ → ℕ → Offered → Type 0
@@ -13,7 +13,7 @@ CanNote b capacity (offer.Refused p) = ⊤
 CanNote b capacity (offer.Evicted front) = (1 ≤ capacity) × (capacity ≤ length b.items) × (length b.items ≤ b.capacity)
 
 -- The tokens of the packets inside a queue, after a packet with this token was offered to it.
-abbrev pub IsNoted : Buffer ℕ → (capacity token : ℕ) → Offered → Outcome → Buffer ℕ → Type 0
+abbrev pub IsNoted : Buffer ℕ → (capacity token : ℕ) → Offered → OfferOutcome → Buffer ℕ → Type 0
 IsNoted old capacity token offer.Accepted outcome new = (outcome ≡ Accepted) × (new ≡ buffer (old.items ++ token ∷ []) old.capacity)
 IsNoted old capacity token (offer.Refused p) outcome new = (outcome ≡ Refused) × (new ≡ old)
 IsNoted old capacity token (offer.Evicted front) outcome new =

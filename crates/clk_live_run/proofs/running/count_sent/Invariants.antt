@@ -1,7 +1,7 @@
 use Rattle.std.specs.Prelude.{◌≡◌, map, take}
 use Rattle.clk_gate.specs.Sent.{sent_in}
 use Rattle.clk_tree.specs.PlanParts.{number_of}
-use Rattle.clk_router.specs.Accounts.{capped}
+use Rattle.clk_live_run.specs.inside.Counts.{capped}
 use Rattle.clk_live_run.proofs.running.count_sent.Given as goal
 
 abbrev pub invariant-loop-sender : goal.invariant-loop-sender

@@ -2,7 +2,7 @@ use Rattle.std.proofs.Common.{◌≡◌, ◌<◌, true, length, Some, refl, sym,
 use Rattle.std.proofs.lemmas.List.{length-set, take-set-le}
 use Rattle.clk_router.specs.Course.{Course, sender_at}
 use Rattle.clk_live.specs.declared.taking.Taken.{Taken}
-use Rattle.clk_live.specs.declared.taking.Outcome.TheVariants.{Accepted}
+use Rattle.clk_live.specs.declared.taking.OfferOutcome.TheVariants.{Accepted}
 use Rattle.clk_live.specs.State.{Seen, seen, GoesOn}
 use Rattle.clk_live.specs.Taking.{AreTaken}
 use Rattle.clk_live.proofs.Lists.{zip-length}

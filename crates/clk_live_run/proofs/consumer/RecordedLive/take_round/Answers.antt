@@ -4,7 +4,7 @@ use Rattle.clk_tree.specs.PlanParts.{number_of}
 use Rattle.clk_router.specs.Course.{Course}
 use Rattle.clk_live_run.specs.inside.Consuming.{commands_of}
 use Rattle.clk_live_run.proofs.Takings.{took-none, took-then, still-there, leads-then}
-use Rattle.clk_live_run.proofs.consumer.Consumer.take_round.Goals as goal
+use Rattle.clk_live_run.proofs.consumer.RecordedLive.take_round.Goals as goal
 
 pub loop-place-init : goal.loop-place-init
 loop-place-init g c = (took-none c.args.self.now.live, λ recording start h. h)

@@ -1,7 +1,7 @@
 use Rattle.std.specs.Prelude.{◌*◌}
 use Rattle.clk_live_run.specs.inside.Consuming.{commands_of, PulledFirst}
 use Rattle.clk_live_run.specs.inside.Recording.{LeadsOn}
-use Rattle.clk_live_run.proofs.consumer.Consumer.pull_round.Given as goal
+use Rattle.clk_live_run.proofs.consumer.RecordedLive.pull_round.Given as goal
 
 abbrev pub invariant-loop-device : goal.invariant-loop-device
 invariant-loop-device g l =

@@ -3,7 +3,7 @@ use Rattle.clk_script.specs.declared.script.Command.{Command}
 use Rattle.clk_live_run.specs.inside.Consuming.{commands_of}
 use Rattle.clk_live_run.specs.inside.Recording.{LeadsOn}
 use Rattle.clk_live_run.proofs.Takings.{took-none, took-one, took-same, took-then, took-command, still-there, leads-then}
-use Rattle.clk_live_run.proofs.consumer.Consumer.take_from.Goals as goal
+use Rattle.clk_live_run.proofs.consumer.RecordedLive.take_from.Goals as goal
 
 pub loop-init : goal.loop-init
 loop-init g c = (took-none c.args.self.now.live, λ recording start h. h)

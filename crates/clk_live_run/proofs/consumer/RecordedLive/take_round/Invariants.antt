@@ -1,6 +1,6 @@
 use Rattle.clk_live_run.specs.inside.Consuming.{commands_of, OnlyTook}
 use Rattle.clk_live_run.specs.inside.Recording.{LeadsOn}
-use Rattle.clk_live_run.proofs.consumer.Consumer.take_round.Given as goal
+use Rattle.clk_live_run.proofs.consumer.RecordedLive.take_round.Given as goal
 
 abbrev pub invariant-loop-place : goal.invariant-loop-place
 invariant-loop-place g l = OnlyTook l.fn.self.live l.self.live × LeadsOn l.fn.self.recording l.self.recording (commands_of l.fn.self.live.course) (commands_of l.self.live.course)

@@ -2,7 +2,7 @@ use Rattle.std.proofs.Common.{refl, ◌∙◌, arith}
 use Rattle.clk_live.proofs.Callers.Halves.{all_same, all_then}
 use Rattle.clk_live_run.specs.inside.Consuming.{commands_of}
 use Rattle.clk_live_run.proofs.Takings.{leads-then}
-use Rattle.clk_live_run.proofs.consumer.Consumer.consume.Goals as goal
+use Rattle.clk_live_run.proofs.consumer.RecordedLive.consume.Goals as goal
 
 pub loop-init : goal.loop-init
 loop-init g c = (tt, tt, omega arith, c.requires.unpulled, refl, all_same c.args.self.now.live.outlets, λ recording start h. h)

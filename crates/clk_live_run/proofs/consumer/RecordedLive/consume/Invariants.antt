@@ -2,7 +2,7 @@ use Rattle.std.specs.Prelude.{◌≡◌, ◌≤◌}
 use Rattle.clk_live.specs.State.{AllGoOn}
 use Rattle.clk_live_run.specs.inside.Consuming.{commands_of, HasPaced}
 use Rattle.clk_live_run.specs.inside.Recording.{LeadsOn}
-use Rattle.clk_live_run.proofs.consumer.Consumer.consume.Given as goal
+use Rattle.clk_live_run.proofs.consumer.RecordedLive.consume.Given as goal
 
 abbrev pub invariant-loop : goal.invariant-loop
 invariant-loop g l =

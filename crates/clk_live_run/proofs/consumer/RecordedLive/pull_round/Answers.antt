@@ -6,7 +6,7 @@ use Rattle.clk_live.specs.Pulling.{IsPulledLive}
 use Rattle.clk_live_run.specs.inside.Consuming.{commands_of}
 use Rattle.clk_live_run.specs.inside.Recording.{LeadsOn}
 use Rattle.clk_live_run.proofs.Takings.{pulled-more, pulled-command, leads-then, can-pull, round-early}
-use Rattle.clk_live_run.proofs.consumer.Consumer.pull_round.Goals as goal
+use Rattle.clk_live_run.proofs.consumer.RecordedLive.pull_round.Goals as goal
 
 pub pull-requires : goal.pull-requires
 pull-requires g c =

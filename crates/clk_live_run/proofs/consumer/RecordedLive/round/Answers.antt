@@ -1,7 +1,7 @@
 use Rattle.std.proofs.Common.{◌+◌, ◌≤◌, length, ap, ◌∙◌, arith}
 use Rattle.clk_gate.specs.Limits.{most_limit}
 use Rattle.clk_live_run.proofs.Takings.{paced-took, paced-length, paced-round, round-early}
-use Rattle.clk_live_run.proofs.consumer.Consumer.round.Goals as goal
+use Rattle.clk_live_run.proofs.consumer.RecordedLive.round.Goals as goal
 
 pub pull_round-requires-clause-few : goal.pull_round-requires-clause-few
 pull_round-requires-clause-few g c = λ d low.
