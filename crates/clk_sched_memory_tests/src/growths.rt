@@ -25,8 +25,11 @@ const LENGTHS: [u16; 3] = [100, 600, 200];
 /// How many packets they send in all.
 const SENT: u64 = 6;
 
-/// Each pull by its moment, with the sender, number and length of the packet that it emits, worked out by hand.
-const PULLS: [(u32, u16, u32, u16); 4] = [
+/// A pull by its moment, with the sender, number and length of the packet that it emits.
+type Pulled = (u32, u16, u32, u16);
+
+/// Each pull, worked out by hand.
+const PULLS: [Pulled; 4] = [
     (0, 0, 0, 100),
     (3, 1, 0, 100),
     (3, 0, 1, 600),
@@ -66,6 +69,17 @@ fn setup(alloc: Global) -> Result<(Tree, Queues), Fault> {
         queues.send(sender, &LENGTHS)?;
     }
     Ok((drr_over_two(alloc, 500, 300)?, queues))
+}
+
+// The packet that a pull emits.
+fn packet_of(rt: &impl Abort, pulled: Pulled) -> Packet {
+    let (_, sender, number, length) = pulled;
+    assert!(rt; length >= 1);
+    Packet {
+        number,
+        sender,
+        length,
+    }
 }
 
 // The result of a call, or the call if an allocation failed.
@@ -126,6 +140,13 @@ impl Kept {
         assert_eq!(rt; got, Ok(Some(expected)));
     }
 
+    // Makes these pulls.
+    fn pull_all(&mut self, rt: &impl Abort, pulls: &[Pulled], keeps: Keeps) {
+        for pull in pulls {
+            self.pull(rt, pull.0, packet_of(rt, *pull), keeps);
+        }
+    }
+
     fn pull_once(&mut self, moment: u32) -> Result<Option<Packet>, Fault> {
         self.session.pull(&mut self.queues, u64::from(moment))
     }
@@ -171,15 +192,7 @@ impl Kept {
 // Makes each call, and makes it again if it failed. Returns which call failed, if one did.
 fn met_refusal(rt: &impl Abort, alloc: Global, keeps: Keeps) -> Option<Call> {
     let mut kept = Kept::new(rt, alloc, keeps);
-    for (moment, sender, number, length) in PULLS {
-        assert!(rt; length >= 1);
-        let packet = Packet {
-            number,
-            sender,
-            length,
-        };
-        kept.pull(rt, moment, packet, keeps);
-    }
+    kept.pull_all(rt, &PULLS, keeps);
     kept.held_heads(rt, alloc);
     kept.close(rt, alloc);
     kept.refused
@@ -203,15 +216,24 @@ fn a_refused_call_is_made_again(rt: HostRuntime) {
     assert_eq!(rt; refused, None);
 }
 
+// Makes these pulls. They don't fail, since nothing grows.
+fn pull_bare(rt: &impl Abort, session: &mut Session, queues: &mut Queues, pulls: &[Pulled]) {
+    for pull in pulls {
+        pull_one(rt, session, queues, pull.0);
+    }
+}
+
+fn pull_one(rt: &impl Abort, session: &mut Session, queues: &mut Queues, moment: u32) {
+    let got = session.pull(queues, u64::from(moment));
+    assert!(rt; got.expect(rt, "nothing grows").is_some());
+}
+
 // Makes each call of a session that keeps nothing that grows, up to the one that fails. Its pulls and drains don't allocate.
 fn bare(rt: &impl Abort, alloc: Global, keeps: Keeps) -> Result<(), Call> {
     let (tree, mut queues) = answer(rt, Call::Setup, setup(alloc))?;
     assert!(rt; tree.leaves_distinct());
     let mut session = answer(rt, Call::New, Session::keeping(alloc, tree, keeps))?;
-    for (moment, _, _, _) in PULLS {
-        let got = session.pull(&mut queues, u64::from(moment));
-        assert!(rt; got.expect(rt, "nothing grows").is_some());
-    }
+    pull_bare(rt, &mut session, &mut queues, &PULLS);
     let heads = answer(rt, Call::HeldHeads, session.held_heads(alloc))?;
     assert_eq!(rt; heads.as_slice(), [HELD].as_slice());
     assert!(rt; session.now() < 1 << 40);

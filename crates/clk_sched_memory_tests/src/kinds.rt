@@ -49,10 +49,15 @@ fn close(
 // A session that was pulled once and drained. Fails unless what it emitted is shown so.
 fn closed(rt: &impl Abort, alloc: Global, keeps: Keeps) -> Session {
     let mut session = session_that(rt, alloc, keeps);
-    let mut queues = three_packets(rt, alloc);
-    let text = shown(rt, alloc, &mut session, &mut queues).expect(rt, "ample memory");
-    assert_eq!(rt; text.as_str(), CAME_OUT);
+    assert_emits(rt, alloc, &mut session);
     session
+}
+
+// Fails unless what a pull and a drain over three packets emit is shown so.
+fn assert_emits(rt: &impl Abort, alloc: Global, session: &mut Session) {
+    let mut queues = three_packets(rt, alloc);
+    let text = shown(rt, alloc, session, &mut queues).expect(rt, "ample memory");
+    assert_eq!(rt; text.as_str(), CAME_OUT);
 }
 
 // What a pull and a drain emit.
@@ -63,13 +68,37 @@ fn shown(
     queues: &mut Queues,
 ) -> Result<String, Fault> {
     let mut text = String::new(alloc);
-    assert_eq!(rt; session.due(queues), Some(0));
-    show_got(&mut text, session.pull(queues, 5)?)?;
-    text.push_str("\n")?;
-    assert_eq!(rt; session.due(queues), Some(5));
-    show_departures(&mut text, &close(rt, alloc, session, queues)?)?;
-    assert_eq!(rt; session.due(queues), None);
+    show_pull(rt, session, queues, &mut text)?;
+    show_drain(rt, alloc, session, queues, &mut text)?;
     Ok(text)
+}
+
+// Adds what a pull emits.
+fn show_pull(
+    rt: &impl Abort,
+    session: &mut Session,
+    queues: &mut Queues,
+    text: &mut String,
+) -> Result<(), Fault> {
+    assert_eq!(rt; session.due(queues), Some(0));
+    show_got(text, session.pull(queues, 5)?)?;
+    text.push_str("\n")?;
+    Ok(())
+}
+
+// Adds what a drain emits.
+fn show_drain(
+    rt: &impl Abort,
+    alloc: Global,
+    session: &mut Session,
+    queues: &mut Queues,
+    text: &mut String,
+) -> Result<(), Fault> {
+    assert_eq!(rt; session.due(queues), Some(5));
+    let departures = close(rt, alloc, session, queues)?;
+    assert_eq!(rt; session.due(queues), None);
+    show_departures(text, &departures)?;
+    Ok(())
 }
 
 fn assert_kept(rt: &impl Abort, alloc: Global, keeps: Keeps) {

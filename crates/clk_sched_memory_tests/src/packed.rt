@@ -1,6 +1,6 @@
 //! Sessions that keep their visits packed: they have the log of a session that keeps a list.
 
-use crate::pieces::{LENGTHS, SHAPES, Shape, tree_of};
+use crate::pieces::{SHAPES, Shape, session_over, three_queues};
 use clk_fixtures::Queues;
 use clk_packet::Fault;
 use clk_sched::{Keeps, PackedLog, Session, Visit};
@@ -21,17 +21,22 @@ pub fn pulled(
     keeps: Keeps,
     moments: &[u64],
 ) -> Result<Session, Fault> {
-    let tree = tree_of(alloc, shape)?;
-    assert!(rt; tree.leaves_distinct());
-    let mut queues = Queues::new(alloc, 3)?;
-    for sender in 0..3 {
-        queues.send(sender, &LENGTHS)?;
-    }
-    let mut session = Session::keeping(alloc, tree, keeps)?;
-    for moment in moments {
-        pull(rt, &mut session, &mut queues, *moment)?;
-    }
+    let mut queues = three_queues(alloc)?;
+    let mut session = session_over(rt, alloc, shape, keeps)?;
+    pull_at(rt, &mut session, &mut queues, moments)?;
     Ok(session)
+}
+
+fn pull_at(
+    rt: &impl Abort,
+    session: &mut Session,
+    queues: &mut Queues,
+    moments: &[u64],
+) -> Result<(), Fault> {
+    for moment in moments {
+        pull(rt, session, queues, *moment)?;
+    }
+    Ok(())
 }
 
 fn pull(
@@ -77,16 +82,32 @@ fn assert_packed(
 fn a_log_may_be_packed(rt: HostRuntime) -> Result<(), Fault> {
     let alloc = rt.alloc();
     for (shape, _) in SHAPES {
-        let both = pulled(&rt, alloc, shape, visits_kept(true, true), &MOMENTS)?;
-        let log = both.log().to_vec(alloc)?;
-        let (kept, _) = both.into_packed(alloc)?;
-        assert_packed(&rt, alloc, kept, &log)?;
-        let packed = pulled(&rt, alloc, shape, visits_kept(false, true), &MOMENTS)?;
-        assert!(rt; packed.log().is_empty());
-        let (kept, _) = packed.into_packed(alloc)?;
-        assert_packed(&rt, alloc, kept, &log)?;
+        let log = log_of_both(&rt, alloc, shape)?;
+        assert_packed_alone(&rt, alloc, shape, &log)?;
     }
     Ok(())
+}
+
+// The list of a session that keeps its visits as a list and packed. Fails unless these are the same.
+fn log_of_both(rt: &impl Abort, alloc: Global, shape: Shape) -> Result<Vec<Visit>, Fault> {
+    let both = pulled(rt, alloc, shape, visits_kept(true, true), &MOMENTS)?;
+    let log = both.log().to_vec(alloc)?;
+    let (kept, _) = both.into_packed(alloc)?;
+    assert_packed(rt, alloc, kept, &log)?;
+    Ok(log)
+}
+
+// Fails unless a session that keeps its visits only packed has these.
+fn assert_packed_alone(
+    rt: &impl Abort,
+    alloc: Global,
+    shape: Shape,
+    log: &[Visit],
+) -> Result<(), Fault> {
+    let packed = pulled(rt, alloc, shape, visits_kept(false, true), &MOMENTS)?;
+    assert!(rt; packed.log().is_empty());
+    let (kept, _) = packed.into_packed(alloc)?;
+    assert_packed(rt, alloc, kept, log)
 }
 
 // A session that keeps no packets reads them off its visits, and one that keeps them has them.

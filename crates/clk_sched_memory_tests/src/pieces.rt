@@ -41,6 +41,27 @@ pub fn tree_of(alloc: Global, shape: Shape) -> Result<Tree, Fault> {
     }
 }
 
+// A session over a tree of this shape.
+pub fn session_over(
+    rt: &impl Abort,
+    alloc: Global,
+    shape: Shape,
+    keeps: Keeps,
+) -> Result<Session, Fault> {
+    let tree = tree_of(alloc, shape)?;
+    assert!(rt; tree.leaves_distinct());
+    Session::keeping(alloc, tree, keeps)
+}
+
+// Queues that hold three packets each.
+pub fn three_queues(alloc: Global) -> Result<Queues, Fault> {
+    let mut queues = Queues::new(alloc, 3)?;
+    for sender in 0..3 {
+        queues.send(sender, &LENGTHS)?;
+    }
+    Ok(queues)
+}
+
 /// A session, and the pieces of its log that it dropped so far, in one list.
 #[derive(Drop)]
 struct LettingGo {
@@ -51,21 +72,15 @@ struct LettingGo {
 
 impl LettingGo {
     fn new(rt: &impl Abort, alloc: Global, shape: Shape) -> Result<LettingGo, Fault> {
-        let tree = tree_of(alloc, shape)?;
-        assert!(rt; tree.leaves_distinct());
         let keeps = Keeps {
             visits: true,
             packed: false,
             packets: false,
             latest: false,
         };
-        let mut queues = Queues::new(alloc, 3)?;
-        for sender in 0..3 {
-            queues.send(sender, &LENGTHS)?;
-        }
         Ok(LettingGo {
-            session: Session::keeping(alloc, tree, keeps)?,
-            queues,
+            session: session_over(rt, alloc, shape, keeps)?,
+            queues: three_queues(alloc)?,
             pieces: Vec::new(alloc),
         })
     }
@@ -89,15 +104,34 @@ impl LettingGo {
         self.session.drain(&mut self.queues, left, CLOSED)?;
         Ok(())
     }
+
+    // Pulls at each moment, and drains what is left.
+    fn run(&mut self, rt: &impl Abort, left: u64) -> Result<(), Fault> {
+        for moment in MOMENTS {
+            self.pull(rt, moment)?;
+        }
+        self.drain(rt, left)
+    }
+
+    // The same, and drops the visits whenever it keeps so many, and at the end.
+    fn run_in_pieces(&mut self, rt: &impl Abort, left: u64, piece: usize) -> Result<(), Fault> {
+        for moment in MOMENTS {
+            self.pull(rt, moment)?;
+            if self.session.log().len() >= piece {
+                self.take_piece()?;
+            }
+        }
+        self.drain(rt, left)?;
+        self.take_piece()?;
+        assert!(rt; self.session.log().is_empty());
+        Ok(())
+    }
 }
 
 // The log of a session that keeps all of it.
 fn log_of(rt: &impl Abort, alloc: Global, shape: Shape, left: u64) -> Result<Vec<Visit>, Fault> {
     let mut session = LettingGo::new(rt, alloc, shape)?;
-    for moment in MOMENTS {
-        session.pull(rt, moment)?;
-    }
-    session.drain(rt, left)?;
+    session.run(rt, left)?;
     let (log, _) = session.session.into_parts();
     Ok(log)
 }
@@ -111,15 +145,7 @@ fn in_pieces(
     piece: usize,
 ) -> Result<Vec<Visit>, Fault> {
     let mut session = LettingGo::new(rt, alloc, shape)?;
-    for moment in MOMENTS {
-        session.pull(rt, moment)?;
-        if session.session.log().len() >= piece {
-            session.take_piece()?;
-        }
-    }
-    session.drain(rt, left)?;
-    session.take_piece()?;
-    assert!(rt; session.session.log().is_empty());
+    session.run_in_pieces(rt, left, piece)?;
     Ok(session.pieces)
 }
 

@@ -124,6 +124,16 @@ impl Row {
         assert_eq!(rt; made, Ok(PULLS - before));
     }
 
+    // Sends and pulls as a script says.
+    fn follow(&mut self, rt: &impl Abort, sent: &mut Sent, script: &str) {
+        for line in script.lines() {
+            match command_of(line).expect(rt, "a command") {
+                Command::Send(sender, length) => sent.send(rt, sender, length),
+                Command::Pull(moment) | Command::Drain(moment) => self.pull(rt, sent, moment),
+            }
+        }
+    }
+
     // Notes that a call failed. It is the only one, since only one allocation fails.
     fn note(&mut self, rt: &impl Abort, call: Call, fault: Fault) {
         assert_eq!(rt; (fault, self.refused), (Fault::Memory, None));
@@ -174,12 +184,7 @@ fn pulls_refused(rt: &impl Abort, alloc: Global) -> Option<Call> {
         return Some(Call::Setup);
     };
     let mut sent = Sent::none();
-    for line in DEFICIT_TWO_QUEUES.script.lines() {
-        match command_of(line).expect(rt, "a command") {
-            Command::Send(sender, length) => sent.send(rt, sender, length),
-            Command::Pull(moment) | Command::Drain(moment) => row.pull(rt, &mut sent, moment),
-        }
-    }
+    row.follow(rt, &mut sent, DEFICIT_TWO_QUEUES.script);
     assert_visits(rt, row.session.log(), DEFICIT_TWO_QUEUES.visits);
     row.refused
 }
@@ -226,12 +231,16 @@ fn drain_refused(rt: &impl Abort, alloc: Global) -> Option<Call> {
     let mut sent = Sent::none();
     sent.send(rt, 0, 65_535);
     row.drain(rt, &mut sent);
-    let log = row.session.log();
+    assert_long(rt, row.session.log());
+    row.refused
+}
+
+// Fails unless these are the visits in which the longest packet is emitted.
+fn assert_long(rt: &impl Abort, log: &[Visit]) {
     assert_eq!(rt; log.len(), 131_070);
     for (place, visit) in log.iter().enumerate() {
         assert_eq!(rt; *visit, visit_of_long(place));
     }
-    row.refused
 }
 
 #[test]

@@ -153,13 +153,26 @@ fn assert_alike(
     both.assert_same(rt, alloc, first.saturating_add(left))
 }
 
+// Fails unless a session that keeps this, over the second of two trees that are alike, emits what one emits that keeps all, over the first.
+fn assert_alike_over(
+    rt: &impl Abort,
+    alloc: Global,
+    trees: (Result<Tree, Fault>, Result<Tree, Fault>),
+    keeps: Keeps,
+    first: usize,
+    left: usize,
+) -> Result<(), Fault> {
+    let (tree, again) = trees;
+    let mut both = Both::new(rt, alloc, tree, again, keeps);
+    assert_alike(rt, alloc, &mut both, first, left)
+}
+
 #[test]
 fn priorities_need_no_log(rt: HostRuntime) -> Result<(), Fault> {
     let alloc = rt.alloc();
     for keeps in STEADY {
-        let (tree, again) = (prio_over_two(alloc), prio_over_two(alloc));
-        let mut both = Both::new(&rt, alloc, tree, again, keeps);
-        assert_alike(&rt, alloc, &mut both, 6, 2)?;
+        let trees = (prio_over_two(alloc), prio_over_two(alloc));
+        assert_alike_over(&rt, alloc, trees, keeps, 6, 2)?;
     }
     Ok(())
 }
@@ -168,9 +181,8 @@ fn priorities_need_no_log(rt: HostRuntime) -> Result<(), Fault> {
 fn turns_need_no_log(rt: HostRuntime) -> Result<(), Fault> {
     let alloc = rt.alloc();
     for keeps in STEADY {
-        let (tree, again) = (round_robin_over_three(alloc), round_robin_over_three(alloc));
-        let mut both = Both::new(&rt, alloc, tree, again, keeps);
-        assert_alike(&rt, alloc, &mut both, 6, 6)?;
+        let trees = (round_robin_over_three(alloc), round_robin_over_three(alloc));
+        assert_alike_over(&rt, alloc, trees, keeps, 6, 6)?;
     }
     Ok(())
 }
@@ -180,9 +192,8 @@ fn turns_need_no_log(rt: HostRuntime) -> Result<(), Fault> {
 fn shares_need_no_log(rt: HostRuntime) -> Result<(), Fault> {
     let alloc = rt.alloc();
     for keeps in STEADY {
-        let (tree, again) = (drr_over_stride(alloc), drr_over_stride(alloc));
-        let mut both = Both::new(&rt, alloc, tree, again, keeps);
-        assert_alike(&rt, alloc, &mut both, 5, 47)?;
+        let trees = (drr_over_stride(alloc), drr_over_stride(alloc));
+        assert_alike_over(&rt, alloc, trees, keeps, 5, 47)?;
     }
     Ok(())
 }
@@ -192,12 +203,11 @@ fn shares_need_no_log(rt: HostRuntime) -> Result<(), Fault> {
 fn pace_needs_no_log(rt: HostRuntime) -> Result<(), Fault> {
     let alloc = rt.alloc();
     for keeps in STEADY {
-        let (tree, again) = (
+        let trees = (
             shaped_drr_path(alloc, 2, 500),
             shaped_drr_path(alloc, 2, 500),
         );
-        let mut both = Both::new(&rt, alloc, tree, again, keeps);
-        assert_alike(&rt, alloc, &mut both, 2, 2)?;
+        assert_alike_over(&rt, alloc, trees, keeps, 2, 2)?;
     }
     Ok(())
 }
@@ -209,13 +219,17 @@ fn idle_subtrees_need_no_log(rt: HostRuntime) -> Result<(), Fault> {
     for keeps in STEADY {
         let (tree, again) = (three_levels(alloc), three_levels(alloc));
         let mut both = Both::new(&rt, alloc, tree, again, keeps);
-        for sender in 0..8 {
-            both.send_one(sender, &[150, 900, 40])?;
-            both.pulls(&rt, &[0, 0, 0, 1, 2, 3, 3, 4])?;
-            both.assert_same_heads(&rt, alloc)?;
-        }
-        both.pulls(&rt, &[9, 9, 9, 9, 10, 11, 12, 13, 14, 15, 16, 17])?;
-        both.assert_same(&rt, alloc, 24)?;
+        assert_alike_in_turn(&rt, alloc, &mut both)?;
     }
     Ok(())
+}
+
+fn assert_alike_in_turn(rt: &impl Abort, alloc: Global, both: &mut Both) -> Result<(), Fault> {
+    for sender in 0..8 {
+        both.send_one(sender, &[150, 900, 40])?;
+        both.pulls(rt, &[0, 0, 0, 1, 2, 3, 3, 4])?;
+        both.assert_same_heads(rt, alloc)?;
+    }
+    both.pulls(rt, &[9, 9, 9, 9, 10, 11, 12, 13, 14, 15, 16, 17])?;
+    both.assert_same(rt, alloc, 24)
 }
