@@ -7,6 +7,7 @@ pub mod BusyTurns
 pub mod RoundRobinTurns
 pub mod Deficits
 pub mod RankBehind
+pub mod RankFirst
 pub mod RankLemmas
 pub mod RankLess
 pub mod RankMerge

@@ -9,7 +9,7 @@ use Rattle.clk_sched.specs.inside.Ranks.{AreUpTo, is_up_to, put_rank}
 use Rattle.clk_sched.proofs.Classes.RankLemmas.{StandBefore, put-past}
 use Rattle.clk_sched.proofs.Classes.RankMerge.{up-then, parts}
 
-all-at : (P : Rank → Type 0) (others : List Rank) (n : ℕ) (d : Rank) → n < length others → AllByRecursion P others → P (get_or others n d)
+pub all-at : (P : Rank → Type 0) (others : List Rank) (n : ℕ) (d : Rank) → n < length others → AllByRecursion P others → P (get_or others n d)
 all-at P others n d l h = grind (arith, common_steps)
 
 -- Where one doesn't stand before the rank at a place, so many stand before it.

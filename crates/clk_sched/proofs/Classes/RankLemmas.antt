@@ -109,7 +109,7 @@ win-all P Q pass stride (suc place) (r ∷ others) f h k = put-holds P (at_pass 
 lower : (least pass : ℕ) (ranks : List Rank) → least ≤ pass → AllByRecursion (λ (r : Rank). pass ≤ r.pass) ranks → AllByRecursion (λ (r : Rank). least ≤ r.pass) ranks
 lower least pass ranks l h = all-weaker (λ (r : Rank). pass ≤ r.pass) (λ (r : Rank). least ≤ r.pass) ranks (λ r k. omega arith) h
 
-put-rises : (r : Rank) (others : List Rank) → HasRisingPasses others → HasRisingPasses (put_rank r others)
+pub put-rises : (r : Rank) (others : List Rank) → HasRisingPasses others → HasRisingPasses (put_rank r others)
 put-rises r [] h = (tt, tt)
 put-rises r (other ∷ others) h = by_test (is_up_to r other) refl (put-rises r others h.1)
   where
@@ -133,7 +133,7 @@ beyond-place (r ∷ others) (suc place) d l h = beyond-place others place d (ome
 abbrev pub IsWonRank : ℕ → ℕ → Rank → Type 0
 IsWonRank inputs pass r = (r.input < inputs) × (pass ≤ r.pass) × (r.pass ≤ pass + greatest_stride)
 
-all-drop : (P : Rank → Type 0) (n : ℕ) (ranks : List Rank) → AllByRecursion P ranks → AllByRecursion P (drop n ranks)
+pub all-drop : (P : Rank → Type 0) (n : ℕ) (ranks : List Rank) → AllByRecursion P ranks → AllByRecursion P (drop n ranks)
 all-drop P n ranks h = grind (arith, common_steps)
 
 all-two : (P Q : Rank → Type 0) (ranks : List Rank) → AllByRecursion P ranks → AllByRecursion Q ranks → AllByRecursion (λ r. P r × Q r) ranks

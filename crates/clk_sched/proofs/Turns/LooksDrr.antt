@@ -107,10 +107,10 @@ looks-at-idle gives a c q x d later passed fit is idle logs settles =
     (looks-at-asked gives a a c q q x d later None passed (idle-there gives a q x d.cursor idle) is (keeps-more a a 0 _ (keeps-none a fit) (omega arith)) (asks-queue a x d.cursor idle.leaf None idle.stands)
     (queue-answers gives a q q x d.cursor idle.leaf None idle.stands idle.gives_none) logs settles)
 
--- An input that was asked in vain and holds no head was looked at.
-pub looks-at-vain : {S : Type 0} (gives : S → ℕ → Option Packet → S → Type 0) (a c : Nodes) (q r : S) (x : ℕ) (d later : Deficits) → IsHead d None → HasAsked gives a c q r x d.cursor None → Settles d later None false
+-- An input that holds no head, was asked, and gave nothing, was looked at.
+pub looks-at-none : {S : Type 0} (gives : S → ℕ → Option Packet → S → Type 0) (a c : Nodes) (q r : S) (x : ℕ) (d later : Deficits) → IsHead d None → HasAsked gives a c q r x d.cursor None → Settles d later None false
     → LooksAt gives a c q r x d later None false
-looks-at-vain gives a c q r x d later is asked settles =
+looks-at-none gives a c q r x d later is asked settles =
     let v = looking a x d.cursor None true false in
     record {
       keeps = asked.keeps;

@@ -1,5 +1,5 @@
 -- The ranks of a StrideSched's inputs, and what a pull does to them.
-use Rattle.std.specs.Prelude.{◌≡◌, ℕ, zero, suc, ◌+◌, ◌-◌, ◌<◌, ◌≤◌, ◌==◌, ◌&&◌, ◌||◌, Bool, true, nat_lt, nat_le, List, [], ◌∷◌, map, length, ⊤, if◌then◌else◌}
+use Rattle.std.specs.Prelude.{◌≡◌, ℕ, zero, suc, ◌+◌, ◌-◌, ◌<◌, ◌≤◌, ◌==◌, ◌&&◌, ◌||◌, Bool, true, nat_lt, nat_le, List, [], ◌∷◌, map, length, ⊤, slice_get, Some, if◌then◌else◌}
 use Rattle.std.specs.List.{AllByRecursion, AllByRecursion-prop, range_with_len}
 use Rattle.std.specs.Coded.{×_prop, Unit-prop, le_prop}
 use Rattle.clk_sched.specs.declared.session.stride.Rank.{Rank}
@@ -84,6 +84,10 @@ less least r = at_pass (r.pass - least) r
 -- ranks after a pull: the least pass, which is the first, is subtracted from all
 abbrev pub from_least : List Rank → List Rank
 from_least ranks = map (less (first_pass ranks)) ranks
+
+-- The row after a pull that the rank at a place won, with its stride.
+abbrev pub IsRowWon : ℕ → ℕ → List Rank → List Rank → Type 0
+IsRowWon place stride row after = (winner : Rank) → slice_get row place ≡ Some winner → after ≡ from_least (after_win winner.pass stride place row)
 
 -- the rank of an input before the first pull
 abbrev pub first_rank : ℕ → Rank

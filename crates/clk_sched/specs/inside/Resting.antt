@@ -15,7 +15,7 @@ use Rattle.clk_sched.specs.Log.{asking}
 use Rattle.clk_sched.specs.inside.Holds.Shaper.{tokens_at}
 use Rattle.clk_sched.specs.inside.Logged.{with_visits}
 use Rattle.clk_sched.specs.inside.Places.{input_at}
-use Rattle.clk_sched.specs.inside.Pulling.{Now, now_of}
+use Rattle.clk_sched.specs.inside.Pulling.{Now}
 use Rattle.clk_sched.specs.inside.Ranks.{inputs_in}
 
 -- A DRRSched holds no head, and at its cursor the deficit is the quantum.
@@ -82,7 +82,3 @@ AreAtRest states x after = (y : ℕ) → x ≤ y → y ≤ x + after → IfSome 
 -- these nodes, with some more visits
 abbrev pub with_block : Nodes → List Visit → Nodes
 with_block a visits = record { inputs = a.inputs; states = a.states; log = with_visits a.log visits; pull = a.pull; moment = a.moment }
-
--- these nodes, with the visits of a pull of node x that gets nothing
-abbrev pub with_resting : Nodes → ℕ → Nodes
-with_resting a x = with_block a (resting_block (length a.inputs.items) a.inputs.items a.states.items (now_of a) x)

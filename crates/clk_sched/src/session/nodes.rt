@@ -104,11 +104,6 @@ impl Nodes {
             place = self.pass_resting_of(q, node, order);
         }
         while place < order.len() {
-            let idle = self.pass_idle_of(q, node, &order[place..]);
-            if idle > 0 {
-                place += idle;
-                continue;
-            }
             if let Some(packet) = self.look(q, node, order[place].input) {
                 return Some((place, packet));
             }

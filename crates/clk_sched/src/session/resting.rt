@@ -39,7 +39,8 @@ impl Nodes {
         count
     }
 
-    /// Skips inputs of a node in this order, as `pass_resting` does. Queues in a row are skipped together here.
+    /// Skips inputs of a node in this order, from the first on, as `pass_resting` does. Queues in a row are skipped together here, also where
+    /// visits are kept.
     #[inline(never)]
     pub fn pass_resting_of<Q: Ask>(&mut self, q: &Q, node: u16, order: &[Rank]) -> usize
         requires can_pull { CanPull self.old node (edges_in self.old.inputs.items node (inputs_in order.now)) }
@@ -48,14 +49,17 @@ impl Nodes {
         ensures within { result ≤ length order.now }
         ensures asked { HasAskedAll Q.gives self.old self.new q.now q.now node (take result (inputs_in order.now)) None }
     {
-        let idle = self.pass_idle_of(q, node, order);
-        if idle > 0 {
-            return idle;
-        }
-        for place in 0..order.len() {
+        let mut place = 0;
+        while place < order.len() {
+            let idle = self.pass_idle_of(q, node, &order[place..]);
+            if idle > 0 {
+                place += idle;
+                continue;
+            }
             if !self.skip(q, node, order[place].input) {
                 return place;
             }
+            place += 1;
         }
         order.len()
     }

@@ -4,7 +4,7 @@ ghost use Rattle.std.specs.Prelude.{◌≡◌, ◌≤◌, ◌<◌, ◌+◌, ◌^
 ghost use Rattle.std.specs.List.{All, AllByRecursion, range_with_len};
 ghost use Rattle.clk_packet.specs.Limits.{most_inputs, most_tickets};
 ghost use Rattle.clk_sched.specs.Laws.Stride.{stride_of};
-ghost use Rattle.clk_sched.specs.inside.Ranks.{greatest_stride, IsRankOf, FollowOneAnother, HasRisingPasses, HasRisingPasses-prop, AreInOrder, AreUpTo, is_up_to, put_rank, put_all, at_pass, after_win, first_pass, from_least, less, first_rank};
+ghost use Rattle.clk_sched.specs.inside.Ranks.{greatest_stride, IsRankOf, FollowOneAnother, HasRisingPasses, HasRisingPasses-prop, AreInOrder, AreUpTo, is_up_to, put_rank, put_all, at_pass, after_win, first_pass, from_least, less, first_rank, IsRowWon};
 
 use crate::ask::Ask;
 use crate::session::nodes::Nodes;
@@ -33,6 +33,14 @@ impl Rank {
         ensures { result ≡ is_up_to self other.now }
     {
         self.pass < other.pass || (self.pass == other.pass && self.input <= other.input)
+    }
+
+    /// The same input with a pass that is less by so much.
+    fn less(self, least: u32) -> Rank
+        requires { least ≤ self.pass }
+        ensures { result ≡ less least self }
+    {
+        self.at_pass(self.pass - least)
     }
 
     /// The same input with another pass.
@@ -106,12 +114,8 @@ impl Passes {
     {
         self.vain = place > 0;
         let row = self.row.as_mut_slice();
-        let winner = row[place];
-        let stride = self.strides[usize::from(winner.input)];
-        // The winner and those after it lose its pass. Those before it, which had none, get pass 0: that of the winner, subtracted.
-        subtract(&mut row[place..], winner.pass);
-        place_visited(row, place, stride);
-        subtract_least(row);
+        let stride = self.strides[usize::from(row[place].input)];
+        win_at(row, place, stride);
     }
 
     ghost use Rattle.clk_sched.specs.inside.Places.{edges_of};
@@ -226,6 +230,68 @@ fn strides_of(alloc: Global, tickets: &[u32]) -> Result<SmallVec<u32, 4>, AllocE
         strides.push(GREATEST_STRIDE / count)?;
     }
     Ok(strides)
+}
+
+/// The row after a pull that the rank at this place won. Its pass grows by its stride, and those before it, which had no packet, get the pass
+/// that it had.
+#[inline]
+fn win_at(row: &mut [Rank], place: usize, stride: u32)
+    requires place { place < length row.old }
+    requires fits { stride ≤ greatest_stride }
+    requires order { AreInOrder row.old }
+    requires least { first_pass row.old ≡ 0 }
+    ensures { IsRowWon place stride row.old row.new }
+{
+    if place == 0 && row.len() <= AT_ONCE {
+        win_first(row, stride);
+    } else {
+        win_behind(row, place, stride);
+    }
+}
+
+/// The row after a pull that the first rank won, whose pass is 0.
+// One walk moves those that then stand before it, and subtracts the least pass from each.
+#[inline(never)]
+fn win_first(row: &mut [Rank], stride: u32)
+    requires some { 0 < length row.old }
+    requires rising { HasRisingPasses row.old }
+    ensures { row.new ≡ from_least (after_win 0 stride 0 row.old) }
+{
+    let winner = row[0].at_pass(stride);
+    let least = least_of(winner, &row[1..]);
+    let mut place = 0;
+    while place + 1 < row.len() && !winner.is_up_to(&row[place + 1]) {
+        row[place] = row[place + 1].less(least);
+        place += 1;
+    }
+    row[place] = winner.less(least);
+    subtract(&mut row[place + 1..], least);
+}
+
+/// The row after a pull that the rank at this place won, wherever it stands.
+#[inline(never)]
+fn win_behind(row: &mut [Rank], place: usize, stride: u32)
+    requires place { place < length row.old }
+    requires fits { stride ≤ greatest_stride }
+    requires order { AreInOrder row.old }
+    ensures { IsRowWon place stride row.old row.new }
+{
+    let pass = row[place].pass;
+    // The winner and those after it lose its pass. Those before it, which had none, get pass 0: that of the winner, subtracted.
+    subtract(&mut row[place..], pass);
+    place_visited(row, place, stride);
+    subtract_least(row);
+}
+
+/// The least pass of this rank and of others that are in rising order.
+#[inline]
+fn least_of(rank: Rank, others: &[Rank]) -> u32
+    ensures { result ≡ first_pass (put_rank rank others.now) }
+{
+    match others {
+        [next, ..] if !rank.is_up_to(next) => next.pass,
+        _ => rank.pass,
+    }
 }
 
 /// Puts the winner, whose pass is 0 and grows by its stride, in its new place, and then those before it. These had no packet, and get the

@@ -59,35 +59,12 @@ nodes::Nodes::ask-returns-in-Node-clause-asks g t c =
     let input : input_at table c.args.node c.args.input ≡ Some (Node c.in-Node.child) = input-is table c.args.node c.args.input c.index.result.now c.index-2.result.now place c.requires.within c.index-2.ensures ∙ ap Some c.in-Node.is in
     asks-child c.args.self.now c.pull.new.self c.args.node c.args.input c.in-Node.child c.pull.result input c.pull.ensures.pulls
 
-pub nodes::Nodes::ask_in_order-pass_idle_of-idle-requires : goal.nodes::Nodes::ask_in_order-pass_idle_of-idle-requires
-nodes::Nodes::ask_in_order-pass_idle_of-idle-requires g t c =
-    let k = c.loop-place.place in
-    let now = c.loop-place.self in
-    let rest = rest-can g.Q.Ask.gives c.args.self.now now c.args.q.now c.loop-place.q c.args.node k (inputs_in c.args.order.now) c.requires.can_pull c.requires.within c.loop-place.invariant.1 in
-    let after = sym (inputs-after c.args.order.now k) in
-    record {
-      can_pull = subst (λ l. CanPull now c.args.node (edges_in now.inputs.items c.args.node l)) after rest.0;
-      within = subst (AllByRecursion (λ i. IsSome (input_at now.inputs.items c.args.node i))) after rest.1;
-      order = subst AreInOrder (sym (after-place c.args.order.now k)) (in_order-after k c.args.order.now c.requires.order);
-    }
-
-pub nodes::Nodes::ask_in_order-loop-place-preserved-then-idle-gt0 : goal.nodes::Nodes::ask_in_order-loop-place-preserved-then-idle-gt0
-nodes::Nodes::ask_in_order-loop-place-preserved-then-idle-gt0 g t c =
-    let k = c.loop-place.place in
-    let n = c.pass_idle_of-idle.result in
-    let within = c.pass_idle_of-idle.ensures.within in
-    let size = ap length (after-place c.args.order.now k) ∙ length-drop k c.args.order.now in (
-      omega (arith, within, size),
-      asking-past g.Q.Ask.gives c.args.self.now c.loop-place.self c.pass_idle_of-idle.new.self c.args.q.now c.loop-place.q c.args.node k n (inputs_in c.args.order.now) c.loop-place.invariant.1
-          (subst (λ l. HasAskedAll g.Q.Ask.gives c.loop-place.self c.pass_idle_of-idle.new.self c.loop-place.q c.loop-place.q c.args.node (take n l) None) (inputs-after c.args.order.now k) c.pass_idle_of-idle.ensures.asked),
-    )
-
 pub nodes::Nodes::ask_in_order-look-requires : goal.nodes::Nodes::ask_in_order-look-requires
 nodes::Nodes::ask_in_order-look-requires g t c =
     let k = c.loop-place.place in
-    let now = c.pass_idle_of-idle.new.self in
+    let now = c.loop-place.self in
     let test = c.loop-place-test.true in
-    let h = asking-still g.Q.Ask.gives c.args.self.now c.loop-place.self now c.args.q.now c.loop-place.q c.args.node k c.pass_idle_of-idle.result c.args.order.now (omega arith) c.loop-place.invariant.1 c.pass_idle_of-idle.ensures.asked in
+    let h = c.loop-place.invariant.1 in
     let ready = asking-ready g.Q.Ask.gives c.args.self.now now c.args.q.now c.loop-place.q c.args.node k (rank_at c.args.order.now k).input (inputs_in c.args.order.now) c.requires.can_pull c.requires.within h (subst (λ n. k < n) (sym (length-map c.args.order.now (λ (r : Rank). r.input))) test) (entry-input c.args.order.now k test) in
     let same = ap length h.keeps.inputs in
     let less = c.decreases in
@@ -97,21 +74,18 @@ pub nodes::Nodes::ask_in_order-returns-in-Some-clause-asked : goal.nodes::Nodes:
 nodes::Nodes::ask_in_order-returns-in-Some-clause-asked g t c =
     let order = inputs_in c.args.order.now in
     let k = c.loop-place.place in
-    let now = c.pass_idle_of-idle.new.self in
-    let h = asking-still g.Q.Ask.gives c.args.self.now c.loop-place.self now c.args.q.now c.loop-place.q c.args.node k c.pass_idle_of-idle.result c.args.order.now (omega arith) c.loop-place.invariant.1 c.pass_idle_of-idle.ensures.asked in
-    asking-given g.Q.Ask.gives c.args.self.now now c.look.new.self c.args.q.now c.loop-place.q c.look.new.q c.args.node k (rank_at c.args.order.now k).input c.look.result c.in-Some.packet order (subst (λ n. k < n) (sym (length-map c.args.order.now (λ (r : Rank). r.input))) c.loop-place-test.true) h (entry-input c.args.order.now k c.loop-place-test.true) c.in-Some.is c.look.ensures
+    asking-given g.Q.Ask.gives c.args.self.now c.loop-place.self c.look.new.self c.args.q.now c.loop-place.q c.look.new.q c.args.node k (rank_at c.args.order.now k).input c.look.result c.in-Some.packet order (subst (λ n. k < n) (sym (length-map c.args.order.now (λ (r : Rank). r.input))) c.loop-place-test.true) c.loop-place.invariant.1 (entry-input c.args.order.now k c.loop-place-test.true) c.in-Some.is c.look.ensures
 
 -- what was asked once an input gave nothing
-order-vain : {S : Type 0} (gives : S → ℕ → Option Packet → S → Type 0) (a b n c : Nodes) (p q r : S) (x k idle : ℕ) (order : List Rank) (got : Option Packet) → k < length order → idle ≡ 0 → IsAsking gives a b p q x (take k (inputs_in order))
-    → HasAskedAll gives b n q q x (take idle (inputs_in (take (length order - k) (drop k order)))) None → got ≡ None → HasAsked gives n c q r x (rank_at order k).input got → IsAsking gives a c p r x (take (k + 1) (inputs_in order))
-order-vain gives a b n c p q r x k idle order got below none h past vain asked =
-    asking-next gives a n c p q r x k (rank_at order k).input got (inputs_in order) (subst (λ m. k < m) (sym (length-map order (λ (s : Rank). s.input))) below) (asking-still gives a b n p q x k idle order none h past) (entry-input order k below) vain asked
+order-none : {S : Type 0} (gives : S → ℕ → Option Packet → S → Type 0) (a b c : Nodes) (p q r : S) (x k : ℕ) (order : List Rank) (got : Option Packet) → k < length order → IsAsking gives a b p q x (take k (inputs_in order))
+    → got ≡ None → HasAsked gives b c q r x (rank_at order k).input got → IsAsking gives a c p r x (take (k + 1) (inputs_in order))
+order-none gives a b c p q r x k order got below h none asked =
+    asking-next gives a b c p q r x k (rank_at order k).input got (inputs_in order) (subst (λ m. k < m) (sym (length-map order (λ (s : Rank). s.input))) below) h (entry-input order k below) none asked
 
 pub nodes::Nodes::ask_in_order-pass_resting_of-place-requires-in-loop-place : goal.nodes::Nodes::ask_in_order-pass_resting_of-place-requires-in-loop-place
 nodes::Nodes::ask_in_order-pass_resting_of-place-requires-in-loop-place g t c =
     let k = c.loop-place.place in
-    let h = order-vain g.Q.Ask.gives c.args.self.now c.loop-place.self c.pass_idle_of-idle.new.self c.look.new.self c.args.q.now c.loop-place.q c.look.new.q c.args.node k c.pass_idle_of-idle.result c.args.order.now c.look.result c.loop-place-test.true (omega arith)
-    c.loop-place.invariant.1 c.pass_idle_of-idle.ensures.asked c.in_default.is c.look.ensures in
+    let h = order-none g.Q.Ask.gives c.args.self.now c.loop-place.self c.look.new.self c.args.q.now c.loop-place.q c.look.new.q c.args.node k c.args.order.now c.look.result c.loop-place-test.true c.loop-place.invariant.1 c.in_default.is c.look.ensures in
     let rest = rest-can g.Q.Ask.gives c.args.self.now c.look.new.self c.args.q.now c.look.new.q c.args.node (k + 1) (inputs_in c.args.order.now) c.requires.can_pull c.requires.within h in
     let after = sym (inputs-after c.args.order.now (k + 1)) in
     record {
@@ -138,8 +112,7 @@ nodes::Nodes::ask_in_order-loop-place-preserved g t c =
     let within = c.pass_resting_of-place-in-loop-place.ensures.within in
     let size = ap length (after-place c.args.order.now (k + 1)) ∙ length-drop (k + 1) c.args.order.now in
     let test = c.loop-place-test.true in
-    let h = order-vain g.Q.Ask.gives c.args.self.now c.loop-place.self c.pass_idle_of-idle.new.self c.look.new.self c.args.q.now c.loop-place.q c.look.new.q c.args.node k c.pass_idle_of-idle.result c.args.order.now c.look.result test (omega arith)
-    c.loop-place.invariant.1 c.pass_idle_of-idle.ensures.asked c.in_default.is c.look.ensures in (
+    let h = order-none g.Q.Ask.gives c.args.self.now c.loop-place.self c.look.new.self c.args.q.now c.loop-place.q c.look.new.q c.args.node k c.args.order.now c.look.result test c.loop-place.invariant.1 c.in_default.is c.look.ensures in (
       omega (arith, test, within, size),
       asking-past g.Q.Ask.gives c.args.self.now c.look.new.self c.pass_resting_of-place-in-loop-place.new.self c.args.q.now c.look.new.q c.args.node (k + 1) n (inputs_in c.args.order.now) h
           (subst (λ l. HasAskedAll g.Q.Ask.gives c.look.new.self c.pass_resting_of-place-in-loop-place.new.self c.look.new.q c.look.new.q c.args.node (take n l) None) (inputs-after c.args.order.now (k + 1)) c.pass_resting_of-place-in-loop-place.ensures.asked),

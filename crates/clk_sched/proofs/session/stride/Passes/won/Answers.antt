@@ -1,50 +1,36 @@
-use Rattle.std.proofs.lemmas.Grind.{common_steps}
-use Rattle.std.proofs.Common.{rules, ◌<◌, ◌+◌, ◌∙◌, List, length, take, drop, get_or, refl, sym, ap, subst, arith}
+use Rattle.std.proofs.Common.{rules, ◌≡◌, ℕ, ◌<◌, ◌∙◌, List, length, get_or, refl, sym, ap, subst}
 use Rattle.std.specs.List.{All}
 use Rattle.std.proofs.lemmas.List.Elements.{All-from_recursion, recursion_from_All}
+use Rattle.std.proofs.lemmas.Option.{slice_get-get_or}
 use Rattle.smallvec.proofs.SmallVecLemmas.{items-with_items}
 use Rattle.clk_sched.specs.declared.session.stride.Rank.{Rank}
-use Rattle.clk_sched.specs.inside.Ranks.{IsRankOf, HasRisingPasses, AreInOrder, AreUpTo, after_win, first_pass, from_least}
+use Rattle.clk_sched.specs.inside.Ranks.{IsRankOf, HasRisingPasses, IsRowWon, after_win, first_pass, from_least}
 use Rattle.clk_sched.proofs.Classes.RankLemmas.{win-from, least-none, win-kept, win-kept_rising}
-use Rattle.clk_sched.proofs.Classes.RankLess.{taken, taken-slice, none-lower}
 use Rattle.clk_sched.proofs.Classes.StridePasses.{passes-won}
-use Rattle.clk_sched.proofs.Nodes.Asked.{rank_at}
 use Rattle.clk_sched.proofs.session.stride.Passes.won.Goals as goal
 
 -- the default of a place that there is
 abbrev blank : Rank
 blank = record { pass = 0; input = 0 }
 
-pub subtract-requires : goal.subtract-requires
-subtract-requires c = search (rules, none-lower)
-
-pub place_visited-requires : goal.place_visited-requires
-place_visited-requires c =
-    let row = c.as_mut_slice-row.result.now in
-    let same = c.as_mut_slice-row.ensures.value in
-    let place = c.args.place in
-    let pass = (rank_at row place).pass in
-    let all = taken pass 0 place row blank (subst (λ (xs : List Rank). place < length xs) (sym same) c.requires.place) refl (subst AreInOrder (sym same) c.requires.order) in
-    let is = sym (taken-slice pass place row c.subtract.new.ranks c.subtract.ensures) in
-    record { place = subst (λ (xs : List Rank). place < length xs) is all.within; fits = search rules; front = subst (λ (xs : List Rank). AreInOrder (take place xs)) is all.front; back = subst (λ (xs : List Rank). AreUpTo (drop (place + 1) xs)) is all.back }
-
-pub subtract_least-requires-clause-least : goal.subtract_least-requires-clause-least
-subtract_least-requires-clause-least c = grind (arith, common_steps, taken, taken-slice)
+-- the new row, in words of the row and the strides
+won-is : (row now ranks : List Rank) (strides read : List ℕ) (place input : ℕ) → now ≡ row → read ≡ strides → input ≡ (get_or now place blank).input → place < length row → IsRowWon place (get_or read input 0) now ranks
+    → ranks ≡ from_least (after_win (get_or row place blank).pass (get_or strides (get_or row place blank).input 0) place row)
+won-is row now ranks strides read place input same as_read from l won =
+    won (get_or now place blank) (slice_get-get_or now place blank (subst (λ (xs : List Rank). place < length xs) (sym same) l))
+    ∙ ap from_least (win-from row now strides read place input blank _ same as_read from refl)
 
 pub invariant_of-self : goal.invariant_of-self
 invariant_of-self c =
     let row = c.args.self.now.row.items in
-    let now = c.as_mut_slice-row.result.now in
-    let same = c.as_mut_slice-row.ensures.value in
     let place = c.args.place in
     let winner = get_or row place blank in
-    let stride = get_or c.args.self.now.strides.items winner.input 0 in
-    let inputs = length c.args.self.now.strides.items in
-    let all = taken (rank_at now place).pass (get_or c.deref.result.now c.from.result 0) place now blank (subst (λ (xs : List Rank). place < length xs) (sym same) c.requires.place) refl (subst AreInOrder (sym same) c.requires.order) in
-    let won = win-from row now c.args.self.now.strides.items c.deref.result.now place c.from.result blank _ same c.deref.ensures c.from.ensures refl in
+    let strides = c.args.self.now.strides.items in
+    let stride = get_or strides winner.input 0 in
+    let inputs = length strides in
     let is =
-    items-with_items c.args.self.now.row c.subtract_least.new.row (search rules) ∙ c.subtract_least.ensures
-    ∙ ap from_least (c.place_visited.ensures ∙ ap (after_win 0 (get_or c.deref.result.now c.from.result 0) place) (taken-slice (rank_at now place).pass place now c.subtract.new.ranks c.subtract.ensures)) ∙ all.same ∙ ap from_least won
+    items-with_items c.args.self.now.row c.win_at.new.row (search rules)
+    ∙ won-is row c.as_mut_slice-row.result.now c.win_at.new.row strides c.deref.result.now place c.from.result c.as_mut_slice-row.ensures.value c.deref.ensures c.from.ensures c.requires.place c.win_at.ensures
     in
     let rises = c.args.self.now.rising in
     let ranked = recursion_from_All (IsRankOf inputs) row c.args.self.now.ranks in
@@ -59,4 +45,13 @@ invariant_of-self c =
     }
 
 pub returns-clause-holds : goal.returns-clause-holds
-returns-clause-holds c tickets turns t holds visits gives = grind (arith, common_steps, taken, win-from, items-with_items, taken-slice, passes-won)
+returns-clause-holds c tickets turns t holds visits gives =
+    let row = c.args.self.now.row.items in
+    let place = c.args.place in
+    let winner = get_or row place blank in
+    let strides = c.args.self.now.strides.items in
+    let is =
+    items-with_items c.args.self.now.row c.win_at.new.row (search rules)
+    ∙ won-is row c.as_mut_slice-row.result.now c.win_at.new.row strides c.deref.result.now place c.from.result c.as_mut_slice-row.ensures.value c.deref.ensures c.from.ensures c.requires.place c.win_at.ensures
+    in
+    passes-won tickets turns t c.args.self.now _ place blank holds c.requires.place c.args.self.now.rising visits gives winner.pass (get_or strides winner.input 0) refl refl is refl
