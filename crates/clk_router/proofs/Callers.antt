@@ -6,4 +6,3 @@ pub mod Apart
 pub mod Plans
 pub mod Keyed
 pub mod Chains
-pub mod Offers

@@ -1,2 +1,0 @@
--- How many packets a sender has offered.
-pub use Rattle.clk_router.proofs.Settled.Numbers.{offered-count}
