@@ -5,7 +5,7 @@ use clk_syntax::Symbol;
 
 /// The places between the tokens of a statement, by what was read last.
 #[derive(Clone, Copy, Debug, PartialEq, Eq)]
-pub enum Spot {
+pub enum Gap {
     /// Nothing of a statement.
     Start,
     /// The first name of a declaration or a chain.
@@ -44,40 +44,38 @@ pub enum Spot {
     NextName,
 }
 
-impl Spot {
+impl Gap {
     ghost use Rattle.std.specs.Prelude.{◌≡◌, option_map};
     ghost use Rattle.clk_syntax.specs.Diagram.{after};
     ghost use Rattle.clk_explain.specs.inside.Diagram.{in_diagram};
 
     /// The place after one more token, if it can stand there.
-    fn after(self, symbol: Symbol) -> Option<Spot>
+    fn after(self, symbol: Symbol) -> Option<Gap>
         ensures { option_map in_diagram result ≡ after (in_diagram self) symbol }
     {
         match (self, symbol) {
-            (Spot::Start, Symbol::Name) => Some(Spot::FirstName),
-            (Spot::Start, Symbol::Semicolon) => Some(Spot::Start),
-            (Spot::FirstName | Spot::FurtherName, Symbol::Comma) => Some(Spot::Comma),
-            (Spot::FirstName | Spot::FurtherName, Symbol::Declares) => Some(Spot::Declares),
-            (Spot::FirstName | Spot::NextName, Symbol::OpenPort) => Some(Spot::OutputOpened),
-            (Spot::FirstName | Spot::NextName | Spot::OutputClosed, Symbol::LeadsTo) => {
-                Some(Spot::LeadsTo)
+            (Gap::Start, Symbol::Name) => Some(Gap::FirstName),
+            (Gap::Start, Symbol::Semicolon) => Some(Gap::Start),
+            (Gap::FirstName | Gap::FurtherName, Symbol::Comma) => Some(Gap::Comma),
+            (Gap::FirstName | Gap::FurtherName, Symbol::Declares) => Some(Gap::Declares),
+            (Gap::FirstName | Gap::NextName, Symbol::OpenPort) => Some(Gap::OutputOpened),
+            (Gap::FirstName | Gap::NextName | Gap::OutputClosed, Symbol::LeadsTo) => {
+                Some(Gap::LeadsTo)
             }
-            (Spot::Comma, Symbol::Name) => Some(Spot::FurtherName),
-            (Spot::Declares, Symbol::Name) => Some(Spot::Class),
-            (Spot::Class, Symbol::OpenArguments) => Some(Spot::Opened),
-            (
-                Spot::Opened | Spot::ArgumentComma,
-                Symbol::Name | Symbol::Number | Symbol::OtherWord,
-            ) => Some(Spot::Argument),
-            (Spot::Opened | Spot::Argument, Symbol::CloseArguments) => Some(Spot::Closed),
-            (Spot::Argument, Symbol::Comma) => Some(Spot::ArgumentComma),
-            (Spot::Class | Spot::Closed | Spot::NextName, Symbol::Semicolon) => Some(Spot::Start),
-            (Spot::OutputOpened, Symbol::Number) => Some(Spot::OutputNumber),
-            (Spot::OutputNumber, Symbol::ClosePort) => Some(Spot::OutputClosed),
-            (Spot::LeadsTo, Symbol::OpenPort) => Some(Spot::InputOpened),
-            (Spot::InputOpened, Symbol::Number) => Some(Spot::InputNumber),
-            (Spot::InputNumber, Symbol::ClosePort) => Some(Spot::InputClosed),
-            (Spot::LeadsTo | Spot::InputClosed, Symbol::Name) => Some(Spot::NextName),
+            (Gap::Comma, Symbol::Name) => Some(Gap::FurtherName),
+            (Gap::Declares, Symbol::Name) => Some(Gap::Class),
+            (Gap::Class, Symbol::OpenArguments) => Some(Gap::Opened),
+            (Gap::Opened | Gap::ArgumentComma, Symbol::Name | Symbol::Number | Symbol::OtherWord) =>
+                Some(Gap::Argument),
+            (Gap::Opened | Gap::Argument, Symbol::CloseArguments) => Some(Gap::Closed),
+            (Gap::Argument, Symbol::Comma) => Some(Gap::ArgumentComma),
+            (Gap::Class | Gap::Closed | Gap::NextName, Symbol::Semicolon) => Some(Gap::Start),
+            (Gap::OutputOpened, Symbol::Number) => Some(Gap::OutputNumber),
+            (Gap::OutputNumber, Symbol::ClosePort) => Some(Gap::OutputClosed),
+            (Gap::LeadsTo, Symbol::OpenPort) => Some(Gap::InputOpened),
+            (Gap::InputOpened, Symbol::Number) => Some(Gap::InputNumber),
+            (Gap::InputNumber, Symbol::ClosePort) => Some(Gap::InputClosed),
+            (Gap::LeadsTo | Gap::InputClosed, Symbol::Name) => Some(Gap::NextName),
             _ => None,
         }
     }
@@ -85,20 +83,20 @@ impl Spot {
     /// What can stand here, in words.
     pub fn expected(self) -> &'static str {
         match self {
-            Spot::Start | Spot::Comma | Spot::InputClosed => "a name",
-            Spot::FirstName => "'::', ',', '->' or '['",
-            Spot::FurtherName => "'::' or ','",
-            Spot::Declares => "a class",
-            Spot::Class => "'(' or ';'",
-            Spot::Opened => "a word, a number or ')'",
-            Spot::Argument => "',' or ')'",
-            Spot::ArgumentComma => "a word or a number",
-            Spot::Closed => "';'",
-            Spot::OutputOpened | Spot::InputOpened => "a number",
-            Spot::OutputNumber | Spot::InputNumber => "']'",
-            Spot::OutputClosed => "'->'",
-            Spot::LeadsTo => "a name or '['",
-            Spot::NextName => "';', '->' or '['",
+            Gap::Start | Gap::Comma | Gap::InputClosed => "a name",
+            Gap::FirstName => "'::', ',', '->' or '['",
+            Gap::FurtherName => "'::' or ','",
+            Gap::Declares => "a class",
+            Gap::Class => "'(' or ';'",
+            Gap::Opened => "a word, a number or ')'",
+            Gap::Argument => "',' or ')'",
+            Gap::ArgumentComma => "a word or a number",
+            Gap::Closed => "';'",
+            Gap::OutputOpened | Gap::InputOpened => "a number",
+            Gap::OutputNumber | Gap::InputNumber => "']'",
+            Gap::OutputClosed => "'->'",
+            Gap::LeadsTo => "a name or '['",
+            Gap::NextName => "';', '->' or '['",
         }
     }
 }
@@ -107,7 +105,7 @@ impl Spot {
 #[derive(Clone, Copy)]
 pub struct Context {
     /// Where it stands in a statement.
-    pub spot: Spot,
+    pub spot: Gap,
     /// The token before it.
     pub before: Option<Found>,
 }
@@ -115,7 +113,7 @@ pub struct Context {
 /// What stands before an offset of a text, as far as the text keeps to the grammar.
 pub fn context_of(text: &[u8], offset: usize) -> Context {
     let mut context = Context {
-        spot: Spot::Start,
+        spot: Gap::Start,
         before: None,
     };
     let mut place = 0;

@@ -14,7 +14,7 @@ struct Mistake {
 
 /// A word of a line, and where it begins.
 #[derive(Clone, Copy)]
-struct Word<'a> {
+struct LineWord<'a> {
     start: usize,
     letters: &'a [u8],
 }
@@ -192,11 +192,11 @@ fn front(text: &[u8], len: Option<usize>) -> &[u8] {
 }
 
 /// The word that begins at a place of a line, or behind it after blanks. It is empty at the end of the line.
-fn word_from(row: &[u8], place: usize) -> Word<'_> {
+fn word_from(row: &[u8], place: usize) -> LineWord<'_> {
     let rest = row.get(place..).unwrap_or(&[]);
     let gap = front(rest, rest.iter().position(|byte| !is_blank(*byte))).len();
     let rest = rest.get(gap..).unwrap_or(&[]);
-    Word {
+    LineWord {
         start: place.saturating_add(gap),
         letters: front(rest, rest.iter().position(|byte| is_blank(*byte))),
     }
@@ -257,7 +257,7 @@ fn mistake_in_line(row: &[u8], is_drained: bool) -> Mistake {
 }
 
 /// What is wrong with the numbers behind a command.
-fn mistake_in_numbers(row: &[u8], command: Word<'_>, fields: &[Field]) -> Mistake {
+fn mistake_in_numbers(row: &[u8], command: LineWord<'_>, fields: &[Field]) -> Mistake {
     let mut last = command;
     for field in fields {
         let word = word_from(row, end_of(last));
@@ -302,7 +302,7 @@ fn mistake_in_record(row: &[u8]) -> Mistake {
     }
     let comma = end_of(sender);
     if comma >= row.len() {
-        let end = Word {
+        let end = LineWord {
             start: comma,
             letters: &[],
         };
@@ -316,7 +316,7 @@ fn mistake_in_record(row: &[u8]) -> Mistake {
     if !is_in(length, LENGTH) {
         return no_number(length, LENGTH);
     }
-    let end = Word {
+    let end = LineWord {
         start: end_of(length),
         letters: &[],
     };
@@ -328,21 +328,21 @@ fn mistake_in_record(row: &[u8]) -> Mistake {
 }
 
 /// The field of a record that begins at a place of its line.
-fn field_from(row: &[u8], place: usize) -> Word<'_> {
+fn field_from(row: &[u8], place: usize) -> LineWord<'_> {
     let rest = row.get(place..).unwrap_or(&[]);
-    Word {
+    LineWord {
         start: place,
         letters: front(rest, rest.iter().position(|byte| *byte == b',')),
     }
 }
 
 /// Where a word ends.
-fn end_of(word: Word<'_>) -> usize {
+fn end_of(word: LineWord<'_>) -> usize {
     word.start.saturating_add(word.letters.len())
 }
 
 /// A mistake at a word.
-fn at(word: Word<'_>, wrong: Words, expected: Words) -> Mistake {
+fn at(word: LineWord<'_>, wrong: Words, expected: Words) -> Mistake {
     Mistake {
         place: word.start,
         wrong,
@@ -351,12 +351,12 @@ fn at(word: Word<'_>, wrong: Words, expected: Words) -> Mistake {
 }
 
 /// Whether a word is a number that a field may have. No field may have more than the last moment.
-fn is_in(word: Word<'_>, field: Field) -> bool {
+fn is_in(word: LineWord<'_>, field: Field) -> bool {
     number_in(word.letters, field.least, field.most.min(MAX_MOMENT)).is_some()
 }
 
 /// A word is not the number that stands there.
-fn no_number(word: Word<'_>, field: Field) -> Mistake {
+fn no_number(word: LineWord<'_>, field: Field) -> Mistake {
     at(
         word,
         Words::of("")
@@ -368,12 +368,12 @@ fn no_number(word: Word<'_>, field: Field) -> Mistake {
 }
 
 /// Whether a word is the number of a sender.
-fn is_sender(word: Word<'_>, sender: u16) -> bool {
+fn is_sender(word: LineWord<'_>, sender: u16) -> bool {
     number_in(word.letters, 0, MAX_SENDER) == Some(u64::from(sender))
 }
 
 /// A word is the number of a sender that the tree doesn't have.
-fn no_sender(word: Word<'_>) -> Mistake {
+fn no_sender(word: LineWord<'_>) -> Mistake {
     at(
         word,
         Words::of("the tree has no sender ").and_quoted(word.letters),

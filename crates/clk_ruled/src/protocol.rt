@@ -6,9 +6,9 @@ use crossbeam_queue::protocol::{Join, Lesson, Outcome, Protocol, Split};
 use std::marker::{Brand, PhantomData};
 
 /// The protocol of a shared queue: every step keeps its account.
-pub struct Account;
+pub struct QueueAccount;
 
-impl Protocol<Packet, View> for Account {
+impl Protocol<Packet, View> for QueueAccount {
     ghost use Rattle.clk_ruled.specs.Rule.{Keeps};
     ghost use Rattle.clk_ruled.specs.inside.Rule.{blank_view};
 

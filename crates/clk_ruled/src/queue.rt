@@ -1,12 +1,12 @@
 //! A bounded queue of packets that threads share without a lock.
 
-use crate::protocol::Account;
+use crate::protocol::QueueAccount;
 use crate::view::View;
 use clk_packet::{Kind, Packet};
 use crossbeam_queue::RuledArrayQueue;
 use std::marker::Model;
 
-pub(crate) type Line = RuledArrayQueue<Packet, View, Account>;
+pub(crate) type Line = RuledArrayQueue<Packet, View, QueueAccount>;
 
 /// A queue of packets, first in, first out, that holds no more than its capacity. Seats offer it packets and a tap pulls them, each from a
 /// thread of its own. Its kind says what it does with a packet that arrives when it is full.

@@ -5,7 +5,7 @@ ghost use Rattle.std.specs.List.{flat_map};
 ghost use Rattle.clk_script.specs.declared.held.TheConstants.{MOST, ROOM};
 ghost use Rattle.clk_packet.specs.Bytes.{Wrote};
 ghost use Rattle.clk_script.specs.Record.{command_text};
-ghost use Rattle.clk_script.specs.inside.Lines.{Passes};
+ghost use Rattle.clk_script.specs.inside.Lines.{PassesOn};
 
 use crate::script::Command;
 use crate::text::{COMMAND_ROOM, put_command};
@@ -58,7 +58,7 @@ impl HeldCommands {
     /// taken a front of these lines.
     #[inline(always)]
     pub fn add<W: Sink>(&mut self, command: Command, writer: &mut W) -> Result<(), Fault>
-        ensures { Passes (W.Sink.taken writer.old) (W.Sink.taken writer.new)
+        ensures { PassesOn (W.Sink.taken writer.old) (W.Sink.taken writer.new)
             (W.Sink.failures writer.old) (W.Sink.failures writer.new) result self.old (command_text command) self.new }
     {
         if self.len < MOST {

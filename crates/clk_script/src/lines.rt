@@ -3,7 +3,7 @@
 ghost use Rattle.std.specs.Prelude.{◌≡◌, ◌+◌, ◌≤◌, ◌++◌, [], length, OnOk};
 ghost use Rattle.clk_script.specs.declared.lines.TheConstants.{ROOM};
 ghost use Rattle.clk_packet.specs.Bytes.{Wrote};
-ghost use Rattle.clk_script.specs.inside.Lines.{Passes};
+ghost use Rattle.clk_script.specs.inside.Lines.{PassesOn};
 
 use clk_packet::{Fault, Sink, write_all};
 use std::marker::Model;
@@ -44,7 +44,7 @@ impl LineBuffer {
     /// front of the two.
     #[inline(always)]
     pub fn add<W: Sink>(&mut self, line: &[u8], writer: &mut W) -> Result<(), Fault>
-        ensures { Passes (W.Sink.taken writer.old) (W.Sink.taken writer.new)
+        ensures { PassesOn (W.Sink.taken writer.old) (W.Sink.taken writer.new)
             (W.Sink.failures writer.old) (W.Sink.failures writer.new) result self.old line.now self.new }
     {
         if line.len() <= ROOM - self.len {

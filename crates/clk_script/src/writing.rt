@@ -5,7 +5,7 @@ ghost use Rattle.std.specs.List.{flat_map};
 ghost use Rattle.clk_packet.specs.Bytes.{Wrote};
 ghost use Rattle.clk_report.specs.Devices.{lists_of};
 ghost use Rattle.clk_script.specs.Meaning.{offer_text};
-ghost use Rattle.clk_script.specs.inside.Lines.{Passes};
+ghost use Rattle.clk_script.specs.inside.Lines.{PassesOn};
 ghost use Rattle.clk_script.specs.inside.Rows.{offered_as, fronts_left, row_text, rows_text, given_of, given_after, fronts_after, closings_text, answer_text};
 ghost use Rattle.clk_script.specs.inside.ScriptRouter.{departure_text};
 
@@ -70,7 +70,7 @@ fn write_rows<W: Sink>(
     put_out: &[Packet],
     writer: &mut W,
 ) -> Result<(), Fault>
-    ensures { Passes (W.Sink.taken writer.old) (W.Sink.taken writer.new)
+    ensures { PassesOn (W.Sink.taken writer.old) (W.Sink.taken writer.new)
         (W.Sink.failures writer.old) (W.Sink.failures writer.new) result
         lines.old (rows_text several rows.now emitted.now put_out.now) lines.new }
 {
@@ -170,7 +170,7 @@ fn write_closings<W: Sink>(
     writer: &mut W,
 ) -> Result<(), Fault>
     requires { device + length closings.now ≤ MAX_DEVICES }
-    ensures { Passes (W.Sink.taken writer.old) (W.Sink.taken writer.new)
+    ensures { PassesOn (W.Sink.taken writer.old) (W.Sink.taken writer.new)
         (W.Sink.failures writer.old) (W.Sink.failures writer.new) result
         lines.old (closings_text several device (lists_of closings.now)) lines.new }
 {
@@ -189,7 +189,7 @@ fn write_departures<W: Sink>(
     departures: &[Departure],
     writer: &mut W,
 ) -> Result<(), Fault>
-    ensures { Passes (W.Sink.taken writer.old) (W.Sink.taken writer.new)
+    ensures { PassesOn (W.Sink.taken writer.old) (W.Sink.taken writer.new)
         (W.Sink.failures writer.old) (W.Sink.failures writer.new) result
         lines.old (flat_map (departure_text several device) departures.now) lines.new }
 {

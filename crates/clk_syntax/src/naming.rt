@@ -61,7 +61,7 @@ pub fn name_all(alloc: Global, text: &[u8], statements: &Statements) -> Result<N
     check_classes(text, &statements.declarations)?;
     let judged = judge_all(alloc, text, &statements.declarations)?;
     let links = links_of(alloc, text, &names, &statements.connections)?;
-    let Judged {
+    let JudgedElements {
         classes,
         nodes,
         senders: _,
@@ -135,7 +135,7 @@ fn check_classes(text: &[u8], declarations: &[Declaration]) -> Result<(), Fault>
 
 /// What is known of the elements of some declarations.
 #[derive(Drop)]
-struct Judged {
+struct JudgedElements {
     /// The class of each declaration.
     classes: Vec<Class>,
     nodes: Vec<Node>,
@@ -144,7 +144,11 @@ struct Judged {
 }
 
 /// Classes and nodes of all declarations. Fault 4 at the first whose arguments don't fit, and fault 1 if an allocation fails.
-fn judge_all(alloc: Global, text: &[u8], declarations: &[Declaration]) -> Result<Judged, Fault>
+fn judge_all(
+    alloc: Global,
+    text: &[u8],
+    declarations: &[Declaration],
+) -> Result<JudgedElements, Fault>
     requires within { AllByRecursion (IsDeclaredWithin (length text.now)) (map kept declarations.now) }
     requires named { AllByRecursion IsNamed (map kept declarations.now) }
     requires few { words_in (map kept declarations.now) ≤ most_tree_bytes }
@@ -156,7 +160,7 @@ fn judge_all(alloc: Global, text: &[u8], declarations: &[Declaration]) -> Result
         × (length judged.nodes.items ≡ length all))
         (Stops (option_map BadArgument (bad_argument all))) }
 {
-    let mut judged = Judged {
+    let mut judged = JudgedElements {
         classes: Vec::with_capacity(alloc, declarations.len())?,
         nodes: Vec::with_capacity(alloc, declarations.len())?,
         senders: Numbers::new(alloc)?,
@@ -167,7 +171,7 @@ fn judge_all(alloc: Global, text: &[u8], declarations: &[Declaration]) -> Result
     Ok(judged)
 }
 
-impl Judged {
+impl JudgedElements {
     /// Adds the elements of a declaration. Fault 4 if its arguments don't fit, and fault 1 if an allocation fails.
     fn judge(&mut self, alloc: Global, text: &[u8], declaration: &Declaration) -> Result<(), Fault>
         requires within { IsDeclaredWithin (length text.now) (kept declaration.now) }

@@ -110,7 +110,7 @@ pub fn run_threads<R: Threads + Wait, W: Wait + Sync, G: Gate + Sync>(
     queues: &[Vec<LeafQueue>],
     seats: Vec<Vec<Vec<Seat>>>,
     ends: Vec<Ends>,
-) -> Result<Sent, Fault>
+) -> Result<Returned, Fault>
     requires unused { FitPlaces (AreAllUnused terms.now) seats.items queues.now }
     requires unpulled { FitPlaces IsUnpulledOver ends.items queues.now }
     ensures sent { IfOk result (λ sent. AllZip (HasDeviceSent terms.now) seats.items sent.devices.items) }
@@ -127,7 +127,7 @@ pub fn run_threads<R: Threads + Wait, W: Wait + Sync, G: Gate + Sync>(
     thread::scope(
         thread::scope_env(),
         rt,
-        move |scope| -> Result<Sent, Fault>
+        move |scope| -> Result<Returned, Fault>
             requires { AreLeft left.terms.now left.lent.now left.devices left.queues left.seats × FitPlaces IsUnpulledOver ends.items left.lent.now }
             ensures { IfOk result (λ sent. AllZip (HasDeviceSent left.entry.terms.now) left.entry.devices.items sent.devices.items × HavePulled left.entry.terms.now ends.items sent.ends.items left.entry.lent.now) × IsOkUnless result Fault.Memory }
         { send_and_pull(rt, scope, alloc, left, ends) },
@@ -148,7 +148,7 @@ pub struct Left<'a, W: Wait, G: Gate> {
 
 /// What the threads of a run return: the seats, closed, as they stood in `Left`, and for each device its session and taps.
 #[derive(Drop)]
-pub struct Sent {
+pub struct Returned {
     pub devices: Vec<Vec<Vec<ClosedSeat>>>,
     pub queues: Vec<Vec<ClosedSeat>>,
     pub seats: Vec<ClosedSeat>,
@@ -163,7 +163,7 @@ fn send_and_pull<'s, E, R: Threads, W: Wait + Sync, G: Gate + Sync>(
     alloc: Global,
     left: Left<'s, W, G>,
     ends: Vec<Ends>,
-) -> Result<Sent, Fault>
+) -> Result<Returned, Fault>
     requires left { AreLeft left.terms.now left.lent.now left.devices left.queues left.seats }
     requires unpulled { FitPlaces IsUnpulledOver ends.items left.lent.now }
     ensures devices { IfOk result (λ sent. AllZip (HasDeviceSent left.entry.terms.now) left.entry.devices.items sent.devices.items) }
@@ -196,7 +196,7 @@ fn send_and_pull<'s, E, R: Threads, W: Wait + Sync, G: Gate + Sync>(
         sent.devices.push(its_queues)?;
         return Ok(sent);
     }
-    Ok(Sent {
+    Ok(Returned {
         devices: Vec::new(alloc),
         queues: Vec::new(alloc),
         seats: Vec::new(alloc),

@@ -1,9 +1,9 @@
 -- The places of the syntax diagram, as the code names them.
 use Rattle.clk_syntax.specs.Diagram.{Place, start, first_name, comma, further_name, declares, class, opened, argument, argument_comma, closed, output_opened, output_number, output_closed, leads_to, input_opened, input_number, input_closed, next_name}
-use Rattle.clk_explain.specs.declared.diagram.Spot.{Spot}
-use Rattle.clk_explain.specs.declared.diagram.Spot.TheVariants as spot
+use Rattle.clk_explain.specs.declared.diagram.Gap.{Gap}
+use Rattle.clk_explain.specs.declared.diagram.Gap.TheVariants as spot
 
-abbrev pub in_diagram : Spot → Place
+abbrev pub in_diagram : Gap → Place
 in_diagram spot.Start = start
 in_diagram spot.FirstName = first_name
 in_diagram spot.Comma = comma

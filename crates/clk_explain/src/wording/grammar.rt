@@ -1,6 +1,6 @@
 //! What is wrong where a text breaks the grammar.
 
-use crate::diagram::{Context, Spot, context_of};
+use crate::diagram::{Context, Gap, context_of};
 use crate::mentions::{Found, letters, token_from};
 use crate::words::Words;
 use clk_syntax::Symbol;
@@ -96,16 +96,16 @@ fn feature_at(text: &[u8], context: &Context, token: Found) -> Option<Feature> {
         };
     }
     match context.spot {
-        Spot::FirstName => feature_after_name(text, context, token.symbol),
-        Spot::NextName => match token.symbol {
+        Gap::FirstName => feature_after_name(text, context, token.symbol),
+        Gap::NextName => match token.symbol {
             Symbol::OpenArguments | Symbol::Declares => Some(Feature::Inline),
             _ => None,
         },
-        Spot::Class | Spot::Closed => match token.symbol {
+        Gap::Class | Gap::Closed => match token.symbol {
             Symbol::LeadsTo | Symbol::OpenPort => Some(Feature::DeclaredChain),
             _ => None,
         },
-        Spot::Argument => match token.symbol {
+        Gap::Argument => match token.symbol {
             Symbol::Name | Symbol::Number | Symbol::OtherWord => Some(Feature::Keyword),
             _ => None,
         },

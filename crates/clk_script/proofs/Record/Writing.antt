@@ -11,7 +11,7 @@ use Rattle.clk_script.specs.declared.script.Command.{Command}
 use Rattle.clk_script.specs.declared.writer.ScriptWriter.{ScriptWriter}
 use Rattle.clk_script.specs.Record.{command_text, drain_text, record_text}
 use Rattle.clk_script.specs.Records.{Records}
-use Rattle.clk_script.specs.inside.Lines.{Passes}
+use Rattle.clk_script.specs.inside.Lines.{PassesOn}
 use Rattle.clk_script.proofs.PassLemmas.{front-after}
 use Rattle.clk_script.proofs.Callers.Records.{command-more, drain-more}
 
@@ -26,7 +26,7 @@ module _ (start old : Option (List ℕ)) (commands : List Command) (writer : Scr
     pub split : record_text commands None ++ text ≡ written ++ holds
     pub appends : Appends start new written
 
-  passed-on : (new : Option (List ℕ)) (f g : ℕ) (text holds : List ℕ) → Passes old new f g (Ok tt) writer.held text holds → HasPassedOn new text holds
+  passed-on : (new : Option (List ℕ)) (f g : ℕ) (text holds : List ℕ) → PassesOn old new f g (Ok tt) writer.held text holds → HasPassedOn new text holds
   passed-on new f g text holds p =
       record {
         written = its.written ++ p.passed.0;
@@ -39,7 +39,7 @@ module _ (start old : Option (List ℕ)) (commands : List Command) (writer : Scr
 
 -- A line more was recorded.
 pub records-more : (start old new : Option (List ℕ)) (f g : ℕ) (commands : List Command) (command : Command) (writer after : ScriptWriter) → Records start old commands writer
-    → Passes old new f g (Ok tt) writer.held (command_text command) after.held → after.lines ≡ writer.lines + 1 → Records start new (commands ++ command ∷ []) after
+    → PassesOn old new f g (Ok tt) writer.held (command_text command) after.held → after.lines ≡ writer.lines + 1 → Records start new (commands ++ command ∷ []) after
 records-more start old new f g commands command writer after its p counted =
     let has = passed-on start old commands writer its new f g (command_text command) after.held p in
     record {
@@ -51,7 +51,7 @@ records-more start old new f g commands command writer after its p counted =
 
 -- Its line was cut short.
 pub records-cut : (start old new : Option (List ℕ)) (f g : ℕ) (fault : Fault) (commands : List Command) (command : Command) (writer : ScriptWriter) (holds : List ℕ) → Records start old commands writer
-    → Passes old new f g (Err fault) writer.held (command_text command) holds → AppendsFront start new (record_text (commands ++ command ∷ []) None)
+    → PassesOn old new f g (Err fault) writer.held (command_text command) holds → AppendsFront start new (record_text (commands ++ command ∷ []) None)
 records-cut start old new f g fault commands command writer holds its p =
     subst (AppendsFront start new) (sym (command-more commands command)) (cut-short start old commands writer its new (command_text command) p.front)
 

@@ -4,7 +4,7 @@ use Rattle.std.specs.List.{list_any}
 use Rattle.std.proofs.lemmas.Bool.Decides.{nat_tests}
 use Rattle.std.proofs.lemmas.List.{map-append, length-map}
 use Rattle.clk_syntax.specs.declared.naming.class.Class as declared
-use Rattle.clk_syntax.specs.declared.naming.Judged.{Judged}
+use Rattle.clk_syntax.specs.declared.naming.JudgedElements.{JudgedElements}
 use Rattle.clk_syntax.specs.declared.texts.token.Token.{Token}
 use Rattle.clk_syntax.specs.Classes.{Class, sender, class_named, class_view, role_of, is_class}
 use Rattle.clk_syntax.specs.Source.{Declared, Element, letters, element, elements}
@@ -94,18 +94,18 @@ may_stand-same : (f g : ℕ → Bool) (class : Class) (l : ℕ) → ((n : ℕ) �
 may_stand-same f g class l same = search rules
 
 -- a declaration whose class isn't there, or doesn't take its arguments
-pub Judges-missing : (text : List ℕ) (all left : List Declared) (d : Declared) (judged : Judged) → class_in text d ≡ None → 0 < length d.names → Judges text all (d ∷ left) judged
+pub Judges-missing : (text : List ℕ) (all left : List Declared) (d : Declared) (judged : JudgedElements) → class_in text d ≡ None → 0 < length d.names → Judges text all (d ∷ left) judged
     → bad_argument (elements text all) ≡ Some d.class.place
 Judges-missing text all left d judged e some h = h.bad ∙ first-fails text d.class d.arguments d.names h.earlier (elements text left) some (ap (is_bad_after h.earlier) e)
 
 -- and one of a Sender that may not stand
-pub Judges-fails : (text : List ℕ) (all left : List Declared) (d : Declared) (judged : Judged) (class : Class) → class_in text d ≡ Some class → 0 < length d.names
+pub Judges-fails : (text : List ℕ) (all left : List Declared) (d : Declared) (judged : JudgedElements) (class : Class) → class_in text d ≡ Some class → 0 < length d.names
     → may_stand (has_number judged.senders) class (length d.names) ≡ false → Judges text all (d ∷ left) judged → bad_argument (elements text all) ≡ Some d.class.place
 Judges-fails text all left d judged class e some may h =
     h.bad ∙ fails text d.class d.arguments d.names class h.earlier (elements text left) e some (may_stand-same (λ n. among n h.earlier) (has_number judged.senders) class (length d.names) (λ n. sym (h.taken n)) ∙ may)
 
 -- one declaration more
-pub Judges-more : (text : List ℕ) (all left : List Declared) (d : Declared) (old new : Judged) (class : declared.Class) → class_in text d ≡ Some (class_view class) → 0 < length d.names
+pub Judges-more : (text : List ℕ) (all left : List Declared) (d : Declared) (old new : JudgedElements) (class : declared.Class) → class_in text d ≡ Some (class_view class) → 0 < length d.names
     → may_stand (has_number old.senders) (class_view class) (length d.names) ≡ true
     → ((n : ℕ) → has_number new.senders n ≡ (is_sender n (Some (class_view class)) || has_number old.senders n))
     → new.classes.items ≡ old.classes.items ++ class ∷ []

@@ -13,7 +13,7 @@ use Rattle.clk_syntax.specs.Declarations.{class_in, first_after, fails_at, is_de
 use Rattle.clk_syntax.specs.Classes.{is_class, Class, sender}
 use Rattle.clk_syntax.specs.declared.naming.class.Role.{Role}
 use Rattle.clk_syntax.specs.declared.naming.names.DeclaredNames.{DeclaredNames}
-use Rattle.clk_syntax.specs.declared.naming.Judged.{Judged}
+use Rattle.clk_syntax.specs.declared.naming.JudgedElements.{JudgedElements}
 use Rattle.clk_syntax.specs.declared.node.Link.{Link}
 use Rattle.clk_syntax.specs.declared.node.Node.{Node}
 use Rattle.clk_syntax.specs.declared.texts.token.Token.{Token}
@@ -96,7 +96,7 @@ bad_at earlier e = fails_at (is_bad_after earlier (class_of e)) e.class.place
 
 -- What is known of all declarations but those that are left: their elements' arguments fit, these are their classes and nodes, and these
 -- the numbers of the Senders among them.
-pub record Judges (text : List ℕ) (all left : List Declared) (judged : Judged) : Type 0 where
+pub record Judges (text : List ℕ) (all left : List Declared) (judged : JudgedElements) : Type 0 where
   pub earlier : List Element
   pub bad : bad_argument (elements text all) ≡ first_after bad_at earlier (elements text left)
   pub taken : (n : ℕ) → has_number judged.senders n ≡ list_any (λ e. is_sender n (class_of e)) earlier

@@ -6,7 +6,7 @@ use Rattle.clk_report.specs.Devices.{lists_of}
 use Rattle.clk_script.specs.AccountLines.{account_line}
 use Rattle.clk_script.specs.Meaning.{has_several}
 use Rattle.clk_script.specs.inside.Rows.{given_of, rows_text, closings_text, closings_of, ending_of}
-use Rattle.clk_script.proofs.PassLemmas.{Passes-then, Wrote-passed, Wrote-front}
+use Rattle.clk_script.proofs.PassLemmas.{PassesOn-then, Wrote-passed, Wrote-front}
 use Rattle.clk_script.proofs.writing.write_answer.Goals as goal
 
 pub returns-in_err-write_rows : goal.returns-in_err-write_rows
@@ -35,7 +35,7 @@ returns-in_err-write_closings g c =
     let p = err_from_is_err_and c.from_residual-in_err-write_closings.result c.from_residual-in_err-write_closings.ensures.1 in
     let passed = rw (c.new-lines.ensures, c.deref.ensures.value, c.deref-2.ensures.value, c.given_of.ensures, c.devices-several.ensures.count) at c.in_ok-write_rows.ensures in
     let failed = rw (c.deref-3.ensures.value, c.devices-several.ensures.count) at c.in_err-write_closings.ensures in
-    let all = Passes-then _ _ _ _ _ _ _ _ _ rows _ closings _ passed failed in
+    let all = PassesOn-then _ _ _ _ _ _ _ _ _ rows _ closings _ passed failed in
     rw (p.1, p.2, c.in-Some.is, sym (append_assoc rows closings report)) (Wrote-front _ _ _ _ _ (rows ++ closings) report _ all)
 
 pub returns-in_err-write : goal.returns-in_err-write
@@ -48,7 +48,7 @@ returns-in_err-write g c =
     let p = err_from_is_err_and c.from_residual-in_err-write.result c.from_residual-in_err-write.ensures.1 in
     let passed = rw (c.new-lines.ensures, c.deref.ensures.value, c.deref-2.ensures.value, c.given_of.ensures, c.devices-several.ensures.count) at c.in_ok-write_rows.ensures in
     let more = rw (c.deref-3.ensures.value, c.devices-several.ensures.count) at c.in_ok-write_closings.ensures in
-    let all = Passes-then _ _ _ _ _ _ _ _ _ rows _ closings _ passed more in
+    let all = PassesOn-then _ _ _ _ _ _ _ _ _ rows _ closings _ passed more in
     rw (p.1, p.2, c.in-Some.is, sym (append_assoc rows closings report)) (Wrote-cut _ _ _ _ _ (rows ++ closings) report (Wrote-passed _ _ _ _ _ _ _ _ [] (rows ++ closings) _ all c.in_err-write.ensures.wrote))
 
 pub returns : goal.returns
@@ -60,6 +60,6 @@ returns g c =
     let report = flat_map account_line done.accounts.items in
     let passed = rw (c.new-lines.ensures, c.deref.ensures.value, c.deref-2.ensures.value, c.given_of.ensures, c.devices-several.ensures.count) at c.in_ok-write_rows.ensures in
     let more = rw (c.deref-3.ensures.value, c.devices-several.ensures.count) at c.in_ok-write_closings.ensures in
-    let all = Passes-then _ _ _ _ _ _ _ _ _ rows _ closings _ passed more in
+    let all = PassesOn-then _ _ _ _ _ _ _ _ _ rows _ closings _ passed more in
     let reported = rw c.deref-4.ensures.value at c.write_accounts.ensures in
     rw (c.in-Some.is, sym (append_assoc rows closings report)) (Wrote-then _ _ _ _ _ _ _ _ (rows ++ closings) report (Wrote-passed _ _ _ _ _ _ _ _ [] (rows ++ closings) _ all c.in_ok-write.ensures.wrote) reported)

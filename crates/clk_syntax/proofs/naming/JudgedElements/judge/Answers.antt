@@ -11,7 +11,7 @@ use Rattle.clk_syntax.specs.Declarations.{class_in}
 use Rattle.clk_syntax.specs.inside.Naming.{may_stand, node_at}
 use Rattle.clk_syntax.proofs.Elements.JudgeLemmas.{Judges-missing, Judges-fails, Judges-more}
 use Rattle.clk_syntax.proofs.Elements.WidthLemmas.{width-in}
-use Rattle.clk_syntax.proofs.naming.Judged.judge.Goals as goal
+use Rattle.clk_syntax.proofs.naming.JudgedElements.judge.Goals as goal
 
 -- the names as the code sees them, and their role
 nodes-by : {role known : Role} {names items : List Token} (nodes : List Node) → names ≡ items → role ≡ known → nodes ++ map (node_at role) names ≡ nodes ++ map (node_at known) items
