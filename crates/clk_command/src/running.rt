@@ -52,10 +52,11 @@ pub fn run_trace<H: Threads + Wait, P: Wait + Sync, R: Source, W: Sink>(
     // At most one byte past the limit is read.
     ensures limit { Takes (most_trace_bytes + 1) (R.Source.remaining trace.old) (R.Source.remaining trace.new) }
 {
+    let traces = Traces::read_csv(alloc, trace)?;
+    // Once the text of the trace is freed, so that the system has its memory back.
     if !visits {
         keep_freed(alloc);
     }
-    let traces = Traces::read_csv(alloc, trace)?;
     let outcome = run_with(
         rt, alloc, wait, plan, &traces, pace.step, pace.limit, &Free, visits,
     )?;
