@@ -2,6 +2,7 @@
  *
  *     ours PACKETS        prints a line for each tree: its name, one by one, in bursts of 32, and these with a pointer of the caller's
  *     ours --memory PACKETS   passes so many through a router of each tree, and prints the peak memory before and after
+ *     ours --one-by-one TREE PACKETS, ours --bursts TREE PACKETS   passes so many through a router of one tree, by its number from 0
  *
  * Busy queues hold 32 packets, and stay so: a packet that was pulled is offered again by the same sender. */
 #include "clickpull.h"
@@ -160,10 +161,27 @@ static void memory(const struct tree *tree, uint64_t packets) {
     clk_close(&bench.router);
 }
 
+/* Passes packets through a router of one tree, for what counts instructions. */
+static void pass(const char *way, unsigned long tree, uint64_t packets) {
+    static struct bench bench;
+    if (tree >= TREE_COUNT)
+        stop("there is no such tree");
+    begin(&bench, &TREES[tree]);
+    if (strcmp(way, "--bursts") == 0)
+        in_bursts(&bench, packets);
+    else
+        one_by_one(&bench, packets);
+    clk_close(&bench.router);
+}
+
 int main(int argc, char **argv) {
+    if (argc == 4) {
+        pass(argv[1], strtoul(argv[2], NULL, 10), strtoull(argv[3], NULL, 10));
+        return 0;
+    }
     int of_memory = argc == 3 && strcmp(argv[1], "--memory") == 0;
     if (argc != 2 && !of_memory)
-        stop("usage: ours [--memory] PACKETS");
+        stop("usage: ours [--memory] PACKETS, or ours --one-by-one|--bursts TREE PACKETS");
     uint64_t packets = strtoull(argv[argc - 1], NULL, 10);
     for (int i = 0; i < TREE_COUNT; i++) {
         // Memory is that of the greatest tree of all.
