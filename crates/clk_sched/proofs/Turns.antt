@@ -2,6 +2,7 @@
 pub mod TurnPrio
 pub mod TurnRoundRobin
 pub mod TurnStride
+pub mod StrideAsks
 pub mod TurnShaper
 pub mod ShaperRow
 pub mod LooksDrr

@@ -18,3 +18,4 @@ pub mod Resting
 pub mod Session
 pub mod Tokens
 pub mod Turning
+pub mod Winning

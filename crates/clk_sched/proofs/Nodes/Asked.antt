@@ -1,5 +1,5 @@
 -- A node that asks one of its inputs.
-use Rattle.std.proofs.Common.{◌≡◌, ◌⊎◌, ℕ, suc, ◌+◌, ◌<◌, ◌≤◌, true, List, length, get_or, slice_get, slice_index, Option, Some, None, IsSome, is_some, inl, inr, refl, sym, ap, ◌∙◌, arith, rules}
+use Rattle.std.proofs.Common.{◌≡◌, ◌⊎◌, ℕ, suc, ◌+◌, ◌-◌, ◌<◌, ◌≤◌, true, List, length, get_or, slice_get, slice_index, Option, Some, None, IsSome, is_some, inl, inr, refl, sym, ap, ◌∙◌, arith, rules}
 use Rattle.std.proofs.lemmas.Bool.{false≢true}
 use Rattle.std.proofs.lemmas.Option.{slice_get-get_or, get_or_from_slice_get, slice_get-map}
 use Rattle.clk_packet.specs.declared.packet.Packet.{Packet}
@@ -11,13 +11,13 @@ use Rattle.clk_sched.specs.declared.session.inputs.Inputs.{Inputs}
 use Rattle.clk_sched.specs.declared.session.stride.Rank.{Rank}
 use Rattle.clk_sched.specs.Tree.{Row, nodes}
 use Rattle.clk_sched.specs.inside.Places.{inputs_of, StandsIn, AreWired, IsAfter, edges_of, edges_at, option_edges_to, input_at, option_input, queue_of, queue_asked}
-use Rattle.clk_sched.specs.inside.Pulling.{CanPull, Pulls, Asks, HasPulled, added, now_of, after}
+use Rattle.clk_sched.specs.inside.Pulling.{CanPull, Keeps, Pulls, Asks, HasPulled, added, now_of, after}
 use Rattle.clk_sched.specs.inside.Ranks.{inputs_in}
 use Rattle.clk_sched.proofs.Lists.Members.{of-all, in-slice, some-below}
 use Rattle.clk_sched.proofs.Trees.Below.{lies-within}
 use Rattle.clk_sched.proofs.Nodes.Below.{IsChildAt, child-at, queue-at}
 use Rattle.clk_sched.proofs.Nodes.Pulling.{pulling-asks, pulling-before}
-use Rattle.clk_sched.proofs.Nodes.Asking.{added-none}
+use Rattle.clk_sched.proofs.Nodes.Asking.{added-none, keeps-more, keeps-ahead}
 
 pub entry : {X : Type 0} (xs : List X) (i : ℕ) (x : X) → i < length xs → x ≡ get_or xs i x → slice_get xs i ≡ Some x
 entry xs i x l e = slice_get-get_or xs i x l ∙ ap Some (sym e)
@@ -45,6 +45,10 @@ child-can a x i child can e =
     let after = child-after a.inputs.items x i child can.wired e in
     let edges = edges-scheduler a.inputs.items x i child e in
     let room = can.room in (after.0, record { wired = can.wired; fit = can.fit; there = after.1; room = omega (arith, edges, room); moment = can.moment })
+
+-- What stays while a scheduler at an input is pulled stays for the node above it.
+pub keeps-child : (a b : Nodes) (x i child : ℕ) → input_at a.inputs.items x i ≡ Some (Node child) → x < child → Keeps child a b (edges_of a.inputs.items child) → Keeps (suc x) a b (edges_at a.inputs.items x i - 1)
+keeps-child a b x i child e after h = let edges = edges-scheduler a.inputs.items x i child e in keeps-ahead child (suc x) a b _ (keeps-more a b _ _ h (omega (arith, edges))) after
 
 -- the queue that a visit asks at an input
 pub queue-visited : (table : List Inputs) (x i : ℕ) (input : Input) (v : Visit) → input_at table x i ≡ Some input → v.node ≡ x → v.input ≡ i → v.fresh ≡ true → queue_asked table v ≡ queue_of (Some input)

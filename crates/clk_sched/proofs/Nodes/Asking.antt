@@ -24,25 +24,30 @@ pub added-is : (a b : Nodes) (more : List Visit) → b.log.items ≡ a.log.items
 added-is a b more e = ap (drop (length a.log.items)) e ∙ drop-append_seam a.log.items more
 
 -- Steps that keep what stays, one after another.
-grown-then : (a b c : Nodes) (m n : ℕ) → Keeps a b m → Keeps b c n → c.log.items ≡ a.log.items ++ (added a b ++ added b c)
+grown-then : {f g : ℕ} (a b c : Nodes) (m n : ℕ) → Keeps f a b m → Keeps g b c n → c.log.items ≡ a.log.items ++ (added a b ++ added b c)
 grown-then a b c m n h k = k.grown ∙ ap (λ l. l ++ added b c) h.grown ∙ append_assoc a.log.items (added a b) (added b c)
 
-pub added-then : (a b c : Nodes) (m n : ℕ) → Keeps a b m → Keeps b c n → added a c ≡ added a b ++ added b c
+pub added-then : {f g : ℕ} (a b c : Nodes) (m n : ℕ) → Keeps f a b m → Keeps g b c n → added a c ≡ added a b ++ added b c
 added-then a b c m n h k = added-is a c (added a b ++ added b c) (grown-then a b c m n h k)
 
-pub keeps-then : (a b c : Nodes) (m n : ℕ) → Keeps a b m → Keeps b c n → Keeps a c (m + n)
+pub keeps-then : {f : ℕ} (a b c : Nodes) (m n : ℕ) → Keeps f a b m → Keeps f b c n → Keeps f a c (m + n)
 keeps-then a b c m n h k = grind (arith, common_steps, grown-then, added-then)
 
-pub keeps-more : (a b : Nodes) (m n : ℕ) → Keeps a b m → m ≤ n → Keeps a b n
+pub keeps-more : {f : ℕ} (a b : Nodes) (m n : ℕ) → Keeps f a b m → m ≤ n → Keeps f a b n
 keeps-more a b m n h l = search rules
+
+-- Fewer nodes are known to stay.
+pub keeps-ahead : (f g : ℕ) (a b : Nodes) (m : ℕ) → Keeps f a b m → g ≤ f → Keeps g a b m
+keeps-ahead f g a b m h l =
+    record { inputs = h.inputs; pull = h.pull; moment = h.moment; fit = h.fit; ahead = λ y k. h.ahead y (omega (arith, l, k)); kind = h.kind; grown = h.grown; at_most = h.at_most }
 
 pub added-none : (a : Nodes) → added a a ≡ []
 added-none a = added-is a a [] (sym (append-nil a.log.items))
 
-pub keeps-none : (a : Nodes) → AllFit a.inputs.items a.states.items → Keeps a a 0
+pub keeps-none : {f : ℕ} (a : Nodes) → AllFit a.inputs.items a.states.items → Keeps f a a 0
 keeps-none a fit = search (rules, append-nil, added-none)
 
-pub can-go_on : (a b : Nodes) (x m n : ℕ) → CanPull a x (m + n) → Keeps a b m → CanPull b x n
+pub can-go_on : {f : ℕ} (a b : Nodes) (x m n : ℕ) → CanPull a x (m + n) → Keeps f a b m → CanPull b x n
 can-go_on a b x m n can h =
     record {
       wired = subst AreWired (sym h.inputs) can.wired;
@@ -52,7 +57,7 @@ can-go_on a b x m n can h =
       moment = let r = can.moment in let e = h.moment in omega (arith, e);
     }
 
-pub same-now : (a b : Nodes) (m : ℕ) → Keeps a b m → now_of b ≡ now_of a
+pub same-now : {f : ℕ} (a b : Nodes) (m : ℕ) → Keeps f a b m → now_of b ≡ now_of a
 same-now a b m h = ap₂ (λ n t. record { number = n; moment = t }) h.pull h.moment
 
 pub answers-then : {S : Type 0} (gives : S → ℕ → Option Packet → S → Type 0) (asked : Visit → Option ℕ) (xs ys : List Visit) (a b c : S) → Answers gives asked a xs b → Answers gives asked b ys c
@@ -78,7 +83,7 @@ apart-split (i ∷ one) other h =
     ((parts.0, rest.0), rest.1, (parts.1, rest.2))
 
 -- some inputs are asked, and then some others
-pub asks-then : (a b c : Nodes) (m n x : ℕ) (one other : List ℕ) (first second : List Visit) → Keeps a b m → Keeps b c n → AllByRecursion (λ (v : Visit). In v.input one) first
+pub asks-then : {f g : ℕ} (a b c : Nodes) (m n x : ℕ) (one other : List ℕ) (first second : List Visit) → Keeps f a b m → Keeps g b c n → AllByRecursion (λ (v : Visit). In v.input one) first
     → AsksAll a b x one first → AsksAll b c x other second → AsksAll a c x (one ++ other) (first ++ second)
 asks-then a b c m n x one other first second h k theirs f s row history visits own going unasked apart =
     let parts = all-split (IsUnasked own) one other unasked in
@@ -114,7 +119,7 @@ pub asks-none : (a : Nodes) (x : ℕ) → AsksAll a a x [] []
 asks-none a x row history visits own going unasked apart = search (rules, added-none, append-nil)
 
 -- an input is asked, and the visit logged
-pub asks-one : (a b c : Nodes) (m x i : ℕ) (got : Option Packet) → Keeps a b m → c.log.items ≡ b.log.items ++ asking a.pull a.moment x i got ∷ [] → c.states.items ≡ b.states.items → Asks a b x i got
+pub asks-one : {f : ℕ} (a b c : Nodes) (m x i : ℕ) (got : Option Packet) → Keeps f a b m → c.log.items ≡ b.log.items ++ asking a.pull a.moment x i got ∷ [] → c.states.items ≡ b.states.items → Asks a b x i got
     → AsksAll a c x (i ∷ []) (asking a.pull a.moment x i got ∷ [])
 asks-one a b c m x i got h log states f row history visits own going unasked apart =
     let v = asking a.pull a.moment x i got in
@@ -132,7 +137,7 @@ vain-in now x order = all-map (λ (v : Visit). In v.input order) (λ i. asking n
 
 -- a node asked some inputs and got nothing
 pub record IsAsking {S : Type 0} (gives : S → ℕ → Option Packet → S → Type 0) (old new : Nodes) (before now : S) (x : ℕ) (order : List ℕ) : Type 0 where
-  pub keeps : Keeps old new (edges_in old.inputs.items x order)
+  pub keeps : Keeps (suc x) old new (edges_in old.inputs.items x order)
   pub answers : Answers gives (queue_asked old.inputs.items) before (added old new) now
   pub asks : AsksAll old new x order (asked_in_vain (now_of old) x order)
 
@@ -144,11 +149,11 @@ edges-next table x order i = let e = edges-append table x order (i ∷ []) in om
 
 -- the same after those that gave nothing
 pub asking-then : {S : Type 0} (gives : S → ℕ → Option Packet → S → Type 0) (a b c : Nodes) (p q r : S) (x i : ℕ) (order : List ℕ) (got : Option Packet) → IsAsking gives a b p q x order → HasAsked gives b c q r x i got
-    → Keeps a c (edges_in a.inputs.items x (order ++ i ∷ [])) × Answers gives (queue_asked a.inputs.items) p (added a c) r
+    → Keeps (suc x) a c (edges_in a.inputs.items x (order ++ i ∷ [])) × Answers gives (queue_asked a.inputs.items) p (added a c) r
     × AsksAll a c x (order ++ i ∷ []) (asked_in_vain (now_of a) x order ++ asking a.pull a.moment x i got ∷ [])
 asking-then gives a b c p q r x i order got h k =
-    let second : Keeps b c (edges_at a.inputs.items x i) = subst (λ t. Keeps b c (edges_at t x i)) h.keeps.inputs k.keeps in (
-      subst (Keeps a c) (sym (edges-next a.inputs.items x order i)) (keeps-then a b c (edges_in a.inputs.items x order) (edges_at a.inputs.items x i) h.keeps second),
+    let second : Keeps (suc x) b c (edges_at a.inputs.items x i) = subst (λ t. Keeps (suc x) b c (edges_at t x i)) h.keeps.inputs k.keeps in (
+      subst (Keeps (suc x) a c) (sym (edges-next a.inputs.items x order i)) (keeps-then a b c (edges_in a.inputs.items x order) (edges_at a.inputs.items x i) h.keeps second),
       subst (λ l. Answers gives (queue_asked a.inputs.items) p l r) (sym (added-then a b c _ _ h.keeps second))
           (answers-then gives (queue_asked a.inputs.items) (added a b) (added b c) p q r h.answers (subst (λ t. Answers gives (queue_asked t) q (added b c) r) h.keeps.inputs k.answers)),
       asks-then a b c _ _ x order (i ∷ []) (asked_in_vain (now_of a) x order) (asking a.pull a.moment x i got ∷ []) h.keeps second (vain-in (now_of a) x order) h.asks
@@ -211,6 +216,10 @@ pub asking-all : {S : Type 0} (gives : S → ℕ → Option Packet → S → Typ
 asking-all gives a b p q x k order l h =
     let r : IsAsking gives a b p q x order = subst (IsAsking gives a b p q x) (take_all k order l) h in
     record { keeps = r.keeps; answers = r.answers; asks = r.asks }
+
+-- What was asked in vain was asked.
+pub vain-asked : {S : Type 0} (gives : S → ℕ → Option Packet → S → Type 0) (a b : Nodes) (p q : S) (x : ℕ) (order : List ℕ) → IsAsking gives a b p q x order → HasAskedAll gives a b p q x order None
+vain-asked gives a b p q x order h = record { keeps = h.keeps; answers = h.answers; asks = h.asks }
 
 -- what was asked in vain, as a part of what is asked
 pub asked-vain : {S : Type 0} (gives : S → ℕ → Option Packet → S → Type 0) (a b : Nodes) (p q : S) (x : ℕ) (order : List ℕ) (r : Option (ℕ × Packet)) → r ≡ None → HasAskedAll gives a b p q x order r → IsAsking gives a b p q x order

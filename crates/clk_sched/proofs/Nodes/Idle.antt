@@ -29,7 +29,7 @@ there-at table x first (suc n) h zero l = let here : first ≡ first + 0 = omega
 there-at table x first (suc n) h (suc i) l = let next : first + 1 + i ≡ first + suc i = omega arith in subst (λ j. IsSome (input_at table x j)) next (there-at table x (first + 1) n h.1 i (omega arith))
 
 -- What is idle stays so, while nothing is asked.
-pub idle-then : {S : Type 0} (gives : S → ℕ → Option Packet → S → Type 0) (a b : Nodes) (q : S) (x i m : ℕ) → Keeps a b m → IsIdle gives a q x i → AllFit b.inputs.items b.states.items × IsIdle gives b q x i
+pub idle-then : {S : Type 0} {f : ℕ} (gives : S → ℕ → Option Packet → S → Type 0) (a b : Nodes) (q : S) (x i m : ℕ) → Keeps f a b m → IsIdle gives a q x i → AllFit b.inputs.items b.states.items × IsIdle gives b q x i
 idle-then gives a b q x i m h idle = search rules
 
 -- the front of an order, in two parts

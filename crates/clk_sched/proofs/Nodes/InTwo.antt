@@ -48,10 +48,10 @@ index-second (i ∷ one) other k = index-second one other k
 pub asked-both : {S : Type 0} (gives : S → ℕ → Option Packet → S → Type 0) (a b c : Nodes) (q s t : S) (x : ℕ) (one other : List ℕ) (r : Option (ℕ × Packet)) → IsAsking gives a b q s x one → HasAskedAll gives b c s t x other r
     → HasAskedAll gives a c q t x (one ++ other) (in_second one r)
 asked-both gives a b c q s t x one other r h k =
-    let second : Keeps b c (edges_in a.inputs.items x other) = subst (λ table. Keeps b c (edges_in table x other)) h.keeps.inputs k.keeps in
+    let second : Keeps (suc x) b c (edges_in a.inputs.items x other) = subst (λ table. Keeps (suc x) b c (edges_in table x other)) h.keeps.inputs k.keeps in
     let edges = edges-append a.inputs.items x one other in
     record {
-      keeps = subst (Keeps a c) (sym edges) (keeps-then a b c (edges_in a.inputs.items x one) (edges_in a.inputs.items x other) h.keeps second);
+      keeps = subst (Keeps (suc x) a c) (sym edges) (keeps-then a b c (edges_in a.inputs.items x one) (edges_in a.inputs.items x other) h.keeps second);
       answers = subst (λ l. Answers gives (queue_asked a.inputs.items) q l t) (sym (added-then a b c _ _ h.keeps second))
           (answers-then gives (queue_asked a.inputs.items) (added a b) (added b c) q s t h.answers (subst (λ table. Answers gives (queue_asked table) s (added b c) t) h.keeps.inputs k.answers));
       asks = subst (AsksAll a c x (one ++ other)) (in_order-second (now_of a) x one other r)

@@ -1,6 +1,6 @@
 -- A visit that is recorded after what it asked.
 use Rattle.std.proofs.lemmas.Grind.{common_steps}
-use Rattle.std.proofs.Common.{◌≡◌, ℕ, ◌+◌, ◌≤◌, true, List, [], ◌∷◌, ◌++◌, slice_get, Option, Some, None, IsSome, refl, sym, ap, ap₂, ◌-◌, ◌∙◌, subst, append_assoc, arith, rules}
+use Rattle.std.proofs.Common.{◌≡◌, ℕ, suc, ◌+◌, ◌≤◌, true, List, [], ◌∷◌, ◌++◌, slice_get, Option, Some, None, IsSome, refl, sym, ap, ap₂, ◌-◌, ◌∙◌, subst, append_assoc, arith, rules}
 use Rattle.clk_packet.specs.declared.packet.Packet.{Packet}
 use Rattle.clk_sched.specs.declared.visit.Visit.{Visit}
 use Rattle.clk_sched.specs.declared.session.inputs.Input.TheVariants.{Queue}
@@ -16,13 +16,13 @@ use Rattle.clk_sched.specs.inside.Turning.{HasAsked, IsIdle}
 use Rattle.clk_sched.proofs.Nodes.Asked.{asks-queue, queue-visited}
 
 -- a visit is logged after a pull below
-logged-whole : (a b c : Nodes) (m : ℕ) (v : Visit) → Keeps a b m → Logs b c v → c.log.items ≡ a.log.items ++ (added a b ++ v ∷ [])
+logged-whole : {f : ℕ} (a b c : Nodes) (m : ℕ) (v : Visit) → Keeps f a b m → Logs b c v → c.log.items ≡ a.log.items ++ (added a b ++ v ∷ [])
 logged-whole a b c m v h l = ap (λ k. k.items) l.log ∙ ap (λ k. k ++ v ∷ []) h.grown ∙ append_assoc a.log.items (added a b) (v ∷ [])
 
-pub added-logged : (a b c : Nodes) (m : ℕ) (v : Visit) → Keeps a b m → Logs b c v → added a c ≡ added a b ++ v ∷ []
+pub added-logged : {f : ℕ} (a b c : Nodes) (m : ℕ) (v : Visit) → Keeps f a b m → Logs b c v → added a c ≡ added a b ++ v ∷ []
 added-logged a b c m v h l = added-is a c (added a b ++ v ∷ []) (logged-whole a b c m v h l)
 
-pub keeps-logged : (a b c : Nodes) (m : ℕ) (v : Visit) → Keeps a b m → Logs b c v → Keeps a c (m + 1)
+pub keeps-logged : {f : ℕ} (a b c : Nodes) (m : ℕ) (v : Visit) → Keeps f a b m → Logs b c v → Keeps f a c (m + 1)
 keeps-logged a b c m v h l = grind (arith, common_steps, logged-whole, added-logged)
 
 -- each input has an edge
@@ -30,7 +30,7 @@ pub edge-there : (table : List Inputs) (x i : ℕ) → IsSome (input_at table x 
 edge-there table x i h = search rules
 
 -- A node looked at one of its inputs, where a head is held or none is.
-pub asks-fresh : (a b c : Nodes) (m x : ℕ) (v : Visit) → Keeps a b m → Logs b c v → IsVisitAt (now_of a) x v → v.fresh ≡ true → Asks a b x v.input v.got → AsksAll a c x (v.input ∷ []) (v ∷ [])
+pub asks-fresh : {f : ℕ} (a b c : Nodes) (m x : ℕ) (v : Visit) → Keeps f a b m → Logs b c v → IsVisitAt (now_of a) x v → v.fresh ≡ true → Asks a b x v.input v.got → AsksAll a c x (v.input ∷ []) (v ∷ [])
 asks-fresh a b c m x v h l at fresh f row history visits own going unasked apart =
     let r = f row history visits own going unasked.0 v at refl fresh refl in
     record {
@@ -41,7 +41,7 @@ asks-fresh a b c m x v h l at fresh f row history visits own going unasked apart
     }
 
 -- An input was asked, and the visit recorded.
-pub asked-logged : {S : Type 0} (gives : S → ℕ → Option Packet → S → Type 0) (a b c : Nodes) (q r : S) (x i : ℕ) (got : Option Packet) (w : Visit) → IsSome (input_at a.inputs.items x i) → Keeps a b (edges_at a.inputs.items x i - 1)
+pub asked-logged : {S : Type 0} (gives : S → ℕ → Option Packet → S → Type 0) (a b c : Nodes) (q r : S) (x i : ℕ) (got : Option Packet) (w : Visit) → IsSome (input_at a.inputs.items x i) → Keeps (suc x) a b (edges_at a.inputs.items x i - 1)
     → ((v : Visit) → v.node ≡ x → v.input ≡ i → v.fresh ≡ true → v.got ≡ got → Answers gives (queue_asked a.inputs.items) q (added a b ++ v ∷ []) r) → Asks a b x i got → w ≡ asking b.pull b.moment x i got → Logs b c w
     → HasAsked gives a c q r x i got
 asked-logged gives a b c q r x i got w there keeps answers asks is logs =

@@ -14,7 +14,7 @@ use Rattle.clk_sched.specs.inside.Holds.OfClass.{Fits}
 use Rattle.clk_sched.specs.inside.Pulling.{AreApart, CanPull, Keeps, TakesTurn}
 use Rattle.clk_sched.specs.inside.Turning.{HasAskedAll, HadTurn}
 use Rattle.clk_sched.proofs.Lists.Members.{all-weaker}
-use Rattle.clk_sched.proofs.Nodes.Asking.{keeps-more}
+use Rattle.clk_sched.proofs.Nodes.Asking.{keeps-more, keeps-ahead}
 use Rattle.clk_sched.proofs.Nodes.Edges.{edges-order}
 use Rattle.clk_sched.proofs.Nodes.InOrder.{packet_of}
 use Rattle.clk_sched.proofs.Classes.Orders.{IsOrderOf}
@@ -38,8 +38,8 @@ order-there table x p order e h =
     all-weaker (λ i. i < length p.each.items) (λ i. IsSome (input_at table x i)) order
     (λ i l. subst (λ o. IsSome (option_input o i)) (sym e) (subst IsSome (sym (slice_get-get_or p.each.items i (Queue 0) l)) refl)) h
 
-pub keeps-order : (a b : Nodes) (x : ℕ) (p : Inputs) (order : List ℕ) → CanPull a x (edges_of a.inputs.items x) → slice_get a.inputs.items x ≡ Some p → AreApart (λ (i : ℕ). i) order
-    → Keeps a b (edges_in a.inputs.items x order) → Keeps a b (edges_of a.inputs.items x)
+pub keeps-order : {f : ℕ} (a b : Nodes) (x : ℕ) (p : Inputs) (order : List ℕ) → CanPull a x (edges_of a.inputs.items x) → slice_get a.inputs.items x ≡ Some p → AreApart (λ (i : ℕ). i) order
+    → Keeps f a b (edges_in a.inputs.items x order) → Keeps f a b (edges_of a.inputs.items x)
 keeps-order a b x p order can e apart h = keeps-more a b _ _ h (edges-order a.inputs.items x p order can.wired e apart)
 
 -- what stands at a place of a list
@@ -59,7 +59,7 @@ can-ask a x order can is = let p = item-there a.inputs.items x can.there in can-
 pub inputs-asked : (table : List Inputs) (x : ℕ) (order : List ℕ) → x < length table → IsOrderAt table x order → AllByRecursion (λ i. IsSome (input_at table x i)) order
 inputs-asked table x order l is = let p = item-there table x l in order-there table x p.0 order p.1 (is p.0 p.1).within
 
-pub keeps-asked : (a b : Nodes) (x : ℕ) (order : List ℕ) → CanPull a x (edges_of a.inputs.items x) → IsOrderAt a.inputs.items x order → Keeps a b (edges_in a.inputs.items x order) → Keeps a b (edges_of a.inputs.items x)
+pub keeps-asked : {f : ℕ} (a b : Nodes) (x : ℕ) (order : List ℕ) → CanPull a x (edges_of a.inputs.items x) → IsOrderAt a.inputs.items x order → Keeps f a b (edges_in a.inputs.items x order) → Keeps f a b (edges_of a.inputs.items x)
 keeps-asked a b x order can is h = let p = item-there a.inputs.items x can.there in keeps-order a b x p.0 order can p.1 (is p.0 p.1).apart h
 
 -- the same as an order of the inputs of the row that stands there
@@ -70,4 +70,4 @@ row-order table x row order l stands is = let p = item-there table x l in subst 
 pub had-order : {S : Type 0} (gives : S → ℕ → Option Packet → S → Type 0) (a b : Nodes) (q r : S) (x : ℕ) (order : List ℕ) (o : Option (ℕ × Packet)) (before now : State) → CanPull a x (edges_of a.inputs.items x)
     → IsOrderAt a.inputs.items x order → HasAskedAll gives a b q r x order o → IfSome (slice_get a.inputs.items x) (λ (p : Inputs). Fits now (length p.each.items)) → ((class : Scheduler) → TakesTurn a b x class before now (packet_of o))
     → HadTurn gives a b q r x before now (packet_of o)
-had-order gives a b q r x order o before now can is h fits turn = record { keeps = keeps-asked a b x order can is h.keeps; answers = h.answers; fits = fits; turn = turn }
+had-order gives a b q r x order o before now can is h fits turn = record { keeps = keeps-ahead (suc x) x a b _ (keeps-asked a b x order can is h.keeps) (omega arith); answers = h.answers; fits = fits; turn = turn }

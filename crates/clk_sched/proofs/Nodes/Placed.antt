@@ -1,23 +1,26 @@
 -- A node's own state, in its place before its turn and after it.
 use Rattle.std.proofs.lemmas.Bool.Decides.{nat_tests}
 use Rattle.std.proofs.lemmas.Grind.{common_steps, elements}
-use Rattle.std.proofs.Common.{◌≡◌, ◌≢◌, ◌⊎◌, ℕ, suc, ◌+◌, ◌<◌, ◌≤◌, List, length, drop, slice_get, slice_set, Option, Some, None, MatchOption, IfSome, inl, refl, sym, ap, ap₂, ◌∙◌, subst, arith, rules}
+use Rattle.std.proofs.Common.{◌≡◌, ◌≢◌, ◌⊎◌, ℕ, suc, ◌+◌, ◌<◌, ◌≤◌, nat_eq, Bool, true, false, List, length, drop, slice_get, slice_set, Option, Some, None, MatchOption, IfSome, inl, refl, sym, ap, ap₂, ◌∙◌, subst, arith, rules}
 use Rattle.std.proofs.lemmas.Option.{slice_get_within}
 use Rattle.std.proofs.lemmas.List.{length-set}
 use Rattle.std.proofs.lemmas.Bool.{false≢true}
+use Rattle.std.specs.Global.{Box}
 use Rattle.clk_packet.specs.declared.packet.Packet.{Packet}
+use Rattle.clk_sched.specs.declared.visit.Visit.{Visit}
 use Rattle.clk_sched.specs.declared.session.inputs.Inputs.{Inputs}
 use Rattle.clk_sched.specs.declared.session.state.State.{State}
-use Rattle.clk_sched.specs.declared.session.state.State.TheVariants.{Prio, Shaper}
+use Rattle.clk_sched.specs.declared.session.state.State.TheVariants.{Prio, Stride, Shaper}
 use Rattle.clk_sched.specs.declared.session.shaper.Bucket.{Bucket}
+use Rattle.clk_sched.specs.declared.session.stride.Passes.{Passes}
 use Rattle.clk_sched.specs.declared.session.nodes.Nodes.{Nodes}
 use Rattle.clk_packet.specs.Scheduler.{Scheduler}
 use Rattle.clk_sched.specs.Tree.{Row, nodes, width}
 use Rattle.clk_sched.specs.inside.Holds.OfClass.{Fits, Holds}
 use Rattle.clk_sched.specs.inside.Holds.Shaper.{AreBefore}
 use Rattle.clk_sched.specs.inside.Places.{StandsIn, AllFit, edges_of}
-use Rattle.clk_sched.specs.inside.Pulling.{Pulls, History, NodeHolds, CanPull, Keeps, EachHolds, IsBlock, IsReady, added, now_of, after, TakesTurn, TurnIsTaken}
-use Rattle.clk_sched.specs.inside.Turning.{with_state, HadTurn, WasPulled}
+use Rattle.clk_sched.specs.inside.Pulling.{Now, Pulls, History, NodeHolds, CanPull, Keeps, EachHolds, IsBlock, IsPulling, IsReady, added, now_of, after, TakesTurn, TurnIsTaken}
+use Rattle.clk_sched.specs.inside.Turning.{with_state, HadTurn, HasAskedAll, WasPulled}
 use Rattle.clk_sched.proofs.Nodes.Below.{holds-same}
 use Rattle.clk_sched.proofs.Lists.Numbers.{equal}
 
@@ -26,6 +29,9 @@ set-here xs i x l = grind (arith, common_steps, elements, nat_tests)
 
 pub set-other : {X : Type 0} (xs : List X) (i j : ℕ) (x : X) → j ≢ i → slice_get (slice_set xs i x) j ≡ slice_get xs j
 set-other xs i j x d = grind (arith, common_steps, elements, nat_tests)
+
+pub set-ahead : {X : Type 0} (xs : List X) (i j : ℕ) (x : X) → j < i → slice_get (slice_set xs i x) j ≡ slice_get xs j
+set-ahead xs i j x l = set-other xs i j x (λ e. omega (arith, e, l))
 
 -- nodes of which one holds another state than before, and nothing else changed
 pub record IsPutIn (a b : Nodes) (x : ℕ) (s : State) : Type 0 where
@@ -103,6 +109,14 @@ bucket_or b s = b
 pub bucket-same : (b c : Bucket) → Shaper b ≡ Shaper c → b ≡ c
 bucket-same b c e = ap (bucket_or b) e
 
+-- so are the passes of a StrideSched
+abbrev passes_or : Box Passes → State → Box Passes
+passes_or b (Stride c) = c
+passes_or b s = b
+
+pub passes-same : (b c : Box Passes) → Stride b ≡ Stride c → b ≡ c
+passes-same b c e = ap (passes_or b) e
+
 -- one state of a table may be another that fits
 pub fit-set : (table : List Inputs) (states : List State) (x : ℕ) (s : State) → AllFit table states → ((p : Inputs) → slice_get table x ≡ Some p → Fits s (length p.each.items)) → AllFit table (slice_set states x s)
 fit-set table states x s fit here = search (rules, length-set, slice_get_within, some-same, set-here, set-other, false≢true, equal)
@@ -118,18 +132,88 @@ fits-each table x s fits p e = subst (λ o. IfSome o (λ (q : Inputs). Fits s (l
 pub can-put : (a : Nodes) (x m : ℕ) (s : State) → CanPull a x m → ((p : Inputs) → slice_get a.inputs.items x ≡ Some p → Fits s (length p.each.items)) → CanPull (with_state a x s) x m
 can-put a x m s can fits = record { wired = can.wired; fit = fit-set a.inputs.items a.states.items x s can.fit fits; there = can.there; room = can.room; moment = can.moment }
 
-pub keeps-from : (a b : Nodes) (x m : ℕ) (s : State) → Keeps (with_state a x s) b m → Keeps a b m
-keeps-from a b x m s k = record { inputs = k.inputs; pull = k.pull; moment = k.moment; fit = k.fit; kind = k.kind; grown = k.grown; at_most = k.at_most }
+pub keeps-from : (a b : Nodes) (x m : ℕ) (s : State) → Keeps x (with_state a x s) b m → Keeps x a b m
+keeps-from a b x m s k = record { inputs = k.inputs; pull = k.pull; moment = k.moment; fit = k.fit; ahead = λ y l. k.ahead y l ∙ set-ahead a.states.items x y s l; kind = k.kind; grown = k.grown; at_most = k.at_most }
 
-pub keeps-put : (a b : Nodes) (x m : ℕ) (s : State) → Keeps a b m → ((p : Inputs) → slice_get a.inputs.items x ≡ Some p → Fits s (length p.each.items)) → Keeps a (with_state b x s) m
-keeps-put a b x m s k fits = search (rules, fit-set)
+pub keeps-put : (a b : Nodes) (x m : ℕ) (s : State) → Keeps x a b m → ((p : Inputs) → slice_get a.inputs.items x ≡ Some p → Fits s (length p.each.items)) → Keeps x a (with_state b x s) m
+keeps-put a b x m s k fits =
+    record {
+      inputs = k.inputs;
+      pull = k.pull;
+      moment = k.moment;
+      fit = fit-set a.inputs.items b.states.items x s k.fit fits;
+      ahead = λ y l. set-ahead b.states.items x y s l ∙ k.ahead y l;
+      kind = k.kind;
+      grown = k.grown;
+      at_most = k.at_most;
+    }
 
 -- There is a state of each node of the table.
 pub state-there : (a : Nodes) (x m : ℕ) → CanPull a x m → x < length a.states.items
 state-there a x m can = subst (λ n. x < n) (sym can.fit.lengths) can.there
 
-pub kept-there : (a b : Nodes) (x m n : ℕ) → CanPull a x m → Keeps a b n → x < length b.states.items
+pub kept-there : {f : ℕ} (a b : Nodes) (x m n : ℕ) → CanPull a x m → Keeps f a b n → x < length b.states.items
 kept-there a b x m n can k = subst (λ n. x < n) (sym k.fit.lengths) can.there
+
+-- what is alike but at one place is alike once the same stands there
+set-both : {X : Type 0} (xs ys : List X) (i j : ℕ) (x : X) → i < length xs → i < length ys → (j ≢ i → slice_get ys j ≡ slice_get xs j) → slice_get (slice_set ys i x) j ≡ slice_get (slice_set xs i x) j
+set-both xs ys i j x l k same = by_place (nat_eq j i) refl
+  where
+    by_place : (b : Bool) → nat_eq j i ≡ b → slice_get (slice_set ys i x) j ≡ slice_get (slice_set xs i x) j
+    by_place true is = let here : j ≡ i = grind (arith, nat_tests) in subst (λ n. slice_get (slice_set ys i x) n ≡ slice_get (slice_set xs i x) n) (sym here) (set-here ys i x k ∙ sym (set-here xs i x l))
+    by_place false is = let other : j ≢ i = grind (arith, nat_tests) in set-other ys i j x other ∙ same other ∙ sym (set-other xs i j x other)
+
+-- what is being pulled below a node doesn't depend on the node's own state
+pulling-placed : (now : Now) (history : History) (x : ℕ) (row : Row) (states more : List State) (visits own : List Visit) → ((y : ℕ) → y ≢ x → slice_get more y ≡ slice_get states y)
+    → IsPulling now history x row states visits own → IsPulling now history x row more visits own
+pulling-placed now history x row states more visits own same p =
+    record {
+      made = p.made;
+      whole = p.whole;
+      theirs = p.theirs;
+      each = p.each;
+      holds =
+          holds-same states more (after history now.moment visits) (after history now.moment visits) (suc x) row (λ y l k. record { state = same y (λ e. omega (arith, e, l)); turns = refl })
+          p.holds;
+    }
+
+-- Inputs are asked alike whatever stands in the node's place.
+pub asked-placed : {S : Type 0} (gives : S → ℕ → Option Packet → S → Type 0) (a b : Nodes) (q r : S) (x : ℕ) (order : List ℕ) (o : Option (ℕ × Packet)) (s : State) → x < length a.inputs.items → AllFit a.inputs.items a.states.items
+    → ((p : Inputs) → slice_get a.inputs.items x ≡ Some p → Fits s (length p.each.items)) → HasAskedAll gives a b q r x order o → HasAskedAll gives (with_state a x s) (with_state b x s) q r x order o
+asked-placed gives a b q r x order o s there fit fits h =
+    record {
+      keeps = record {
+        inputs = h.keeps.inputs;
+        pull = h.keeps.pull;
+        moment = h.keeps.moment;
+        fit = fit-set a.inputs.items b.states.items x s h.keeps.fit fits;
+        ahead = λ y l. set-both a.states.items b.states.items x y s first later (λ d. h.keeps.ahead y l);
+        kind = h.keeps.kind;
+        grown = h.keeps.grown;
+        at_most = h.keeps.at_most;
+      };
+      answers = h.answers;
+      asks = λ row history visits own going unasked apart.
+          let went =
+          h.asks row history visits own
+          (record {
+            stands = going.stands;
+            before = going.before;
+            pulling = pulling-placed (now_of a) history x row (slice_set a.states.items x s) a.states.items visits own (λ y d. sym (set-other a.states.items x y s d)) going.pulling;
+          })
+          unasked apart
+          in
+          record {
+            pulling = pulling-placed (now_of a) history x row b.states.items (slice_set b.states.items x s) _ _ (λ y d. set-other b.states.items x y s d) went.pulling;
+            outside = λ y l. set-both a.states.items b.states.items x y s first later (λ d. went.outside y l);
+          };
+    }
+  where
+    first : x < length a.states.items
+    first = subst (λ n. x < n) (sym fit.lengths) there
+
+    later : x < length b.states.items
+    later = subst (λ n. x < n) (sym h.keeps.fit.lengths) there
 
 -- A node whose state was taken out can have its turn.
 pub can-turn : (a t : Nodes) (x : ℕ) (s : State) → t ≡ with_state a x Prio → slice_get a.states.items x ≡ Some s → CanPull a x (edges_of a.inputs.items x)
@@ -145,7 +229,7 @@ pulled-back gives a t u b q r x m before now got out state can turn back = subst
   where
     whole : HadTurn gives (with_state a x Prio) u q r x before now got → WasPulled gives a (with_state u x now) q r x got
     whole h =
-        let k : Keeps a u (edges_of a.inputs.items x) = keeps-from a u x (edges_of a.inputs.items x) Prio h.keeps in
+        let k : Keeps x a u (edges_of a.inputs.items x) = keeps-from a u x (edges_of a.inputs.items x) Prio h.keeps in
         record {
           keeps = keeps-put a u x (edges_of a.inputs.items x) now k (fits-each a.inputs.items x now h.fits);
           answers = h.answers;

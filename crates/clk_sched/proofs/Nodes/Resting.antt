@@ -21,7 +21,7 @@ use Rattle.clk_sched.specs.inside.Looking.{Logs}
 use Rattle.clk_sched.specs.inside.Resting.{block_below, block_to, resting_block, IsAtRest, AreAtRest, IsIdleAt, IsIdleTo, IsIdleNode, with_block}
 use Rattle.clk_sched.specs.inside.Turning.{HasAsked, HasAskedAll, WasPulled}
 use Rattle.clk_sched.proofs.Lists.Members.{of-all, in-slice}
-use Rattle.clk_sched.proofs.Nodes.Asked.{child-after, child-can, edges-scheduler, queue-visited, asks-queue, asks-child}
+use Rattle.clk_sched.proofs.Nodes.Asked.{child-after, child-can, keeps-child, queue-visited, asks-queue, asks-child}
 use Rattle.clk_sched.proofs.Nodes.Asking.{IsAsking, answers-then, asking-first, can-go_on, keeps-more, keeps-none}
 use Rattle.clk_sched.proofs.Nodes.InTwo.{asked-both}
 use Rattle.clk_sched.proofs.Nodes.Logged.{asked-logged, queue-answers}
@@ -46,7 +46,7 @@ block-next a visits v = subst (λ c. Logs (with_block a visits) c v) (block-then
 
 -- What stands at an input was asked and gave nothing, and the visit is yet to be logged.
 pub record IsReached {S : Type 0} (gives : S → ℕ → Option Packet → S → Type 0) (old new : Nodes) (q : S) (x i : ℕ) : Type 0 where
-  pub keeps : Keeps old new (edges_at old.inputs.items x i - 1)
+  pub keeps : Keeps (suc x) old new (edges_at old.inputs.items x i - 1)
   pub asks : Asks old new x i None
   pub answers : (v : Visit) → v.node ≡ x → v.input ≡ i → v.fresh ≡ true → v.got ≡ None → Answers gives (queue_asked old.inputs.items) q (added old new ++ v ∷ []) q
 
@@ -70,10 +70,10 @@ reached-queue gives a q x i leaf can stands empty =
       answers = queue-answers gives a q q x i leaf None stands empty;
     })
 
-reached-node : {S : Type 0} (gives : S → ℕ → Option Packet → S → Type 0) (a b : Nodes) (q : S) (x i m : ℕ) → input_at a.inputs.items x i ≡ Some (Node m) → WasPulled gives a b q q m None → IsReached gives a b q x i
-reached-node gives a b q x i m stands h =
+reached-node : {S : Type 0} (gives : S → ℕ → Option Packet → S → Type 0) (a b : Nodes) (q : S) (x i m : ℕ) → input_at a.inputs.items x i ≡ Some (Node m) → x < m → WasPulled gives a b q q m None → IsReached gives a b q x i
+reached-node gives a b q x i m stands after h =
     record {
-      keeps = let edges = edges-scheduler a.inputs.items x i m stands in keeps-more a b _ _ h.keeps (omega (arith, edges));
+      keeps = keeps-child a b x i m stands after h.keeps;
       asks = asks-child a b x i m None stands h.pulls;
       answers = λ v node at fresh none. search (rules, h.answers, answers-then, (queue-visited a.inputs.items x i (Node m) v stands node at fresh));
     }
@@ -88,7 +88,7 @@ reached gives a q deep x i rests low can there idle = by_input (input_at a.input
     by_input (Some (Node m)) e some idle =
         let at = child-can a x i m can e in
         let after = at.0 in
-        reached-node gives a (with_block a (below deep a (Some (Node m)))) q x i m e (rests a m (omega (arith, low, after)) at.1 idle)
+        reached-node gives a (with_block a (below deep a (Some (Node m)))) q x i m e after (rests a m (omega (arith, low, after)) at.1 idle)
 
 -- the visits below an input of a node, and the one to it
 abbrev pub visits_to : ℕ → Nodes → ℕ → ℕ → List Visit

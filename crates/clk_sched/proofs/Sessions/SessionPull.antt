@@ -100,7 +100,7 @@ pub record HasGoneOn (tree : Tree) (a b : Nodes) (moment : ℕ) (visits : List V
   pub new : newly (progress tree a) (progress tree b) ≡ visits
   pub within : AllByRecursion (λ (v : Visit). v.node < suc (nodes (root tree))) visits
 
-pub session-pulled : (tree : Tree) (a ready pulled : Nodes) (moment most : ℕ) (got : Option Packet) → IsAfterRun tree a → IsReadied a ready moment → Keeps ready pulled most → Pulls ready pulled 0 got
+pub session-pulled : {f : ℕ} (tree : Tree) (a ready pulled : Nodes) (moment most : ℕ) (got : Option Packet) → IsAfterRun tree a → IsReadied a ready moment → Keeps f ready pulled most → Pulls ready pulled 0 got
     → HasGoneOn tree a (one_further pulled) moment (added ready pulled) got
 session-pulled tree a ready pulled moment most got run readied keeps pull =
     record {

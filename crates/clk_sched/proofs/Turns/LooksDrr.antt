@@ -1,5 +1,5 @@
 -- A DRRSched looks at the input whose turn it is.
-use Rattle.std.proofs.Common.{◌≡◌, ℕ, ◌-◌, ◌≤◌, Bool, true, false, not, List, [], ◌∷◌, ◌++◌, Option, Some, None, is_some, IsSome, MatchOption, refl, sym, ◌∙◌, subst, arith, rules}
+use Rattle.std.proofs.Common.{◌≡◌, ℕ, suc, ◌-◌, ◌≤◌, Bool, true, false, not, List, [], ◌∷◌, ◌++◌, Option, Some, None, is_some, IsSome, MatchOption, refl, sym, ◌∙◌, subst, arith, rules}
 use Rattle.std.specs.Bool.{⊤}
 use Rattle.std.proofs.lemmas.Bool.{false≢true}
 use Rattle.clk_packet.specs.declared.packet.Packet.{Packet}
@@ -50,8 +50,8 @@ looks-held a c x d later p got passed some is logs settles =
     }
 
 -- an input without a head is asked
-pub looks-fresh : (a b c : Nodes) (m x : ℕ) (d later : Deficits) (head got : Option Packet) (passed : Bool) → head ≡ None
-    → ((quanta : List ℕ) (inputs : ℕ) (before : List Visit) → HoldsDeficits quanta inputs before d → head ≡ head_at (next_input inputs before) before) → Keeps a b m → Asks a b x d.cursor got
+pub looks-fresh : {f : ℕ} (a b c : Nodes) (m x : ℕ) (d later : Deficits) (head got : Option Packet) (passed : Bool) → head ≡ None
+    → ((quanta : List ℕ) (inputs : ℕ) (before : List Visit) → HoldsDeficits quanta inputs before d → head ≡ head_at (next_input inputs before) before) → Keeps f a b m → Asks a b x d.cursor got
     → Logs b c (looking b x d.cursor got true passed) → Settles d later got passed → Looks a c x d later got passed
 looks-fresh a b c m x d later head got passed empty is keeps asked logs settles =
     record {
@@ -78,7 +78,7 @@ looks-at-held gives a c q x d later (Some p) passed fit there is some logs settl
     }
 
 pub looks-at-asked : {S : Type 0} (gives : S → ℕ → Option Packet → S → Type 0) (a b c : Nodes) (q r : S) (x : ℕ) (d later : Deficits) (got : Option Packet) (passed : Bool) → IsSome (input_at a.inputs.items x d.cursor) → IsHead d None
-    → Keeps a b (edges_at a.inputs.items x d.cursor - 1) → Asks a b x d.cursor got
+    → Keeps (suc x) a b (edges_at a.inputs.items x d.cursor - 1) → Asks a b x d.cursor got
     → ((v : Visit) → v.node ≡ x → v.input ≡ d.cursor → v.fresh ≡ true → v.got ≡ got → Answers gives (queue_asked a.inputs.items) q (added a b ++ v ∷ []) r)
     → Logs b c (looking b x d.cursor got true passed) → Settles d later got passed → LooksAt gives a c q r x d later got passed
 looks-at-asked gives a b c q r x d later got passed there is keeps asks answers logs settles =

@@ -15,8 +15,8 @@ use Rattle.clk_sched.specs.inside.Places.{AllFit, edges_of, edges_at, input_at, 
 use Rattle.clk_sched.specs.inside.Pulling.{CanPull, Keeps, Asks, added}
 use Rattle.clk_sched.specs.inside.Turning.{HasAsked, WasPulled}
 use Rattle.clk_sched.specs.inside.Tokens.{TakesToken, GivesBack, AnswersAt, AnswersUp, IsBelow, SpendsAt, TakesDown, GoesDown}
-use Rattle.clk_sched.proofs.Nodes.Asking.{keeps-more, answers-then}
-use Rattle.clk_sched.proofs.Nodes.Asked.{child-after, edges-scheduler, queue-visited, asks-child}
+use Rattle.clk_sched.proofs.Nodes.Asking.{answers-then}
+use Rattle.clk_sched.proofs.Nodes.Asked.{child-after, edges-scheduler, keeps-child, queue-visited, asks-child}
 use Rattle.clk_sched.proofs.Nodes.Logged.{asked-logged, edge-there}
 use Rattle.clk_sched.proofs.Nodes.Ordered.{item-there}
 use Rattle.clk_sched.proofs.Nodes.Edges.{edges-order}
@@ -91,16 +91,15 @@ down-next a b t x last below token h next e takes =
 
 -- What is known of an input that was asked, before the visit is recorded.
 pub record WasAsked {S : Type 0} (gives : S → ℕ → Option Packet → S → Type 0) (old new : Nodes) (before now : S) (x : ℕ) (got : Option Packet) : Type 0 where
-  pub keeps : Keeps old new (edges_at old.inputs.items x 0 - 1)
+  pub keeps : Keeps (suc x) old new (edges_at old.inputs.items x 0 - 1)
   pub answers : (v : Visit) → v.node ≡ x → v.input ≡ 0 → v.fresh ≡ true → v.got ≡ got → Answers gives (queue_asked old.inputs.items) before (added old new ++ v ∷ []) now
   pub asks : Asks old new x 0 got
 
-child-asked : {S : Type 0} (gives : S → ℕ → Option Packet → S → Type 0) (a b : Nodes) (q r : S) (x child : ℕ) (got : Option Packet) → input_at a.inputs.items x 0 ≡ Some (Node child) → WasPulled gives a b q r child got
+child-asked : {S : Type 0} (gives : S → ℕ → Option Packet → S → Type 0) (a b : Nodes) (q r : S) (x child : ℕ) (got : Option Packet) → input_at a.inputs.items x 0 ≡ Some (Node child) → x < child → WasPulled gives a b q r child got
     → WasAsked gives a b q r x got
-child-asked gives a b q r x child got e pulled =
-    let edges = edges-scheduler a.inputs.items x 0 child e in
+child-asked gives a b q r x child got e after pulled =
     record {
-      keeps = keeps-more a b _ _ pulled.keeps (omega (arith, edges));
+      keeps = keeps-child a b x 0 child e after pulled.keeps;
       answers = λ v node at fresh gets.
           answers-then gives (queue_asked a.inputs.items) (added a b) (v ∷ []) q r r pulled.answers
           (subst (λ o. at_queue gives o v.got r (λ s. s ≡ r)) (sym (queue-visited a.inputs.items x 0 (Node child) v e node at fresh)) refl);
@@ -151,7 +150,7 @@ above-answered gives a b c q r x y above got e l h answers = by_count h.count h.
           place = sym here;
           takes = takes.1;
           below = subst (IsBelow takes.0.inputs.items x) here takes.2;
-          pulled = spent-answered gives takes.0 m b c q r above got spends.can spends.takes (child-asked gives m b q r above y got (below above e (omega (arith, place, e))) pulled) answers;
+          pulled = spent-answered gives takes.0 m b c q r above got spends.can spends.takes (child-asked gives m b q r above y got (below above e (omega (arith, place, e))) (omega (arith, e)) pulled) answers;
         }
 
 pub up-answered : {S : Type 0} (gives : S → ℕ → Option Packet → S → Type 0) (a b c : Nodes) (q r : S) (x last k : ℕ) (got : Option Packet) → x + k ≤ last → PulledBelow gives a b q r x last got → AnswersUp b c last k got → PulledBelow gives a c q r x (last - k) got

@@ -1,5 +1,4 @@
 -- The turn of a DRRSched, visit by visit.
-use Rattle.std.proofs.lemmas.Grind.{common_steps}
 use Rattle.std.proofs.Common.{◌≡◌, ◌≢◌, ℕ, zero, suc, ◌+◌, ◌%◌, ◌<◌, Bool, true, false, if◌then◌else◌, List, [], ◌∷◌, ◌++◌, length, map, slice_get, Option, Some, None, IsSome, IfSome, MatchBool, inl, inr, refl, sym, ap, ◌∙◌, subst, arith, rules}
 use Rattle.std.specs.List.{AllByRecursion}
 use Rattle.std.proofs.lemmas.List.{map-append, length-append}
@@ -30,7 +29,7 @@ use Rattle.clk_sched.proofs.Runs.Allowed.{onto, onto-append, each-join}
 use Rattle.clk_sched.proofs.Lists.Apart.{apart-map}
 use Rattle.clk_sched.proofs.Classes.Orders.{IsPlace, first-place, next-place, beyond-differs}
 use Rattle.clk_sched.proofs.Nodes.Pulling.{pulling-first, pulling-own}
-use Rattle.clk_sched.proofs.Nodes.Asking.{added-none, added-then, keeps-then, keeps-none, can-go_on, answers-then, edges-append, asks-then, asks-none}
+use Rattle.clk_sched.proofs.Nodes.Asking.{added-none, added-then, keeps-then, keeps-none, keeps-ahead, can-go_on, answers-then, edges-append, asks-then, asks-none}
 use Rattle.clk_sched.proofs.Nodes.Ordered.{item-there, stands-width, can-order, order-there, keeps-order}
 
 -- by what a DRRSched holds, a scheduler of no other class has a turn
@@ -40,7 +39,7 @@ drr-alone a b x s now got h class row history ready holds = absurd holds
 
 -- What a DRRSched did at the input whose turn it was.
 pub record HasLooked {S : Type 0} (gives : S → ℕ → Option Packet → S → Type 0) (old new : Nodes) (before now : S) (x : ℕ) (mid last : Deficits) (v : Visit) : Type 0 where
-  pub keeps : Keeps old new (edges_at old.inputs.items x v.input)
+  pub keeps : Keeps (suc x) old new (edges_at old.inputs.items x v.input)
   pub answers : Answers gives (queue_asked old.inputs.items) before (added old new) now
   pub asks : AsksAll old new x (v.input ∷ []) (v ∷ [])
   pub length_is : length last.row.items ≡ length mid.row.items
@@ -51,7 +50,7 @@ pub has-looked : {S : Type 0} (gives : S → ℕ → Option Packet → S → Typ
     → HasLooked gives b c q r x mid last l.looks.visit
 has-looked gives b c q r x mid last got passed l =
     record {
-      keeps = subst (λ i. Keeps b c (edges_at b.inputs.items x i)) (sym l.looks.input) l.keeps;
+      keeps = subst (λ i. Keeps (suc x) b c (edges_at b.inputs.items x i)) (sym l.looks.input) l.keeps;
       answers = l.answers;
       asks = subst (λ i. AsksAll b c x (i ∷ []) (l.looks.visit ∷ [])) (sym l.looks.input) l.looks.asks;
       length_is = l.length_is;
@@ -85,7 +84,7 @@ pub made-then : {S : Type 0} (gives : S → ℕ → Option Packet → S → Type
     → v.input < length first.row.items → AllByRecursion (λ (u : Visit). v.input ≢ u.input) own → HasLooked gives b c q r x mid last v → HasMade gives a c p r x first last (own ++ v ∷ [])
 made-then gives a b c p q r x first mid last own v h within new k =
     record {
-      keeps = subst (Keeps a c) (sym (edges-next a.inputs.items x own v)) (keeps-then a b c _ _ h.keeps second);
+      keeps = subst (Keeps (suc x) a c) (sym (edges-next a.inputs.items x own v)) (keeps-then a b c _ _ h.keeps second);
       answers =
           subst (λ l. Answers gives (queue_asked a.inputs.items) p l r) (sym (added-then a b c _ _ h.keeps second))
           (answers-then gives (queue_asked a.inputs.items) (added a b) (added b c) p q r h.answers (subst (λ t. Answers gives (queue_asked t) q (added b c) r) h.keeps.inputs k.answers));
@@ -102,11 +101,27 @@ made-then gives a b c p q r x first mid last own v h within new k =
           );
     }
   where
-    second : Keeps b c (edges_at a.inputs.items x v.input)
-    second = subst (λ t. Keeps b c (edges_at t x v.input)) h.keeps.inputs k.keeps
+    second : Keeps (suc x) b c (edges_at a.inputs.items x v.input)
+    second = subst (λ t. Keeps (suc x) b c (edges_at t x v.input)) h.keeps.inputs k.keeps
 
 pub making-first : {S : Type 0} (gives : S → ℕ → Option Packet → S → Type 0) (a : Nodes) (q : S) (x : ℕ) (d : Deficits) → AllFit a.inputs.items a.states.items → IsMaking gives a a q q x d d 0
-making-first gives a q x d fit = grind (arith, common_steps, keeps-none, added-none, asks-none, first-place)
+making-first gives a q x d fit =
+    record {
+      own = [];
+      made = record {
+        keeps = keeps-none a fit;
+        answers = subst (λ l. Answers gives (queue_asked a.inputs.items) q l q) (sym (added-none a)) refl;
+        asks = asks-none a x;
+        length_is = refl;
+        within = tt;
+        apart = tt;
+        lawful = λ quanta inputs earlier held. (tt, held);
+      };
+      count_is = refl;
+      vain = tt;
+      around = tt;
+      next = first-place (length d.row.items) d.cursor d.cursor_within;
+    }
 
 -- the next input is none of those
 making-new : {S : Type 0} (gives : S → ℕ → Option Packet → S → Type 0) (a b : Nodes) (p q : S) (x : ℕ) (first mid : Deficits) (count : ℕ) (h : IsMaking gives a b p q x first mid count) → count < length first.row.items
@@ -290,7 +305,7 @@ had-ended gives a b p q x first last got can fits h held holds before after =
     boxed fits h =
         let here : HasRow a.inputs.items x held.value = row-there a.inputs.items x held.value can.there fits in
         record {
-          keeps = keeps-order a b x here.inputs (map input_of h.own) can here.place (inputs-apart h.own h.made.apart) h.made.keeps;
+          keeps = keeps-ahead (suc x) x a b _ (keeps-order a b x here.inputs (map input_of h.own) can here.place (inputs-apart h.own h.made.apart) h.made.keeps) (omega arith);
           answers = h.made.answers;
           fits = subst (λ n. IfSome (slice_get a.inputs.items x) (λ (y : Inputs). n ≡ length y.each.items)) (sym h.made.length_is) fits;
           turn = drr-alone a b x held (Drr holds) got (drr-turn gives a b p q x held holds got here.inputs here.place here.long h);

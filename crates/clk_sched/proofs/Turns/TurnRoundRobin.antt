@@ -22,7 +22,7 @@ use Rattle.clk_sched.specs.inside.Pulling.{CanPull, Keeps, AsksAll, now_of, afte
 use Rattle.clk_sched.specs.inside.Turning.{HasAskedAll, HadTurn}
 use Rattle.clk_sched.proofs.Lists.Members.{all-weaker, all-split}
 use Rattle.clk_sched.proofs.Lists.Ranges.{range-append}
-use Rattle.clk_sched.proofs.Nodes.Asking.{keeps-more, asks-front, asked-vain, edges-append, apart-split, can-go_on}
+use Rattle.clk_sched.proofs.Nodes.Asking.{keeps-more, keeps-ahead, asks-front, asked-vain, edges-append, apart-split, can-go_on}
 use Rattle.clk_sched.proofs.Nodes.Asked.{entry}
 use Rattle.clk_sched.proofs.Nodes.Placed.{fits-there, fits-each}
 use Rattle.clk_sched.proofs.Nodes.InTwo.{past, past-length, in_order-first, index-first, index-second, asked-both}
@@ -139,7 +139,7 @@ may-first a x n first h can = let low = h.low in let few = h.few in (
   omega (arith, low, few),
 )
 
-pub may-second : (a b : Nodes) (x n first : ℕ) → Begins a.inputs.items x n first → CanPull a x (edges_of a.inputs.items x) → Keeps a b (edges_in a.inputs.items x (range_with_len first (n - first))) → MayAsk b x 0 first
+pub may-second : {f : ℕ} (a b : Nodes) (x n first : ℕ) → Begins a.inputs.items x n first → CanPull a x (edges_of a.inputs.items x) → Keeps f a b (edges_in a.inputs.items x (range_with_len first (n - first))) → MayAsk b x 0 first
 may-second a b x n first h can kept =
     let both = can-order a x h.inputs (parts first n) can h.place (parts-order n first h.low).apart in
     let edges = edges-append a.inputs.items x (range_with_len first (n - first)) (range_with_len 0 first) in
@@ -158,7 +158,7 @@ pub had-both : {S : Type 0} (gives : S → ℕ → Option Packet → S → Type 
     → HadTurn gives a b q r x (RoundRobin (record { input = first })) (RoundRobin (record { input = next })) (packet_of o)
 had-both gives a b q r x n first next o h can asked within is lower =
     record {
-      keeps = keeps-order a b x h.inputs (parts first n) can h.place (parts-order n first h.low).apart asked.keeps;
+      keeps = keeps-ahead (suc x) x a b _ (keeps-order a b x h.inputs (parts first n) can h.place (parts-order n first h.low).apart asked.keeps) (omega arith);
       answers = asked.answers;
       fits = subst (λ k. IfSome k (λ (p : Inputs). next < length p.each.items)) (sym h.place) (subst (λ m. next < m) h.count lower);
       turn = round_robin-alone a b x (record { input = first }) (RoundRobin (record { input = next })) (packet_of o) (round_robin-turn a b x n first next h.inputs o h.place h.count h.low within asked.asks is);

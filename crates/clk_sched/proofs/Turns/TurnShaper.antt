@@ -1,5 +1,5 @@
 -- The turn of a Shaper.
-use Rattle.std.proofs.Common.{◌≡◌, ◌≢◌, ℕ, ◌+◌, ◌<◌, ◌≤◌, ◌-◌, Bool, true, false, if◌then◌else◌, List, [], ◌∷◌, ◌++◌, length, drop, slice_get, Option, Some, None, IfSome, IsSome, is_some, MatchBool, refl, sym, ap, ◌∙◌, subst, arith, rules}
+use Rattle.std.proofs.Common.{◌≡◌, ◌≢◌, ℕ, suc, ◌+◌, ◌<◌, ◌≤◌, ◌-◌, Bool, true, false, if◌then◌else◌, List, [], ◌∷◌, ◌++◌, length, drop, slice_get, Option, Some, None, IfSome, IsSome, is_some, MatchBool, refl, sym, ap, ◌∙◌, subst, arith, rules}
 use Rattle.std.proofs.lemmas.Bool.{false≢true}
 use Rattle.std.proofs.lemmas.Option.{slice_get_within}
 use Rattle.clk_packet.specs.declared.packet.Packet.{Packet}
@@ -19,8 +19,8 @@ use Rattle.clk_sched.specs.Answers.{Answers}
 use Rattle.clk_sched.specs.inside.Places.{edges_of, edges_at, input_at, queue_asked}
 use Rattle.clk_sched.specs.inside.Turning.{with_state, HasAsked, WasPulled}
 use Rattle.clk_sched.specs.inside.Tokens.{TakesToken, GivesBack}
-use Rattle.clk_sched.proofs.Nodes.Asking.{asks-none, added-none, keeps-none, keeps-more}
-use Rattle.clk_sched.proofs.Nodes.Placed.{IsPutIn, fit-set, bucket-same, some-same, is-put, still-put, pulls-put, pulls-later, fits-there, fits-each, can-put, keeps-from, keeps-put, state-there}
+use Rattle.clk_sched.proofs.Nodes.Asking.{asks-none, added-none, keeps-none, keeps-more, keeps-ahead}
+use Rattle.clk_sched.proofs.Nodes.Placed.{IsPutIn, set-ahead, fit-set, bucket-same, some-same, is-put, still-put, pulls-put, pulls-later, fits-there, fits-each, can-put, keeps-from, keeps-put, state-there}
 use Rattle.clk_sched.proofs.Classes.Bucket.{bucket-none, bucket-taken}
 use Rattle.clk_sched.proofs.Nodes.InOrder.{IsWithin, packet_of, HasTurnedBy, turned-in-order, in_order-giver, with_turn-given, after-own}
 use Rattle.clk_sched.proofs.Nodes.Ordered.{IsOrderAt, can-ask, inputs-asked, keeps-asked, row-order}
@@ -56,7 +56,7 @@ can-look a x can some =
 pub there-look : (a : Nodes) (x : ℕ) → CanPull a x (edges_of a.inputs.items x) → HasInput a.inputs.items x → IsSome (input_at a.inputs.items x 0)
 there-look a x can some = (inputs-asked a.inputs.items x (0 ∷ []) can.there (shaper-asks a.inputs.items x true some)).0
 
-pub keeps-look : (a b : Nodes) (x : ℕ) → CanPull a x (edges_of a.inputs.items x) → HasInput a.inputs.items x → Keeps a b (edges_at a.inputs.items x 0) → Keeps a b (edges_of a.inputs.items x)
+pub keeps-look : {f : ℕ} (a b : Nodes) (x : ℕ) → CanPull a x (edges_of a.inputs.items x) → HasInput a.inputs.items x → Keeps f a b (edges_at a.inputs.items x 0) → Keeps f a b (edges_of a.inputs.items x)
 keeps-look a b x can some h = keeps-asked a b x (0 ∷ []) can (shaper-asks a.inputs.items x true some) (keeps-more a b _ _ h (omega arith))
 
 -- what is held after a pull that passed a packet
@@ -178,8 +178,8 @@ spends gives a t b q r x token got can k with_one asked =
       asked = subst (λ (n : Nodes). HasAsked gives n b q r x 0 got) k.is asked;
     }
 
-spent-keeps : {S : Type 0} (gives : S → ℕ → Option Packet → S → Type 0) (a b : Nodes) (q r : S) (x : ℕ) (s z : Bucket) (got : Option Packet) → Spends gives a b q r x s z got → Keeps a b (edges_of a.inputs.items x)
-spent-keeps gives a b q r x s z got h = keeps-look a b x h.can (shaper-input a x s h.can h.held) (keeps-from a b x (edges_at a.inputs.items x 0) (Shaper z) h.asked.keeps)
+spent-keeps : {S : Type 0} (gives : S → ℕ → Option Packet → S → Type 0) (a b : Nodes) (q r : S) (x : ℕ) (s z : Bucket) (got : Option Packet) → Spends gives a b q r x s z got → Keeps x a b (edges_of a.inputs.items x)
+spent-keeps gives a b q r x s z got h = keeps-look a b x h.can (shaper-input a x s h.can h.held) (keeps-from a b x (edges_at a.inputs.items x 0) (Shaper z) (keeps-ahead (suc x) x (with_state a x (Shaper z)) b _ h.asked.keeps (omega arith)))
 
 -- It gave a packet.
 spent-passed : {S : Type 0} (gives : S → ℕ → Option Packet → S → Type 0) (a b : Nodes) (q r : S) (x : ℕ) (s z : Bucket) (got : Option Packet) → Spends gives a b q r x s z got → is_some got ≡ true → WasPulled gives a b q r x got
@@ -206,6 +206,7 @@ spent-back gives a b c q r x s z got h none back =
         pull = back.pull ∙ kept.pull;
         moment = back.moment ∙ kept.moment;
         fit = back.fits a.inputs.items kept.fit;
+        ahead = λ y l. back.ahead y l ∙ kept.ahead y l;
         kind = ap (λ v. v.kind) back.log ∙ kept.kind;
         grown = ap (λ v. v.items) back.log ∙ kept.grown ∙ ap (λ l. a.log.items ++ l) (sym more);
         at_most = subst (λ v. a.log.spare ≤ v.spare + edges_of a.inputs.items x) (sym back.log) kept.at_most;
@@ -222,7 +223,7 @@ spent-back gives a b c q r x s z got h none back =
     put : Nodes
     put = with_state a x (Shaper z)
 
-    kept : Keeps a b (edges_of a.inputs.items x)
+    kept : Keeps x a b (edges_of a.inputs.items x)
     kept = spent-keeps gives a b q r x s z got h
 
     more : added a c ≡ added a b
@@ -244,9 +245,10 @@ given-back a x s z state back =
       pull = refl;
       moment = refl;
       fits = λ table fit. fit-set table a.states.items x (Shaper z) fit (λ p e. fit.each x p (Shaper s) e state);
+      ahead = λ y l. set-ahead a.states.items x y (Shaper z) l;
       given = λ b e. (z, refl, subst (λ y. IsGivenBack y z) (bucket-same s b (some-same (Shaper s) (Shaper b) (sym state ∙ e))) back);
     }
 
 -- Nothing is given back where no bucket stands.
 pub none-given : (a : Nodes) (x : ℕ) (w : State) → slice_get a.states.items x ≡ Some w → ((b : Bucket) → w ≢ Shaper b) → GivesBack a (with_state a x w) x
-none-given a x w state other = search (rules, fit-set, some-same)
+none-given a x w state other = search (rules, fit-set, some-same, set-ahead)

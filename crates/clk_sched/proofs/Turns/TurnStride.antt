@@ -1,5 +1,5 @@
 -- The turn of a StrideSched.
-use Rattle.std.proofs.Common.{◌≡◌, ℕ, suc, ◌+◌, ◌<◌, List, ◌∷◌, length, map, take, slice_get, slice_index, Option, Some, None, IsSome, IfSome, sym, ap, ap₂, ◌∙◌, subst, arith, rules}
+use Rattle.std.proofs.Common.{◌≡◌, ℕ, suc, ◌+◌, ◌<◌, List, ◌∷◌, length, take, slice_get, slice_index, Option, Some, None, IsSome, IfSome, sym, ap, ap₂, ◌∙◌, subst, arith, rules}
 use Rattle.std.specs.List.{AllByRecursion}
 use Rattle.std.proofs.lemmas.List.{length-map}
 use Rattle.std.proofs.lemmas.Option.{slice_get-get_or}
@@ -20,6 +20,7 @@ use Rattle.clk_sched.specs.inside.Places.{edges_of, edges_in, input_at}
 use Rattle.clk_sched.specs.inside.Pulling.{Now, CanPull, AsksAll, TakesTurn, now_of, as_turn, with_turn, asked_in_order}
 use Rattle.clk_sched.specs.inside.Ranks.{AreInOrder, inputs_in}
 use Rattle.clk_sched.specs.inside.Turning.{HasAskedAll, HadTurn}
+use Rattle.clk_sched.specs.inside.Winning.{IsWonAt}
 use Rattle.clk_sched.proofs.Classes.Orders.{IsOrderOf, stride-order}
 use Rattle.clk_sched.proofs.Classes.StridePasses.{order-is, row-in_order}
 use Rattle.clk_sched.proofs.Nodes.InOrder.{IsWithin, packet_of, HasTurnedBy, turned-in-order, in_order-giver, walked-inputs, with_turn-given, after-own}
@@ -46,12 +47,6 @@ stride-in_order table x s there fits =
     let place = item-there table x there in
     let here : FitsPasses (length place.0.each.items) s = subst (λ o. IfSome o (λ (q : Inputs). FitsPasses (length q.each.items) s)) place.1 fits in
     row-in_order here.tickets here.turns s here.holds
-
--- what is held after a pull that the input at a place of the row won
-abbrev pub IsWonAt : Passes → Passes → ℕ → Type 0
-IsWonAt s z place =
-    (tickets : List ℕ) (turns : List Turn) (t : Turn) → HoldsPasses tickets turns s → map (λ (v : Visit). v.input) t.visits ≡ take (place + 1) (map (λ (r : Rank). r.input) s.row.items)
-    → giver t.visits ≡ slice_get (map (λ (r : Rank). r.input) s.row.items) place → HoldsPasses tickets (t ∷ turns) z
 
 won-turn : (now : Now) (x place moment : ℕ) (packet : Packet) (order tickets : List ℕ) (turns : List Turn) (s z : Passes) → order ≡ inputs_in s.row.items → place < length order → IsWonAt s z place
     → HoldsPasses tickets turns s → HoldsPasses tickets (as_turn moment (asked_in_order now x order (Some (place, packet))) ∷ turns) z

@@ -1,5 +1,5 @@
 -- What a scheduler that holds heads does at one of its inputs.
-use Rattle.std.specs.Prelude.{◌≡◌, ℕ, ◌+◌, ◌%◌, ◌<◌, ◌≤◌, Bool, false, List, [], ◌∷◌, length, Option, Some, None, slice_get}
+use Rattle.std.specs.Prelude.{◌≡◌, ℕ, suc, ◌+◌, ◌%◌, ◌<◌, ◌≤◌, Bool, false, List, [], ◌∷◌, length, Option, Some, None, slice_get}
 use Rattle.clk_packet.specs.declared.packet.Packet.{Packet}
 use Rattle.clk_sched.specs.declared.visit.Visit.{Visit}
 use Rattle.clk_sched.specs.declared.session.drr.Deficits.{Deficits}
@@ -55,7 +55,7 @@ pub record Looks (old new : Nodes) (x : ℕ) (before after : Deficits) (got : Op
 
 -- A DRRSched at node x looked at the input whose turn it was: what stays, what the queues gave, and what it made of that.
 pub record LooksAt {S : Type 0} (gives : S → ℕ → Option Packet → S → Type 0) (old new : Nodes) (before now : S) (x : ℕ) (held holds : Deficits) (got : Option Packet) (passed : Bool) : Type 0 where
-  pub keeps : Keeps old new (edges_at old.inputs.items x held.cursor)
+  pub keeps : Keeps (suc x) old new (edges_at old.inputs.items x held.cursor)
   pub answers : Answers gives (queue_asked old.inputs.items) before (added old new) now
   pub length_is : length holds.row.items ≡ length held.row.items
   pub moves : passed ≡ false → holds.cursor ≡ (held.cursor + 1) % length held.row.items

@@ -1,5 +1,5 @@
 -- The visits that a DRRSched makes in its turn, as far as it got.
-use Rattle.std.specs.Prelude.{◌≡◌, ◌⊎◌, ℕ, ◌+◌, ◌<◌, ◌≤◌, false, List, [], ◌∷◌, length, map, Option, IfSome, slice_get}
+use Rattle.std.specs.Prelude.{◌≡◌, ◌⊎◌, ℕ, suc, ◌+◌, ◌<◌, ◌≤◌, false, List, [], ◌∷◌, length, map, Option, IfSome, slice_get}
 use Rattle.std.specs.List.{AllByRecursion}
 use Rattle.clk_packet.specs.declared.packet.Packet.{Packet}
 use Rattle.clk_sched.specs.declared.visit.Visit.{Visit}
@@ -26,7 +26,7 @@ pub record IsPlace (n s j i : ℕ) : Type 0 where
 
 -- A DRRSched made these visits of its own, to inputs of which it names none twice.
 pub record HasMade {S : Type 0} (gives : S → ℕ → Option Packet → S → Type 0) (old new : Nodes) (before now : S) (x : ℕ) (first last : Deficits) (own : List Visit) : Type 0 where
-  pub keeps : Keeps old new (edges_in old.inputs.items x (map input_of own))
+  pub keeps : Keeps (suc x) old new (edges_in old.inputs.items x (map input_of own))
   pub answers : Answers gives (queue_asked old.inputs.items) before (added old new) now
   pub asks : AsksAll old new x (map input_of own) own
   pub length_is : length last.row.items ≡ length first.row.items

@@ -122,12 +122,13 @@ pub record CanPull (n : Nodes) (x visits : ℕ) : Type 0 where
   pub room : visits ≤ n.log.spare
   pub moment : n.moment < end_of_moments
 
--- what stays while nodes are pulled, and that the log grows, by so many visits at most
-pub record Keeps (old new : Nodes) (most : ℕ) : Type 0 where
+-- what stays while nodes from `first` on are pulled, and that the log grows, by so many visits at most
+pub record Keeps (first : ℕ) (old new : Nodes) (most : ℕ) : Type 0 where
   pub inputs : new.inputs.items ≡ old.inputs.items
   pub pull : new.pull ≡ old.pull
   pub moment : new.moment ≡ old.moment
   pub fit : AllFit old.inputs.items new.states.items
+  pub ahead : (y : ℕ) → y < first → slice_get new.states.items y ≡ slice_get old.states.items y
   pub kind : new.log.kind ≡ old.log.kind
   pub grown : new.log.items ≡ old.log.items ++ added old new
   pub at_most : old.log.spare ≤ new.log.spare + most

@@ -1,5 +1,5 @@
 -- The tokens of a Shaper, whose bucket stands in its place.
-use Rattle.std.specs.Prelude.{◌≡◌, ℕ, zero, suc, ◌+◌, ◌-◌, ◌≤◌, Bool, true, List, Option, Some, MatchBool, MatchOption, slice_get}
+use Rattle.std.specs.Prelude.{◌≡◌, ℕ, zero, suc, ◌+◌, ◌-◌, ◌<◌, ◌≤◌, Bool, true, List, Option, Some, MatchBool, MatchOption, slice_get}
 use Rattle.clk_packet.specs.declared.packet.Packet.{Packet}
 use Rattle.clk_sched.specs.declared.session.inputs.Input.TheVariants.{Node}
 use Rattle.clk_sched.specs.declared.session.inputs.Inputs.{Inputs}
@@ -29,6 +29,7 @@ pub record GivesBack (old new : Nodes) (x : ℕ) : Type 0 where
   pub pull : new.pull ≡ old.pull
   pub moment : new.moment ≡ old.moment
   pub fits : (table : List Inputs) → AllFit table old.states.items → AllFit table new.states.items
+  pub ahead : (y : ℕ) → y < x → slice_get new.states.items y ≡ slice_get old.states.items y
   pub given : (bucket : Bucket) → slice_get old.states.items x ≡ Some (Shaper bucket) → (left : Bucket) × (new ≡ with_state old x (Shaper left)) × IsGivenBack bucket left
 
 -- What a Shaper got was recorded, and its token was given back if it got nothing.

@@ -1,5 +1,5 @@
 -- What it means that a node was pulled, had its turn, or asked its inputs.
-use Rattle.std.specs.Prelude.{◌≡◌, ℕ, List, [], ◌∷◌, length, Option, Some, None, IfSome, slice_get}
+use Rattle.std.specs.Prelude.{◌≡◌, ℕ, suc, List, [], ◌∷◌, length, Option, Some, None, IfSome, slice_get}
 use Rattle.std.specs.Vec.{with_item}
 use Rattle.clk_packet.specs.declared.packet.Packet.{Packet}
 use Rattle.clk_sched.specs.declared.session.state.State.{State}
@@ -24,13 +24,13 @@ with_idle_at a x first count =
 
 -- A node was pulled: what stays, what the queues gave, and what it made of that.
 pub record WasPulled {S : Type 0} (gives : S → ℕ → Option Packet → S → Type 0) (old new : Nodes) (before now : S) (x : ℕ) (got : Option Packet) : Type 0 where
-  pub keeps : Keeps old new (edges_of old.inputs.items x)
+  pub keeps : Keeps x old new (edges_of old.inputs.items x)
   pub answers : Answers gives (queue_asked old.inputs.items) before (added old new) now
   pub pulls : Pulls old new x got
 
 -- A node had its turn with one state, and holds another after it, wherever the state stands during the turn.
 pub record HadTurn {S : Type 0} (gives : S → ℕ → Option Packet → S → Type 0) (old new : Nodes) (before now : S) (x : ℕ) (held holds : State) (got : Option Packet) : Type 0 where
-  pub keeps : Keeps old new (edges_of old.inputs.items x)
+  pub keeps : Keeps x old new (edges_of old.inputs.items x)
   pub answers : Answers gives (queue_asked old.inputs.items) before (added old new) now
   pub fits : IfSome (slice_get old.inputs.items x) (λ p. Fits holds (length p.each.items))
   pub turn : (class : Scheduler) → TakesTurn old new x class held holds got
@@ -43,12 +43,12 @@ pub record IsIdle {S : Type 0} (gives : S → ℕ → Option Packet → S → Ty
 
 -- A node asked one of its inputs, and recorded the visit.
 pub record HasAsked {S : Type 0} (gives : S → ℕ → Option Packet → S → Type 0) (old new : Nodes) (before now : S) (x i : ℕ) (got : Option Packet) : Type 0 where
-  pub keeps : Keeps old new (edges_at old.inputs.items x i)
+  pub keeps : Keeps (suc x) old new (edges_at old.inputs.items x i)
   pub answers : Answers gives (queue_asked old.inputs.items) before (added old new) now
   pub asks : AsksAll old new x (i ∷ []) (asking old.pull old.moment x i got ∷ [])
 
 -- A node asked its inputs in this order, up to the place at which a packet was given.
 pub record HasAskedAll {S : Type 0} (gives : S → ℕ → Option Packet → S → Type 0) (old new : Nodes) (before now : S) (x : ℕ) (order : List ℕ) (given : Option (ℕ × Packet)) : Type 0 where
-  pub keeps : Keeps old new (edges_in old.inputs.items x order)
+  pub keeps : Keeps (suc x) old new (edges_in old.inputs.items x order)
   pub answers : Answers gives (queue_asked old.inputs.items) before (added old new) now
   pub asks : AsksAll old new x order (asked_in_order (now_of old) x order given)

@@ -33,7 +33,7 @@ pub struct Nodes {
 }
 
 impl Nodes {
-    ghost use Rattle.std.specs.Prelude.{◌≡◌, ℕ, None, ◌-◌, ◌<◌, ◌++◌, ◌∷◌, [], ◌+◌, ◌≤◌, length, take, IsSome, IfSome, Some, slice_get, true};
+    ghost use Rattle.std.specs.Prelude.{◌≡◌, ℕ, suc, None, ◌-◌, ◌<◌, ◌++◌, ◌∷◌, [], ◌+◌, ◌≤◌, length, take, IsSome, IfSome, Some, slice_get, true};
     ghost use Rattle.std.specs.List.{AllByRecursion, range_with_len};
     ghost use Rattle.clk_packet.specs.Limits.{most_inputs};
     ghost use Rattle.clk_sched.specs.declared.visit.Visit.{Visit};
@@ -82,8 +82,8 @@ impl Nodes {
         forget(replace(&mut self.states[node as usize], state));
     }
 
-    /// Asks inputs of a node in this order until one gives a packet, and returns its place in the order and the packet. `vain` says that the
-    /// first may well be idle.
+    /// Asks inputs of a node in this order until one gives a packet, and returns its place in the order and the packet. Skips those that are
+    /// known to give nothing.
     #[cycle(pull)]
     #[inline(always)]
     pub fn ask_in_order<Q: Ask>(
@@ -91,7 +91,6 @@ impl Nodes {
         q: &mut Q,
         node: u16,
         order: &[Rank],
-        vain: bool,
     ) -> Option<(usize, Packet)>
         requires can_pull { CanPull self.old node (edges_in self.old.inputs.items node (inputs_in order.now)) }
         requires within { AllByRecursion (λ i. IsSome (input_at self.old.inputs.items node i)) (inputs_in order.now) }
@@ -100,15 +99,14 @@ impl Nodes {
         ensures asked { HasAskedAll Q.gives self.old self.new q.old q.new node (inputs_in order.now) result }
     {
         let mut place = 0;
-        if vain {
-            place = self.pass_resting_of(q, node, order);
-        }
         while place < order.len() {
-            if let Some(packet) = self.look(q, node, order[place].input) {
-                return Some((place, packet));
-            }
-            place += 1;
             place += self.pass_resting_of(q, node, &order[place..]);
+            if place < order.len() {
+                if let Some(packet) = self.look(q, node, order[place].input) {
+                    return Some((place, packet));
+                }
+                place += 1;
+            }
         }
         None
     }
@@ -268,7 +266,7 @@ impl Nodes {
     pub fn ask<Q: Ask>(&mut self, q: &mut Q, node: u16, input: u16) -> Option<Packet>
         requires can_pull { CanPull self.old node (edges_at self.old.inputs.items node input) }
         requires within { IsSome (input_at self.old.inputs.items node input) }
-        ensures keeps { Keeps self.old self.new (edges_at self.old.inputs.items node input - 1) }
+        ensures keeps { Keeps (suc node) self.old self.new (edges_at self.old.inputs.items node input - 1) }
         ensures answers { (v : Visit) → v.node ≡ node → v.input ≡ input → v.fresh ≡ true → v.got ≡ result
             → Answers Q.gives (queue_asked self.old.inputs.items) q.old (added self.old self.new ++ v ∷ []) q.new }
         ensures asks { Asks self.old self.new node input result }

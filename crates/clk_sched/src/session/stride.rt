@@ -4,7 +4,7 @@ ghost use Rattle.std.specs.Prelude.{◌≡◌, ◌≤◌, ◌<◌, ◌+◌, ◌^
 ghost use Rattle.std.specs.List.{All, AllByRecursion, range_with_len};
 ghost use Rattle.clk_packet.specs.Limits.{most_inputs, most_tickets};
 ghost use Rattle.clk_sched.specs.Laws.Stride.{stride_of};
-ghost use Rattle.clk_sched.specs.inside.Ranks.{greatest_stride, IsRankOf, FollowOneAnother, HasRisingPasses, HasRisingPasses-prop, AreInOrder, AreUpTo, is_up_to, put_rank, put_all, at_pass, after_win, first_pass, from_least, less, first_rank, IsRowWon};
+ghost use Rattle.clk_sched.specs.inside.Ranks.{greatest_stride, IsRankOf, FollowOneAnother, HasRisingPasses, HasRisingPasses-prop, AreInOrder, AreUpTo, is_up_to, put_rank, put_all, at_pass, after_win, first_pass, from_least, less, first_rank, inputs_in, IsRowWon};
 
 use crate::ask::Ask;
 use crate::session::nodes::Nodes;
@@ -69,9 +69,7 @@ pub struct Passes {
 }
 
 impl Passes {
-    ghost use Rattle.std.specs.Prelude.{ℕ, [], slice_get, IfSome};
-    ghost use Rattle.clk_sched.specs.declared.visit.Visit.{Visit};
-    ghost use Rattle.clk_sched.specs.Turns.{Turn, giver};
+    ghost use Rattle.std.specs.Prelude.{ℕ, [], None, IsSome, slice_get, IfSome};
     ghost use Rattle.clk_sched.specs.inside.Holds.Stride.{HoldsPasses};
 
     /// The passes before the first pull, by the tickets of each input.
@@ -106,10 +104,7 @@ impl Passes {
     fn won(&mut self, place: usize)
         requires place { place < length self.old.row.items }
         requires order { AreInOrder self.old.row.items }
-        ensures holds { (tickets : List ℕ) (turns : List Turn) (t : Turn) → HoldsPasses tickets turns self.old
-            → map (λ (v : Visit). v.input) t.visits ≡ take (place + 1) (map (λ (r : Rank). r.input) self.old.row.items)
-            → giver t.visits ≡ slice_get (map (λ (r : Rank). r.input) self.old.row.items) place
-            → HoldsPasses tickets (t ∷ turns) self.new }
+        ensures holds { IsWonAt self.old self.new place }
         ensures inputs { length self.new.row.items ≡ length self.old.row.items }
     {
         self.vain = place > 0;
@@ -118,15 +113,17 @@ impl Passes {
         win_at(row, place, stride);
     }
 
-    ghost use Rattle.clk_sched.specs.inside.Places.{edges_of};
+    ghost use Rattle.clk_sched.specs.inside.Places.{edges_of, edges_in, input_at};
     ghost use Rattle.clk_sched.specs.inside.Pulling.{CanPull};
-    ghost use Rattle.clk_sched.specs.inside.Turning.{WasPulled, HadTurn};
+    ghost use Rattle.clk_sched.specs.inside.Turning.{WasPulled};
+    ghost use Rattle.clk_sched.specs.inside.Winning.{IsWonAt, WinsFirst, MayAskOn, TurnsOn};
     ghost use Rattle.std.specs.Global.{Box};
-    ghost use Rattle.clk_sched.specs.declared.session.stride.Passes.{Passes};
     ghost use Rattle.clk_sched.specs.declared.session.state.State.TheVariants.{Stride};
     ghost use Rattle.clk_sched.specs.inside.Holds.OfClass.{FitsPasses, IsStride};
 
     /// Pulls a StrideSched.
+    // Mostly the first input of the row gives a packet. It is asked while the passes stand in their place, so that such a pull doesn't take
+    // them out and put them back.
     #[cycle(pull)]
     #[inline(never)]
     pub fn pull<Q: Ask>(nodes: &mut Nodes, q: &mut Q, node: u16) -> Option<Packet>
@@ -134,24 +131,79 @@ impl Passes {
         requires holds { IfSome (slice_get nodes.old.states.items node) IsStride }
         ensures { WasPulled Q.gives nodes.old nodes.new q.old q.new node result }
     {
+        let Some(input) = Passes::first_input(nodes, node) else {
+            return Passes::ask_on(nodes, q, node, 0);
+        };
+        let Some(packet) = nodes.look(q, node, input) else {
+            return Passes::ask_on(nodes, q, node, 1);
+        };
+        Passes::win_first_at(nodes, node);
+        Some(packet)
+    }
+
+    // The first input of the row of a StrideSched, unless it may well be idle.
+    #[inline]
+    fn first_input(nodes: &Nodes, node: u16) -> Option<u16>
+        requires there { node < length nodes.now.states.items }
+        ensures { (held : Box Passes) → slice_get nodes.now.states.items node ≡ Some (Stride held) → IfSome result (λ input. take 1 (inputs_in held.value.row.items) ≡ input ∷ []) }
+    {
+        let State::Stride(passes) = &nodes.states[node as usize] else {
+            return None;
+        };
+        if passes.vain {
+            return None;
+        }
+        match passes.row() {
+            [first, ..] => Some(first.input),
+            [] => None,
+        }
+    }
+
+    // Lets the first input of the row of a StrideSched win.
+    #[inline]
+    fn win_first_at(nodes: &mut Nodes, node: u16)
+        requires there { node < length nodes.old.states.items }
+        requires order { (held : Box Passes) → slice_get nodes.old.states.items node ≡ Some (Stride held) → (0 < length held.value.row.items) × AreInOrder held.value.row.items }
+        ensures { (held : Box Passes) → slice_get nodes.old.states.items node ≡ Some (Stride held) → WinsFirst nodes.old nodes.new node held }
+    {
+        if let State::Stride(passes) = &mut nodes.states[node as usize] {
+            passes.won(0);
+        }
+    }
+
+    // Goes on with the turn of a StrideSched that asked the first so many inputs of its row, which gave nothing.
+    #[cycle(pull)]
+    #[inline(never)]
+    fn ask_on<Q: Ask>(nodes: &mut Nodes, q: &mut Q, node: u16, asked: usize) -> Option<Packet>
+        requires { MayAskOn Q.gives nodes.old q.old node asked }
+        ensures { (m : MayAskOn Q.gives nodes.old q.old node asked) → WasPulled Q.gives m.first nodes.new m.before q.new node result }
+    {
         let State::Stride(mut passes) = nodes.take(node) else {
             unreachable!()
         };
-        let got = passes.turn(nodes, q, node);
+        let got = passes.turn(nodes, q, node, asked);
         nodes.put(node, State::Stride(passes));
         got
     }
 
-    // The turn of a StrideSched.
+    // The turn of a StrideSched that asked the first so many inputs of its row.
     #[cycle(pull)]
-    fn turn<Q: Ask>(&mut self, nodes: &mut Nodes, q: &mut Q, node: u16) -> Option<Packet>
-        requires can_pull { CanPull nodes.old node (edges_of nodes.old.inputs.items node) }
+    fn turn<Q: Ask>(
+        &mut self,
+        nodes: &mut Nodes,
+        q: &mut Q,
+        node: u16,
+        asked: usize,
+    ) -> Option<Packet>
+        requires can_pull { CanPull nodes.old node (edges_in nodes.old.inputs.items node (drop asked (inputs_in self.old.row.items))) }
+        requires there { AllByRecursion (λ i. IsSome (input_at nodes.old.inputs.items node i)) (drop asked (inputs_in self.old.row.items)) }
         requires fits { IfSome (slice_get nodes.old.inputs.items node) (λ p. FitsPasses (length p.each.items) self.old) }
-        ensures { (held holds : Box Passes) → held.value ≡ self.old → holds.value ≡ self.new → HadTurn Q.gives nodes.old nodes.new q.old q.new node (Stride held) (Stride holds) result }
+        requires within { asked ≤ length self.old.row.items }
+        ensures { TurnsOn Q.gives nodes.old nodes.new q.old q.new node asked self.old self.new result }
     {
-        match nodes.ask_in_order(q, node, self.row(), self.vain) {
+        match nodes.ask_in_order(q, node, &self.row()[asked..]) {
             Some((place, packet)) => {
-                self.won(place);
+                self.won(asked + place);
                 Some(packet)
             }
             None => None,

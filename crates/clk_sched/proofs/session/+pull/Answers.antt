@@ -1,6 +1,6 @@
 use Rattle.std.proofs.lemmas.Bool.Decides.{nat_tests}
 use Rattle.std.proofs.lemmas.Grind.{common_steps, elements}
-use Rattle.std.proofs.Common.{IfSome, slice_get, ◌≡◌, ℕ, ◌+◌, ◌-◌, ◌<◌, ◌≤◌, true, List, [], length, take, drop, Option, Some, None, IsSome, refl, sym, ap, ◌∙◌, subst, arith, rules}
+use Rattle.std.proofs.Common.{IfSome, slice_get, ◌≡◌, ℕ, ◌+◌, ◌-◌, ◌<◌, ◌≤◌, true, List, [], ◌∷◌, length, take, drop, Option, Some, None, IsSome, refl, sym, ap, ◌∙◌, subst, arith, rules}
 use Rattle.std.specs.Global.{Box}
 use Rattle.std.specs.List.{AllByRecursion, range_with_len}
 use Rattle.std.proofs.lemmas.List.{length-drop, length-map}
@@ -17,24 +17,25 @@ use Rattle.clk_sched.specs.inside.Places.{edges_in, input_at}
 use Rattle.clk_sched.specs.inside.Pulling.{CanPull}
 use Rattle.clk_sched.specs.inside.Ranks.{AreInOrder, inputs_in}
 use Rattle.clk_sched.proofs.Lists.Ranges.{range-front}
-use Rattle.clk_sched.proofs.Nodes.Asking.{IsAsking, asking-first, asked-vain, keeps-more, answers-then, asking-ready, asking-given, asking-next, asking-all}
-use Rattle.clk_sched.proofs.Nodes.Asked.{entry, rank_at, entry-input, input-is, edges-scheduler, queue-visited, asks-queue, asks-child}
+use Rattle.clk_sched.proofs.Nodes.Asking.{IsAsking, asking-first, asked-vain, answers-then, asking-ready, asking-given, asking-next, asking-all}
+use Rattle.clk_sched.proofs.Nodes.Asked.{entry, rank_at, entry-input, input-is, child-after, keeps-child, queue-visited, asks-queue, asks-child}
 use Rattle.clk_sched.proofs.Classes.RankLemmas.{after-place, inputs-after, in_order-after}
-use Rattle.clk_sched.proofs.Nodes.Idle.{rest-can, asking-past, asking-still, turn-can, turn-past}
-use Rattle.clk_sched.proofs.Nodes.Placed.{can-turn, kept-there, pulled-back, pulled-put, pulled-still}
+use Rattle.clk_sched.proofs.Nodes.Idle.{rest-can, asking-past, turn-can, turn-past}
+use Rattle.clk_sched.proofs.Nodes.Placed.{can-turn, kept-there, passes-same, pulled-back, pulled-put, pulled-still, some-same, state-there}
 use Rattle.clk_sched.proofs.Turns.TurnPrio.{prio-asks, prio-pulled}
 use Rattle.clk_sched.proofs.Turns.TurnRoundRobin.{begins, may-first, may-second, had-first, had-second, had-none}
 use Rattle.clk_sched.proofs.Nodes.Logged.{queue-answers, asked-logged}
 use Rattle.clk_sched.proofs.Turns.LooksDrr.{looks-at-asked}
 use Rattle.clk_sched.proofs.Turns.TurnDrr.{looks-below, making-first, making-can, making-next, making-passed, making-all, had-ended}
-use Rattle.clk_sched.proofs.Turns.TurnStride.{FitsAt, stride-in_order, stride-may, had-won, had-lost}
+use Rattle.clk_sched.proofs.Turns.TurnStride.{stride-in_order}
+use Rattle.clk_sched.proofs.Turns.StrideAsks.{left-after, left-order, turned-won, turned-lost, out-may, out-there, out-pulled, stride-there, first-none, first-may, first-some, first-order, first-vain, first-won}
 use Rattle.clk_sched.proofs.Turns.ShaperRow.{below-refused, below-answered, whole-answered, answers-keep, goes-may, goes-room, goes-edges, goes-order, goes-inputs}
 use Rattle.clk_sched.specs.inside.Tokens.{GoesDown}
 use Rattle.clk_sched.specs.inside.Turning.{HadTurn, HasAsked, HasAskedAll, WasPulled}
 use Rattle.clk_sched.specs.inside.Looking.{IsHead}
 use Rattle.clk_sched.proofs.Nodes.InOrder.{packet_of}
 use Rattle.clk_sched.proofs.session.+pull.Goals as goal
-use Rattle.clk_sched.proofs.session.+pull.Goals.{nodes::Nodes::ask_in_order-then-vain, nodes::Nodes::ask_in_order-else-vain, nodes::Nodes::ask_in_turn-then-vain, nodes::Nodes::ask_in_turn-else-vain}
+use Rattle.clk_sched.proofs.session.+pull.Goals.{nodes::Nodes::ask_in_turn-then-vain, nodes::Nodes::ask_in_turn-else-vain}
 
 -- a box with something else in it
 abbrev boxed : {X : Type 0} → Box X → X → Box X
@@ -47,7 +48,11 @@ pub nodes::Nodes::ask-returns-in-Queue-clause-asks : goal.nodes::Nodes::ask-retu
 nodes::Nodes::ask-returns-in-Queue-clause-asks g t c = search (rules, entry, input-is, asks-queue)
 
 pub nodes::Nodes::ask-returns-in-Node-clause-keeps : goal.nodes::Nodes::ask-returns-in-Node-clause-keeps
-nodes::Nodes::ask-returns-in-Node-clause-keeps g t c = search (rules, entry, input-is, edges-scheduler, keeps-more)
+nodes::Nodes::ask-returns-in-Node-clause-keeps g t c =
+    let table = c.args.self.now.inputs.items in
+    let place = entry table c.args.node c.index.result.now (c.requires.can_pull.there) c.index.ensures in
+    let input : input_at table c.args.node c.args.input ≡ Some (Node c.in-Node.child) = input-is table c.args.node c.args.input c.index.result.now c.index-2.result.now place c.requires.within c.index-2.ensures ∙ ap Some c.in-Node.is in
+    keeps-child c.args.self.now c.pull.new.self c.args.node c.args.input c.in-Node.child input (child-after table c.args.node c.args.input c.in-Node.child c.requires.can_pull.wired input).0 c.pull.ensures.keeps
 
 pub nodes::Nodes::ask-returns-in-Node-clause-answers : goal.nodes::Nodes::ask-returns-in-Node-clause-answers
 nodes::Nodes::ask-returns-in-Node-clause-answers g t c = search (rules, entry, input-is, answers-then, queue-visited)
@@ -59,67 +64,72 @@ nodes::Nodes::ask-returns-in-Node-clause-asks g t c =
     let input : input_at table c.args.node c.args.input ≡ Some (Node c.in-Node.child) = input-is table c.args.node c.args.input c.index.result.now c.index-2.result.now place c.requires.within c.index-2.ensures ∙ ap Some c.in-Node.is in
     asks-child c.args.self.now c.pull.new.self c.args.node c.args.input c.in-Node.child c.pull.result input c.pull.ensures.pulls
 
+pub nodes::Nodes::ask_in_order-pass_resting_of-place-requires-clause-can_pull : goal.nodes::Nodes::ask_in_order-pass_resting_of-place-requires-clause-can_pull
+nodes::Nodes::ask_in_order-pass_resting_of-place-requires-clause-can_pull g t c =
+    let now = c.loop-place.self in
+    let k = c.loop-place.place in
+    let rest = rest-can g.Q.Ask.gives c.args.self.now now c.args.q.now c.loop-place.q c.args.node k (inputs_in c.args.order.now) c.requires.can_pull c.requires.within c.loop-place.invariant.1 in
+    subst (λ l. CanPull now c.args.node (edges_in now.inputs.items c.args.node l)) (sym (inputs-after c.args.order.now k)) rest.0
+
+pub nodes::Nodes::ask_in_order-pass_resting_of-place-requires-clause-within : goal.nodes::Nodes::ask_in_order-pass_resting_of-place-requires-clause-within
+nodes::Nodes::ask_in_order-pass_resting_of-place-requires-clause-within g t c =
+    let now = c.loop-place.self in
+    let k = c.loop-place.place in
+    let rest = rest-can g.Q.Ask.gives c.args.self.now now c.args.q.now c.loop-place.q c.args.node k (inputs_in c.args.order.now) c.requires.can_pull c.requires.within c.loop-place.invariant.1 in
+    subst (AllByRecursion (λ i. IsSome (input_at now.inputs.items c.args.node i))) (sym (inputs-after c.args.order.now k)) rest.1
+
+pub nodes::Nodes::ask_in_order-pass_resting_of-place-requires-clause-order : goal.nodes::Nodes::ask_in_order-pass_resting_of-place-requires-clause-order
+nodes::Nodes::ask_in_order-pass_resting_of-place-requires-clause-order g t c =
+    subst AreInOrder (sym (after-place c.args.order.now c.loop-place.place)) (in_order-after c.loop-place.place c.args.order.now c.requires.order)
+
+-- what was asked once so many more of an order were skipped
+order-past : {S : Type 0} (gives : S → ℕ → Option Packet → S → Type 0) (a b c : Nodes) (p q : S) (x k n : ℕ) (order : List Rank) → IsAsking gives a b p q x (take k (inputs_in order))
+    → HasAskedAll gives b c q q x (take n (inputs_in (take (length order - k) (drop k order)))) None → IsAsking gives a c p q x (take (k + n) (inputs_in order))
+order-past gives a b c p q x k n order h passed = asking-past gives a b c p q x k n (inputs_in order) h (subst (λ l. HasAskedAll gives b c q q x (take n l) None) (inputs-after order k) passed)
+
+order-below : (k : ℕ) (order : List Rank) → k < length order → k < length (inputs_in order)
+order-below k order l = subst (λ n. k < n) (sym (length-map order (λ (r : Rank). r.input))) l
+
+order-within : (k n : ℕ) (order : List Rank) → k < length order → n ≤ length (take (length order - k) (drop k order)) → k + n ≤ length order
+order-within k n order l within = let size = ap length (after-place order k) ∙ length-drop k order in omega (arith, l, within, size)
+
 pub nodes::Nodes::ask_in_order-look-requires : goal.nodes::Nodes::ask_in_order-look-requires
 nodes::Nodes::ask_in_order-look-requires g t c =
-    let k = c.loop-place.place in
-    let now = c.loop-place.self in
-    let test = c.loop-place-test.true in
-    let h = c.loop-place.invariant.1 in
-    let ready = asking-ready g.Q.Ask.gives c.args.self.now now c.args.q.now c.loop-place.q c.args.node k (rank_at c.args.order.now k).input (inputs_in c.args.order.now) c.requires.can_pull c.requires.within h (subst (λ n. k < n) (sym (length-map c.args.order.now (λ (r : Rank). r.input))) test) (entry-input c.args.order.now k test) in
-    let same = ap length h.keeps.inputs in
+    let order = c.args.order.now in
+    let k = c.loop-place.place + c.pass_resting_of-place.result in
+    let test : k < length order = c.if-place-order.true in
+    let past = order-past g.Q.Ask.gives c.args.self.now c.loop-place.self c.pass_resting_of-place.new.self c.args.q.now c.loop-place.q c.args.node c.loop-place.place c.pass_resting_of-place.result order c.loop-place.invariant.1 c.pass_resting_of-place.ensures.asked in
+    let ready = asking-ready g.Q.Ask.gives c.args.self.now c.pass_resting_of-place.new.self c.args.q.now c.loop-place.q c.args.node k (rank_at order k).input (inputs_in order) c.requires.can_pull c.requires.within past (order-below k order test) (entry-input order k test) in
+    let same = ap length past.keeps.inputs in
     let less = c.decreases in
     λ κs le. (omega (arith, same, less), (search, (ready.0, ready.1)))
 
 pub nodes::Nodes::ask_in_order-returns-in-Some-clause-asked : goal.nodes::Nodes::ask_in_order-returns-in-Some-clause-asked
 nodes::Nodes::ask_in_order-returns-in-Some-clause-asked g t c =
-    let order = inputs_in c.args.order.now in
-    let k = c.loop-place.place in
-    asking-given g.Q.Ask.gives c.args.self.now c.loop-place.self c.look.new.self c.args.q.now c.loop-place.q c.look.new.q c.args.node k (rank_at c.args.order.now k).input c.look.result c.in-Some.packet order (subst (λ n. k < n) (sym (length-map c.args.order.now (λ (r : Rank). r.input))) c.loop-place-test.true) c.loop-place.invariant.1 (entry-input c.args.order.now k c.loop-place-test.true) c.in-Some.is c.look.ensures
+    let order = c.args.order.now in
+    let k = c.loop-place.place + c.pass_resting_of-place.result in
+    let test : k < length order = c.if-place-order.true in
+    let past = order-past g.Q.Ask.gives c.args.self.now c.loop-place.self c.pass_resting_of-place.new.self c.args.q.now c.loop-place.q c.args.node c.loop-place.place c.pass_resting_of-place.result order c.loop-place.invariant.1 c.pass_resting_of-place.ensures.asked in
+    asking-given g.Q.Ask.gives c.args.self.now c.pass_resting_of-place.new.self c.look.new.self c.args.q.now c.loop-place.q c.look.new.q c.args.node k (rank_at order k).input c.look.result c.in-Some.packet (inputs_in order) (order-below k order test) past (entry-input order k test) c.in-Some.is c.look.ensures
 
--- what was asked once an input gave nothing
-order-none : {S : Type 0} (gives : S → ℕ → Option Packet → S → Type 0) (a b c : Nodes) (p q r : S) (x k : ℕ) (order : List Rank) (got : Option Packet) → k < length order → IsAsking gives a b p q x (take k (inputs_in order))
-    → got ≡ None → HasAsked gives b c q r x (rank_at order k).input got → IsAsking gives a c p r x (take (k + 1) (inputs_in order))
-order-none gives a b c p q r x k order got below h none asked =
-    asking-next gives a b c p q r x k (rank_at order k).input got (inputs_in order) (subst (λ m. k < m) (sym (length-map order (λ (s : Rank). s.input))) below) h (entry-input order k below) none asked
-
-pub nodes::Nodes::ask_in_order-pass_resting_of-place-requires-in-loop-place : goal.nodes::Nodes::ask_in_order-pass_resting_of-place-requires-in-loop-place
-nodes::Nodes::ask_in_order-pass_resting_of-place-requires-in-loop-place g t c =
-    let k = c.loop-place.place in
-    let h = order-none g.Q.Ask.gives c.args.self.now c.loop-place.self c.look.new.self c.args.q.now c.loop-place.q c.look.new.q c.args.node k c.args.order.now c.look.result c.loop-place-test.true c.loop-place.invariant.1 c.in_default.is c.look.ensures in
-    let rest = rest-can g.Q.Ask.gives c.args.self.now c.look.new.self c.args.q.now c.look.new.q c.args.node (k + 1) (inputs_in c.args.order.now) c.requires.can_pull c.requires.within h in
-    let after = sym (inputs-after c.args.order.now (k + 1)) in
-    record {
-      can_pull = subst (λ l. CanPull c.look.new.self c.args.node (edges_in c.look.new.self.inputs.items c.args.node l)) after rest.0;
-      within = subst (AllByRecursion (λ i. IsSome (input_at c.look.new.self.inputs.items c.args.node i))) after rest.1;
-      order = subst AreInOrder (sym (after-place c.args.order.now (k + 1))) (in_order-after (k + 1) c.args.order.now c.requires.order);
-    }
-
-pub nodes::Nodes::ask_in_order-loop-place-init : goal.nodes::Nodes::ask_in_order-loop-place-init
-nodes::Nodes::ask_in_order-loop-place-init g t c =
-    elim c.if-vain.branch [
-      | nodes::Nodes::ask_in_order-then-vain w ↦ search (rules, asked-vain)
-      | nodes::Nodes::ask_in_order-else-vain w ↦ (
-        omega arith,
-        subst (λ k. IsAsking g.Q.Ask.gives c.args.self.now c.if-vain.self c.args.q.now c.args.q.now c.args.node (take k (inputs_in c.args.order.now))) (sym w.place-is)
-            (subst (λ now. IsAsking g.Q.Ask.gives c.args.self.now now c.args.q.now c.args.q.now c.args.node []) (sym w.self-is) (asking-first g.Q.Ask.gives c.args.self.now c.args.q.now c.args.node c.requires.can_pull.fit)),
-      )
-    ]
-
-pub nodes::Nodes::ask_in_order-loop-place-preserved : goal.nodes::Nodes::ask_in_order-loop-place-preserved
-nodes::Nodes::ask_in_order-loop-place-preserved g t c =
-    let k = c.loop-place.place in
-    let n = c.pass_resting_of-place-in-loop-place.result in
-    let within = c.pass_resting_of-place-in-loop-place.ensures.within in
-    let size = ap length (after-place c.args.order.now (k + 1)) ∙ length-drop (k + 1) c.args.order.now in
-    let test = c.loop-place-test.true in
-    let h = order-none g.Q.Ask.gives c.args.self.now c.loop-place.self c.look.new.self c.args.q.now c.loop-place.q c.look.new.q c.args.node k c.args.order.now c.look.result test c.loop-place.invariant.1 c.in_default.is c.look.ensures in (
-      omega (arith, test, within, size),
-      asking-past g.Q.Ask.gives c.args.self.now c.look.new.self c.pass_resting_of-place-in-loop-place.new.self c.args.q.now c.look.new.q c.args.node (k + 1) n (inputs_in c.args.order.now) h
-          (subst (λ l. HasAskedAll g.Q.Ask.gives c.look.new.self c.pass_resting_of-place-in-loop-place.new.self c.look.new.q c.look.new.q c.args.node (take n l) None) (inputs-after c.args.order.now (k + 1)) c.pass_resting_of-place-in-loop-place.ensures.asked),
+pub nodes::Nodes::ask_in_order-loop-place-preserved-then-place-order : goal.nodes::Nodes::ask_in_order-loop-place-preserved-then-place-order
+nodes::Nodes::ask_in_order-loop-place-preserved-then-place-order g t c =
+    let order = c.args.order.now in
+    let k = c.loop-place.place + c.pass_resting_of-place.result in
+    let test : k < length order = c.if-place-order.true in
+    let past = order-past g.Q.Ask.gives c.args.self.now c.loop-place.self c.pass_resting_of-place.new.self c.args.q.now c.loop-place.q c.args.node c.loop-place.place c.pass_resting_of-place.result order c.loop-place.invariant.1 c.pass_resting_of-place.ensures.asked in (
+      omega (arith, test),
+      asking-next g.Q.Ask.gives c.args.self.now c.pass_resting_of-place.new.self c.look.new.self c.args.q.now c.loop-place.q c.look.new.q c.args.node k (rank_at order k).input c.look.result (inputs_in order) (order-below k order test) past (entry-input order k test) c.in_default.is c.look.ensures,
     )
 
-pub nodes::Nodes::ask_in_order-returns : goal.nodes::Nodes::ask_in_order-returns
-nodes::Nodes::ask_in_order-returns g t c = search (rules, length-map, asking-all)
+pub nodes::Nodes::ask_in_order-loop-place-preserved : goal.nodes::Nodes::ask_in_order-loop-place-preserved
+nodes::Nodes::ask_in_order-loop-place-preserved g t c = (
+  order-within c.loop-place.place c.pass_resting_of-place.result c.args.order.now c.loop-place-test.true c.pass_resting_of-place.ensures.within,
+  order-past g.Q.Ask.gives c.args.self.now c.loop-place.self c.pass_resting_of-place.new.self c.args.q.now c.loop-place.q c.args.node c.loop-place.place c.pass_resting_of-place.result c.args.order.now c.loop-place.invariant.1 c.pass_resting_of-place.ensures.asked,
+)
+
+pub nodes::Nodes::ask_in_order-returns-clause-asked : goal.nodes::Nodes::ask_in_order-returns-clause-asked
+nodes::Nodes::ask_in_order-returns-clause-asked g t c = search (rules, length-map, asking-all)
 
 pub nodes::Nodes::ask_in_turn-pass_idle-place-requires : goal.nodes::Nodes::ask_in_turn-pass_idle-place-requires
 nodes::Nodes::ask_in_turn-pass_idle-place-requires g t c = search (rules, turn-can)
@@ -346,18 +356,116 @@ round_robin::Beginning::pull-returns-in-None g t c =
 
 pub stride::Passes::turn-ask_in_order-requires : goal.stride::Passes::turn-ask_in_order-requires
 stride::Passes::turn-ask_in_order-requires g t c =
-    let may = stride-may c.args.nodes.now c.args.node c.args.self.now c.row.result.now c.requires.can_pull c.requires.fits c.row.ensures in
-    let order = stride-in_order c.args.nodes.now.inputs.items c.args.node c.args.self.now c.requires.can_pull.there c.requires.fits in
-    λ κs le. (omega arith, (search, (may.0, (may.1, subst AreInOrder (sym c.row.ensures) order))))
+    let n = c.args.nodes.now in
+    let x = c.args.node in
+    let after = sym (left-after c.row.result.now c.args.self.now c.args.asked c.row.ensures) in
+    λ κs le. (
+      omega arith,
+      (
+        search,
+        (
+          subst (λ l. CanPull n x (edges_in n.inputs.items x l)) after c.requires.can_pull,
+          (
+            subst (AllByRecursion (λ i. IsSome (input_at n.inputs.items x i))) after c.requires.there,
+            left-order c.row.result.now c.args.self.now c.args.asked c.row.ensures (stride-in_order n.inputs.items x c.args.self.now c.requires.can_pull.there c.requires.fits),
+          ),
+        ),
+      ),
+    )
 
 pub stride::Passes::turn-won-requires-clause-order : goal.stride::Passes::turn-won-requires-clause-order
 stride::Passes::turn-won-requires-clause-order g t c = stride-in_order c.args.nodes.now.inputs.items c.args.node c.args.self.now c.requires.can_pull.there c.requires.fits
 
 pub stride::Passes::turn-returns-in-Some : goal.stride::Passes::turn-returns-in-Some
-stride::Passes::turn-returns-in-Some g t c = search (rules, had-won)
+stride::Passes::turn-returns-in-Some g t c =
+    turned-won g.Q.Ask.gives c.args.nodes.now c.ask_in_order.new.self c.args.q.now c.ask_in_order.new.q c.args.node c.args.asked c.in-Some.place c.in-Some.packet c.args.self.now c.won.new.self c.row.result.now c.ask_in_order.result (c.requires.fits, c.requires.within)
+    c.row.ensures c.in-Some.is c.ask_in_order.ensures.place c.ask_in_order.ensures.asked c.won.ensures.holds
 
 pub stride::Passes::turn-returns-in-None : goal.stride::Passes::turn-returns-in-None
-stride::Passes::turn-returns-in-None g t c = search (rules, had-lost)
+stride::Passes::turn-returns-in-None g t c =
+    turned-lost g.Q.Ask.gives c.args.nodes.now c.ask_in_order.new.self c.args.q.now c.ask_in_order.new.q c.args.node c.args.asked c.args.self.now c.row.result.now c.ask_in_order.result (c.requires.fits, c.requires.within) c.row.ensures c.in-None.is
+    c.ask_in_order.ensures.asked
+
+pub stride::Passes::ask_on-turn-got-requires : goal.stride::Passes::ask_on-turn-got-requires
+stride::Passes::ask_on-turn-got-requires g t c =
+    let passes = c.in-Stride.passes in
+    let may = out-may g.Q.Ask.gives c.args.nodes.now c.take.new.self c.args.q.now c.args.node c.args.asked passes c.deref_mut.result.now (record { may = c.requires; state = c.take.ensures.state ∙ ap Some c.in-Stride.is; out = c.take.ensures.taken; is = c.deref_mut.ensures.value }) in
+    let same = ap (λ (n : Nodes). length n.inputs.items) c.take.ensures.taken in
+    λ κs le. (omega (arith, same), (search, (may.can, (may.there, (may.fits.0, may.fits.1)))))
+
+pub stride::Passes::ask_on-put-requires : goal.stride::Passes::ask_on-put-requires
+stride::Passes::ask_on-put-requires g t c =
+    let passes = c.in-Stride.passes in
+    out-there g.Q.Ask.gives c.args.nodes.now c.take.new.self c.turn-got.new.nodes c.args.q.now c.turn-got.new.q c.args.node c.args.asked passes (boxed passes c.turn-got.new.self) c.deref_mut.result.now c.turn-got.result
+    (record { may = c.requires; state = c.take.ensures.state ∙ ap Some c.in-Stride.is; out = c.take.ensures.taken; is = c.deref_mut.ensures.value }) c.turn-got.ensures
+
+pub stride::Passes::ask_on-returns : goal.stride::Passes::ask_on-returns
+stride::Passes::ask_on-returns g t c m =
+    let passes = c.in-Stride.passes in
+    out-pulled g.Q.Ask.gives c.args.nodes.now c.take.new.self c.turn-got.new.nodes c.put.new.self c.args.q.now c.turn-got.new.q c.args.node c.args.asked passes _ c.deref_mut.result.now c.turn-got.result
+    (record { may = m; state = c.take.ensures.state ∙ ap Some c.in-Stride.is; out = c.take.ensures.taken; is = c.deref_mut.ensures.value }) c.turn-got.ensures c.put.ensures
+
+pub stride::Passes::pull-ask_on-requires : goal.stride::Passes::pull-ask_on-requires
+stride::Passes::pull-ask_on-requires g t c =
+    let a = c.args.nodes.now in
+    let x = c.args.node in
+    let held = stride-there a.states.items x (state-there a x _ c.requires.can_pull) c.requires.holds in
+    λ κs le. (omega arith, (search, first-none g.Q.Ask.gives a c.args.q.now x held.0 c.requires.can_pull held.1))
+
+pub stride::Passes::pull-returns-in_default : goal.stride::Passes::pull-returns-in_default
+stride::Passes::pull-returns-in_default g t c =
+    let a = c.args.nodes.now in
+    let x = c.args.node in
+    let held = stride-there a.states.items x (state-there a x _ c.requires.can_pull) c.requires.holds in
+    c.ask_on.ensures (first-none g.Q.Ask.gives a c.args.q.now x held.0 c.requires.can_pull held.1)
+
+-- the input that is asked first
+first-is : (o : Option ℕ) (i : ℕ) (order : List ℕ) → o ≡ Some i → IfSome o (λ input. take 1 order ≡ input ∷ []) → take 1 order ≡ i ∷ []
+first-is o i order is h = subst (λ p. IfSome p (λ input. take 1 order ≡ input ∷ [])) is h
+
+pub stride::Passes::pull-look-requires : goal.stride::Passes::pull-look-requires
+stride::Passes::pull-look-requires g t c =
+    let a = c.args.nodes.now in
+    let x = c.args.node in
+    let held = stride-there a.states.items x (state-there a x _ c.requires.can_pull) c.requires.holds in
+    let may = first-may g.Q.Ask.gives a c.args.q.now x held.0 c.requires.can_pull held.1 c.in-Some.input (first-is c.first_input.result c.in-Some.input (inputs_in held.0.value.row.items) c.in-Some.is (c.first_input.ensures held.0 held.1)) in
+    λ κs le. (omega arith, (search, (may.0, may.1)))
+
+pub stride::Passes::pull-ask_on-requires-in_default-look : goal.stride::Passes::pull-ask_on-requires-in_default-look
+stride::Passes::pull-ask_on-requires-in_default-look g t c =
+    let a = c.args.nodes.now in
+    let x = c.args.node in
+    let held = stride-there a.states.items x (state-there a x _ c.requires.can_pull) c.requires.holds in
+    let is = first-is c.first_input.result c.in-Some.input (inputs_in held.0.value.row.items) c.in-Some.is (c.first_input.ensures held.0 held.1) in
+    let same = ap length c.look.ensures.keeps.inputs in
+    λ κs le. (omega (arith, same), (search, first-vain g.Q.Ask.gives a c.args.q.now x held.0 c.requires.can_pull held.1 c.look.new.self c.look.new.q c.in-Some.input c.look.result is c.in_default-look.is c.look.ensures))
+
+pub stride::Passes::pull-returns-in_default-look : goal.stride::Passes::pull-returns-in_default-look
+stride::Passes::pull-returns-in_default-look g t c =
+    let a = c.args.nodes.now in
+    let x = c.args.node in
+    let held = stride-there a.states.items x (state-there a x _ c.requires.can_pull) c.requires.holds in
+    let is = first-is c.first_input.result c.in-Some.input (inputs_in held.0.value.row.items) c.in-Some.is (c.first_input.ensures held.0 held.1) in
+    c.ask_on-in_default-look.ensures (first-vain g.Q.Ask.gives a c.args.q.now x held.0 c.requires.can_pull held.1 c.look.new.self c.look.new.q c.in-Some.input c.look.result is c.in_default-look.is c.look.ensures)
+
+pub stride::Passes::pull-win_first_at-requires-clause-order : goal.stride::Passes::pull-win_first_at-requires-clause-order
+stride::Passes::pull-win_first_at-requires-clause-order g t c later here =
+    let a = c.args.nodes.now in
+    let x = c.args.node in
+    let held = stride-there a.states.items x (state-there a x _ c.requires.can_pull) c.requires.holds in
+    let is = first-is c.first_input.result c.in-Some.input (inputs_in held.0.value.row.items) c.in-Some.is (c.first_input.ensures held.0 held.1) in
+    let same = passes-same held.0 later (some-same (Stride held.0) (Stride later) (sym (c.look.ensures.keeps.ahead x (omega arith) ∙ held.1) ∙ here)) in
+    subst (λ (b : Box Passes). (0 < length b.value.row.items) × AreInOrder b.value.row.items) same
+    (first-some g.Q.Ask.gives a c.args.q.now x held.0 c.requires.can_pull held.1 c.in-Some.input is, first-order g.Q.Ask.gives a c.args.q.now x held.0 c.requires.can_pull held.1)
+
+pub stride::Passes::pull-returns : goal.stride::Passes::pull-returns
+stride::Passes::pull-returns g t c =
+    let a = c.args.nodes.now in
+    let x = c.args.node in
+    let held = stride-there a.states.items x (state-there a x _ c.requires.can_pull) c.requires.holds in
+    let is = first-is c.first_input.result c.in-Some.input (inputs_in held.0.value.row.items) c.in-Some.is (c.first_input.ensures held.0 held.1) in
+    first-won g.Q.Ask.gives a c.args.q.now x held.0 c.requires.can_pull held.1 c.look.new.self c.win_first_at.new.nodes c.look.new.q c.in-Some.input c.look.result c.in-Some-look.packet is c.in-Some-look.is c.look.ensures
+    (c.win_first_at.ensures held.0 (c.look.ensures.keeps.ahead x (omega arith) ∙ held.1))
 
 pub drr::Deficits::pull-turn-got-requires : goal.drr::Deficits::pull-turn-got-requires
 drr::Deficits::pull-turn-got-requires g t c =
@@ -376,24 +484,6 @@ pub drr::Deficits::pull-returns : goal.drr::Deficits::pull-returns
 drr::Deficits::pull-returns g t c =
     pulled-back g.Q.Ask.gives c.args.nodes.now c.take.new.self c.turn-got.new.nodes c.put.new.self c.args.q.now c.turn-got.new.q c.args.node _ (Drr c.in-Drr.deficits) (Drr _) c.turn-got.result c.take.ensures.taken
     (c.take.ensures.state ∙ ap Some c.in-Drr.is) c.requires.can_pull (c.turn-got.ensures c.in-Drr.deficits _ (sym c.deref_mut.ensures.value) refl) c.put.ensures
-
-pub stride::Passes::pull-turn-got-requires : goal.stride::Passes::pull-turn-got-requires
-stride::Passes::pull-turn-got-requires g t c =
-    let a = c.args.nodes.now in
-    let can = can-turn a c.take.new.self c.args.node (Stride c.in-Stride.passes) c.take.ensures.taken (c.take.ensures.state ∙ ap Some c.in-Stride.is) c.requires.can_pull in
-    let same = ap (λ (n : Nodes). length n.inputs.items) c.take.ensures.taken in
-    λ κs le. (omega (arith, same), (search, (can.0, subst (λ (s : Passes). FitsAt c.take.new.self.inputs.items c.args.node s) (sym c.deref_mut.ensures.value) can.1)))
-
-pub stride::Passes::pull-put-requires : goal.stride::Passes::pull-put-requires
-stride::Passes::pull-put-requires g t c =
-    let can = can-turn c.args.nodes.now c.take.new.self c.args.node (Stride c.in-Stride.passes) c.take.ensures.taken (c.take.ensures.state ∙ ap Some c.in-Stride.is) c.requires.can_pull in
-    let turned = c.turn-got.ensures c.in-Stride.passes (boxed c.in-Stride.passes c.turn-got.new.self) (sym c.deref_mut.ensures.value) refl in
-    kept-there c.take.new.self c.turn-got.new.nodes c.args.node _ _ can.0 turned.keeps
-
-pub stride::Passes::pull-returns : goal.stride::Passes::pull-returns
-stride::Passes::pull-returns g t c =
-    pulled-back g.Q.Ask.gives c.args.nodes.now c.take.new.self c.turn-got.new.nodes c.put.new.self c.args.q.now c.turn-got.new.q c.args.node _ (Stride c.in-Stride.passes) (Stride _) c.turn-got.result c.take.ensures.taken
-    (c.take.ensures.state ∙ ap Some c.in-Stride.is) c.requires.can_pull (c.turn-got.ensures c.in-Stride.passes _ (sym c.deref_mut.ensures.value) refl) c.put.ensures
 
 pub shaper::Bucket::pull-answer_up-requires-clause-room : goal.shaper::Bucket::pull-answer_up-requires-clause-room
 shaper::Bucket::pull-answer_up-requires-clause-room g t c =

@@ -28,7 +28,10 @@ abbrev pub decreases-drr::Deficits::turn : goal.decreases-drr::Deficits::turn
 decreases-drr::Deficits::turn g l = rank (length l.nodes.now.inputs.items) l.node 4
 
 abbrev pub decreases-stride::Passes::turn : goal.decreases-stride::Passes::turn
-decreases-stride::Passes::turn g l = rank (length l.nodes.now.inputs.items) l.node 4
+decreases-stride::Passes::turn g l = rank (length l.nodes.now.inputs.items) l.node 3
+
+abbrev pub decreases-stride::Passes::ask_on : goal.decreases-stride::Passes::ask_on
+decreases-stride::Passes::ask_on g l = rank (length l.nodes.now.inputs.items) l.node 4
 
 abbrev pub decreases-prio::pull_prio : goal.decreases-prio::pull_prio
 decreases-prio::pull_prio g l = rank (length l.nodes.now.inputs.items) l.node 5

@@ -1,4 +1,4 @@
-use Rattle.std.proofs.Common.{◌≡◌, ◌+◌, ◌-◌, ◌<◌, ◌∙◌, length, take, None, IsSome, refl, sym, ap, subst, arith}
+use Rattle.std.proofs.Common.{◌≡◌, ◌<◌, ◌∙◌, length, take, None, IsSome, refl, sym, ap, subst, arith}
 use Rattle.std.specs.List.{AllByRecursion}
 use Rattle.std.proofs.lemmas.List.{length-drop, length-map}
 use Rattle.clk_sched.specs.declared.session.stride.Rank.{Rank}
@@ -8,7 +8,7 @@ use Rattle.clk_sched.specs.inside.Ranks.{AreInOrder, inputs_in}
 use Rattle.clk_sched.specs.inside.Turning.{HasAskedAll}
 use Rattle.clk_sched.proofs.Classes.RankLemmas.{after-place, inputs-after, in_order-after}
 use Rattle.clk_sched.proofs.Nodes.Asked.{rank_at, entry-input}
-use Rattle.clk_sched.proofs.Nodes.Asking.{IsAsking, asking-first, asking-ready, asking-next}
+use Rattle.clk_sched.proofs.Nodes.Asking.{asking-first, asking-ready, asking-next}
 use Rattle.clk_sched.proofs.Nodes.Idle.{rest-can, asking-past, asking-still}
 use Rattle.clk_sched.proofs.session.nodes.Nodes.pass_resting_of.Goals as goal
 
