@@ -4,34 +4,33 @@ use Rattle.std.proofs.Common.{◌≡◌, ℕ, zero, suc, ◌+◌, ◌-◌, ◌<�
 use Rattle.std.specs.List.{AllByRecursion}
 use Rattle.std.proofs.Math.Seq.{paste}
 use Rattle.std.proofs.lemmas.List.{drop-drop, get_or-drop, length-append, length-drop, length-take-le}
-use Rattle.clk_sched.specs.declared.session.stride.Rank.{Rank}
-use Rattle.clk_sched.specs.inside.Ranks.{AreUpTo, is_up_to, put_rank}
+use Rattle.clk_sched.specs.inside.Ranks.{Ranked, AreUpTo, is_up_to, put_rank}
 use Rattle.clk_sched.proofs.Classes.RankLemmas.{StandBefore, put-past}
 use Rattle.clk_sched.proofs.Classes.RankMerge.{up-then, parts}
 
-pub all-at : (P : Rank → Type 0) (others : List Rank) (n : ℕ) (d : Rank) → n < length others → AllByRecursion P others → P (get_or others n d)
+pub all-at : (P : Ranked → Type 0) (others : List Ranked) (n : ℕ) (d : Ranked) → n < length others → AllByRecursion P others → P (get_or others n d)
 all-at P others n d l h = grind (arith, common_steps)
 
 -- Where one doesn't stand before the rank at a place, so many stand before it.
-pub stand-past : (r : Rank) (others : List Rank) (n : ℕ) (d : Rank) → n < length others → AreUpTo others → is_up_to r (get_or others n d) ≡ false → StandBefore r others (suc n)
+pub stand-past : (r : Ranked) (others : List Ranked) (n : ℕ) (d : Ranked) → n < length others → AreUpTo others → is_up_to r (get_or others n d) ≡ false → StandBefore r others (suc n)
 stand-past r [] n d l h e = absurd (omega arith)
 stand-past r (o ∷ others) zero d l h e = put-past r o others e
 stand-past r (o ∷ others) (suc n) d l h e = grind (arith, up-then, all-at, put-past, (stand-past r others n d (omega arith) h.1 e))
 
 -- what is in order is so from a place on
-up-after : (n : ℕ) (ranks : List Rank) → AreUpTo ranks → AreUpTo (drop n ranks)
+up-after : (n : ℕ) (ranks : List Ranked) → AreUpTo ranks → AreUpTo (drop n ranks)
 up-after zero ranks h = h
 up-after (suc n) [] h = tt
 up-after (suc n) (r ∷ ranks) h = up-after n ranks h.1
 
 -- A rank is to be put behind a place: among those after it, which are in order, it gives these.
-pub record IsPutting (target row : List Rank) (place : ℕ) (r : Rank) : Type 0 where
+pub record IsPutting (target row : List Ranked) (place : ℕ) (r : Ranked) : Type 0 where
   pub within : place < length row
   pub order : AreUpTo (drop (place + 1) row)
   pub same : take place row ++ put_rank r (drop (place + 1) row) ≡ target
 
 -- So many that stand before it were moved.
-pub putting-next : (target row now : List Rank) (place n next : ℕ) (r d : Rank) → next ≡ place + suc n → next < length row → is_up_to r (get_or row next d) ≡ false → now ≡ paste row place (drop (place + 1) row) (suc n)
+pub putting-next : (target row now : List Ranked) (place n next : ℕ) (r d : Ranked) → next ≡ place + suc n → next < length row → is_up_to r (get_or row next d) ≡ false → now ≡ paste row place (drop (place + 1) row) (suc n)
     → IsPutting target row place r → IsPutting target now next r
 putting-next target row now place n next r d at l test is h =
     record {
@@ -43,13 +42,13 @@ putting-next target row now place n next r d at l test is h =
           ∙ ap (λ xs. take place row ++ xs) (sym past) ∙ h.same;
     }
   where
-    rest : List Rank
+    rest : List Ranked
     rest = drop (place + 1) row
 
     rest_size : length rest ≡ length row - (place + 1)
     rest_size = length-drop (place + 1) row
 
-    moved : List Rank
+    moved : List Ranked
     moved = take place row ++ take (suc n) rest
 
     moved_size : length moved ≡ next

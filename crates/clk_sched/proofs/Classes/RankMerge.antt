@@ -4,8 +4,7 @@ use Rattle.std.proofs.Common.{◌≡◌, ℕ, zero, suc, ◌+◌, ◌-◌, ◌<�
 use Rattle.std.specs.List.{AllByRecursion}
 use Rattle.std.proofs.Math.Seq.{paste, take-add}
 use Rattle.std.proofs.lemmas.List.{length-append, length-take-le, drop-take, take-append-drop}
-use Rattle.clk_sched.specs.declared.session.stride.Rank.{Rank}
-use Rattle.clk_sched.specs.inside.Ranks.{with_pass, IsBefore, AreInOrder, AreUpTo, is_up_to, put_rank, put_all, at_pass, after_win}
+use Rattle.clk_sched.specs.inside.Ranks.{Ranked, with_pass, IsBefore, AreInOrder, AreUpTo, is_up_to, put_rank, put_all, at_pass, after_win}
 use Rattle.clk_sched.specs.Laws.Stride.{put_in_order}
 use Rattle.clk_sched.proofs.Lists.Members.{all-weaker}
 use Rattle.clk_sched.proofs.Lists.Rising.{put-put}
@@ -13,29 +12,29 @@ use Rattle.clk_sched.proofs.Classes.RankLemmas.{put-here, put-holds, front-kept,
 use Rattle.clk_sched.proofs.Classes.StridePasses.{put-pairs}
 
 -- a rank, of its pair
-abbrev as_rank : ℕ × ℕ → Rank
+abbrev as_rank : ℕ × ℕ → Ranked
 as_rank i = record { pass = i.1; input = i.0 }
 
-unpaired : (ranks : List Rank) → map as_rank (map (with_pass 0) ranks) ≡ ranks
+unpaired : (ranks : List Ranked) → map as_rank (map (with_pass 0) ranks) ≡ ranks
 unpaired [] = refl
-unpaired (r ∷ ranks) = ap₂ (λ (pass : ℕ) (xs : List Rank). record { pass = pass; input = r.input } ∷ xs) (let none : r.pass + 0 ≡ r.pass = omega arith in none) (unpaired ranks)
+unpaired (r ∷ ranks) = ap₂ (λ (pass : ℕ) (xs : List Ranked). record { pass = pass; input = r.input } ∷ xs) (let none : r.pass + 0 ≡ r.pass = omega arith in none) (unpaired ranks)
 
 -- Of two ranks it makes no difference which is put first.
-put-two : (r s : Rank) (others : List Rank) → put_rank r (put_rank s others) ≡ put_rank s (put_rank r others)
+put-two : (r s : Ranked) (others : List Ranked) → put_rank r (put_rank s others) ≡ put_rank s (put_rank r others)
 put-two r s others = sym (unpaired (put_rank r (put_rank s others))) ∙ ap (map as_rank) pairs ∙ unpaired (put_rank s (put_rank r others))
   where
-    both : (r s : Rank) → map (with_pass 0) (put_rank r (put_rank s others)) ≡ put_in_order (with_pass 0 r) (put_in_order (with_pass 0 s) (map (with_pass 0) others))
+    both : (r s : Ranked) → map (with_pass 0) (put_rank r (put_rank s others)) ≡ put_in_order (with_pass 0 r) (put_in_order (with_pass 0 s) (map (with_pass 0) others))
     both r s = put-pairs 0 r (put_rank s others) ∙ ap (put_in_order (with_pass 0 r)) (put-pairs 0 s others)
 
     pairs : map (with_pass 0) (put_rank r (put_rank s others)) ≡ map (with_pass 0) (put_rank s (put_rank r others))
     pairs = both r s ∙ put-put (with_pass 0 r) (with_pass 0 s) (map (with_pass 0) others) ∙ sym (both s r)
 
-put-later : (r : Rank) (ranks others : List Rank) → put_all ranks (put_rank r others) ≡ put_rank r (put_all ranks others)
+put-later : (r : Ranked) (ranks others : List Ranked) → put_all ranks (put_rank r others) ≡ put_rank r (put_all ranks others)
 put-later r [] others = refl
 put-later r (s ∷ ranks) others = ap (put_rank s) (put-later r ranks others) ∙ put-two s r (put_all ranks others)
 
 -- One that is put among those that are to be put is put itself.
-pub put-among : (r : Rank) (ranks others : List Rank) → put_all (put_rank r ranks) others ≡ put_all ranks (put_rank r others)
+pub put-among : (r : Ranked) (ranks others : List Ranked) → put_all (put_rank r ranks) others ≡ put_all ranks (put_rank r others)
 put-among r [] others = refl
 put-among r (s ∷ ranks) others = by_test (is_up_to r s) (put-among r ranks others)
   where
@@ -43,50 +42,50 @@ put-among r (s ∷ ranks) others = by_test (is_up_to r s) (put-among r ranks oth
     by_test true rest = sym (put-later r (s ∷ ranks) others)
     by_test false rest = ap (put_rank s) rest
 
-pub up-then : (r s o : Rank) → is_up_to r s ≡ true → is_up_to s o ≡ true → is_up_to r o ≡ true
+pub up-then : (r s o : Ranked) → is_up_to r s ≡ true → is_up_to s o ≡ true → is_up_to r o ≡ true
 up-then r s o e f = search rules
 
 -- Ranks that are in order stay so when one is put among them.
-pub put-up : (r : Rank) (others : List Rank) → AreUpTo others → AreUpTo (put_rank r others)
+pub put-up : (r : Ranked) (others : List Ranked) → AreUpTo others → AreUpTo (put_rank r others)
 put-up r [] h = (tt, tt)
 put-up r (s ∷ others) h = search (rules, all-weaker, up-then, put-holds, (put-up r others h.1))
 
-before-up : (r s : Rank) → IsBefore r s → is_up_to r s ≡ true
+before-up : (r s : Ranked) → IsBefore r s → is_up_to r s ≡ true
 before-up r s h = grind arith
 
-pub in_order-up : (ranks : List Rank) → AreInOrder ranks → AreUpTo ranks
+pub in_order-up : (ranks : List Ranked) → AreInOrder ranks → AreUpTo ranks
 in_order-up [] h = tt
 in_order-up (r ∷ ranks) h = (all-weaker (IsBefore r) (λ o. is_up_to r o ≡ true) ranks (λ o k. before-up r o k) h.0, in_order-up ranks h.1)
 
 -- one that stands before others in order stays before them
-pub first-stays : (r : Rank) (others : List Rank) → AllByRecursion (λ (o : Rank). is_up_to r o ≡ true) others → put_rank r others ≡ r ∷ others
+pub first-stays : (r : Ranked) (others : List Ranked) → AllByRecursion (λ (o : Ranked). is_up_to r o ≡ true) others → put_rank r others ≡ r ∷ others
 first-stays r [] h = refl
 first-stays r (o ∷ others) h = put-here r o others h.0
 
 -- Ranks in order stay where they are in front of others where the last of them does.
-pub all-stay : (ranks others : List Rank) (d : Rank) (k : ℕ) → length ranks ≡ suc k → AreUpTo ranks → put_rank (get_or ranks k d) others ≡ get_or ranks k d ∷ others → put_all ranks others ≡ ranks ++ others
+pub all-stay : (ranks others : List Ranked) (d : Ranked) (k : ℕ) → length ranks ≡ suc k → AreUpTo ranks → put_rank (get_or ranks k d) others ≡ get_or ranks k d ∷ others → put_all ranks others ≡ ranks ++ others
 all-stay [] others d k l h last = absurd (omega (arith, l))
 all-stay (r ∷ []) others d zero l h last = last
 all-stay (r ∷ []) others d (suc k) l h last = absurd (omega (arith, l))
 all-stay (r ∷ s ∷ ranks) others d zero l h last = absurd (omega (arith, l))
 all-stay (r ∷ s ∷ ranks) others d (suc k) l h last = ap (put_rank r) (all-stay (s ∷ ranks) others d k (omega (arith, l)) h.1 last) ∙ put-here r s (ranks ++ others) h.0.0
 
-pub put-size : (r : Rank) (others : List Rank) → length (put_rank r others) ≡ suc (length others)
+pub put-size : (r : Ranked) (others : List Ranked) → length (put_rank r others) ≡ suc (length others)
 put-size r [] = refl
 put-size r (o ∷ others) = search (rules, (put-size r others))
 
 -- two lists, one after the other
-pub parts : (n : ℕ) (xs ys : List Rank) → length xs ≡ n → (take n (xs ++ ys) ≡ xs) × (drop n (xs ++ ys) ≡ ys)
+pub parts : (n : ℕ) (xs ys : List Ranked) → length xs ≡ n → (take n (xs ++ ys) ≡ xs) × (drop n (xs ++ ys) ≡ ys)
 parts n xs ys l = grind (arith, common_steps)
 
 -- The ranks before a place and those from it on are in order, and give these when the former are put among the latter.
-pub record AreMerging (target row : List Rank) (place : ℕ) : Type 0 where
+pub record AreMerging (target row : List Ranked) (place : ℕ) : Type 0 where
   pub front : AreUpTo (take place row)
   pub back : AreUpTo (drop place row)
   pub same : put_all (take place row) (drop place row) ≡ target
 
 -- The rank at the place was put among those before it.
-pub merging-next : (target row now : List Rank) (place next : ℕ) (r : Rank) → next ≡ suc place → place ≤ length row → drop place row ≡ r ∷ drop next row → now ≡ put_rank r (take place row) ++ drop next row → AreMerging target row place
+pub merging-next : (target row now : List Ranked) (place next : ℕ) (r : Ranked) → next ≡ suc place → place ≤ length row → drop place row ≡ r ∷ drop next row → now ≡ put_rank r (take place row) ++ drop next row → AreMerging target row place
     → AreMerging target now next
 merging-next target row now place next r after l here is h =
     record {
@@ -101,13 +100,13 @@ merging-next target row now place next r after l here is h =
     split : (take next (put_rank r (take place row) ++ drop next row) ≡ put_rank r (take place row)) × (drop next (put_rank r (take place row) ++ drop next row) ≡ drop next row)
     split = parts next (put_rank r (take place row)) (drop next row) (put-size r (take place row) ∙ (let size = length-take-le place row l in omega (arith, after, size)))
 
-set-front : (k : ℕ) (row ys zs : List Rank) (r : Rank) → k < length row → set ((take (suc k) row ++ ys) ++ zs) k r ≡ take k row ++ r ∷ (ys ++ zs)
+set-front : (k : ℕ) (row ys zs : List Ranked) (r : Ranked) → k < length row → set ((take (suc k) row ++ ys) ++ zs) k r ≡ take k row ++ r ∷ (ys ++ zs)
 set-front k [] ys zs r l = absurd (omega arith)
 set-front zero (x ∷ row) ys zs r l = refl
 set-front (suc k) (x ∷ row) ys zs r l = ap (λ xs. x ∷ xs) (set-front k row ys zs r (omega arith))
 
 -- A rank is put among those before it, and those that it stands before move up.
-pub put-fronted : (r : Rank) (row : List Rank) (from before : ℕ) → from < length row → before ≤ length (take from row) → put_rank r (take from row) ≡ take before (take from row) ++ r ∷ drop before (take from row)
+pub put-fronted : (r : Ranked) (row : List Ranked) (from before : ℕ) → from < length row → before ≤ length (take from row) → put_rank r (take from row) ≡ take before (take from row) ++ r ∷ drop before (take from row)
     → set (paste row (before + 1) (drop before row) (from - before)) before r ≡ put_rank r (take from row) ++ drop (from + 1) row
 put-fronted r row from before l m put =
     ap₂ (λ a b. set ((take a row ++ take moved (drop before row)) ++ drop b row) before r) next end
@@ -137,24 +136,24 @@ put-fronted r row from before l m put =
     rest : drop before (take from row) ≡ take moved (drop before row)
     rest = ap (λ n. drop before (take n row)) whole ∙ drop-take before moved row
 
-get-front : (n k : ℕ) (row : List Rank) (d : Rank) → k < n → get_or (take n row) k d ≡ get_or row k d
+get-front : (n k : ℕ) (row : List Ranked) (d : Ranked) → k < n → get_or (take n row) k d ≡ get_or row k d
 get-front n k row d l = grind (arith, common_steps)
 
 -- No rank is left that stands before the last of those before the place.
-pub merging-end : (target row : List Rank) (place k : ℕ) (d : Rank) → place ≡ suc k → place ≤ length row → put_rank (get_or row k d) (drop place row) ≡ get_or row k d ∷ drop place row → AreMerging target row place → row ≡ target
+pub merging-end : (target row : List Ranked) (place k : ℕ) (d : Ranked) → place ≡ suc k → place ≤ length row → put_rank (get_or row k d) (drop place row) ≡ get_or row k d ∷ drop place row → AreMerging target row place → row ≡ target
 merging-end target row place k d after l last h =
     sym (take-append-drop place row)
     ∙ sym (all-stay (take place row) (drop place row) d k (length-take-le place row l ∙ after) h.front (subst (λ r. put_rank r (drop place row) ≡ r ∷ drop place row) (sym (get-front place k row d (omega (arith, after)))) last))
     ∙ h.same
 
 -- The winner of a row was put in its place, and those before it have 0.
-pub record IsPassed (stride place : ℕ) (row now : List Rank) : Type 0 where
+pub record IsPassed (stride place : ℕ) (row now : List Ranked) : Type 0 where
   pub within : place ≤ length now
   pub front : AreUpTo (take place now)
   pub back : AreUpTo (drop place now)
   pub won : put_all (take place now) (drop place now) ≡ after_win 0 stride place row
 
-pub passed : (stride place : ℕ) (row put : List Rank) (winner d : Rank) → place < length row → AreInOrder (take place row) → AreUpTo (drop (place + 1) row) → winner ≡ at_pass stride (get_or row place d)
+pub passed : (stride place : ℕ) (row put : List Ranked) (winner d : Ranked) → place < length row → AreInOrder (take place row) → AreUpTo (drop (place + 1) row) → winner ≡ at_pass stride (get_or row place d)
     → put ≡ take place row ++ put_rank winner (drop (place + 1) row) → map (at_pass 0) (take place put) ≡ take place put → IsPassed stride place row put
 passed stride place row put winner d l order behind won is zero_now =
     record {

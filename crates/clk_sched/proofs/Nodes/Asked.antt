@@ -8,11 +8,11 @@ use Rattle.clk_sched.specs.declared.session.nodes.Nodes.{Nodes}
 use Rattle.clk_sched.specs.declared.session.inputs.Input.{Input}
 use Rattle.clk_sched.specs.declared.session.inputs.Input.TheVariants.{Queue, Node}
 use Rattle.clk_sched.specs.declared.session.inputs.Inputs.{Inputs}
-use Rattle.clk_sched.specs.declared.session.stride.Rank.{Rank}
 use Rattle.clk_sched.specs.Tree.{Row, nodes}
 use Rattle.clk_sched.specs.inside.Places.{inputs_of, StandsIn, AreWired, IsAfter, edges_of, edges_at, option_edges_to, input_at, option_input, queue_of, queue_asked}
 use Rattle.clk_sched.specs.inside.Pulling.{CanPull, Keeps, Pulls, Asks, HasPulled, added, now_of, after}
-use Rattle.clk_sched.specs.inside.Ranks.{inputs_in}
+use Rattle.clk_sched.specs.inside.Ranks.{Ranked, inputs_in}
+use Rattle.clk_sched.proofs.Classes.RankLemmas.{read-at}
 use Rattle.clk_sched.proofs.Lists.Members.{of-all, in-slice, some-below}
 use Rattle.clk_sched.proofs.Trees.Below.{lies-within}
 use Rattle.clk_sched.proofs.Nodes.Below.{IsChildAt, child-at, queue-at}
@@ -77,8 +77,11 @@ asks-child a b x i child got e pulls row history visits own going unasked v at i
     outside y (inr l) = let k = (lies-within (suc x) row i (child + nodes here.inputs) (here.lies (child + nodes here.inputs) (omega arith) (omega arith))).1 in inr (omega arith)
 
 -- an entry of a list of ranks names an input of its order
-abbrev pub rank_at : List Rank → ℕ → Rank
+abbrev pub rank_at : List Ranked → ℕ → Ranked
 rank_at order k = get_or order k (record { pass = 0; input = 0 })
 
-pub entry-input : (order : List Rank) (k : ℕ) → k < length order → (rank_at order k).input ≡ slice_index (inputs_in order) k
+pub entry-input : (order : List Ranked) (k : ℕ) → k < length order → (rank_at order k).input ≡ slice_index (inputs_in order) k
 entry-input order k l = search (rules, get_or_from_slice_get, slice_get-map, slice_get-get_or)
+
+pub read-input : (order : List Ranked) (k i : ℕ) (r : Ranked) → k < length order → r ≡ get_or order k r → i ≡ r.input → i ≡ slice_index (inputs_in order) k
+read-input order k i r l is e = e ∙ ap (λ (s : Ranked). s.input) (read-at order k r (record { pass = 0; input = 0 }) l is) ∙ entry-input order k l

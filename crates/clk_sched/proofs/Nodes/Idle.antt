@@ -7,8 +7,7 @@ use Rattle.std.specs.List.{AllByRecursion, range_with_len}
 use Rattle.clk_packet.specs.declared.packet.Packet.{Packet}
 use Rattle.clk_sched.specs.declared.session.inputs.Inputs.{Inputs}
 use Rattle.clk_sched.specs.declared.session.nodes.Nodes.{Nodes}
-use Rattle.clk_sched.specs.declared.session.stride.Rank.{Rank}
-use Rattle.clk_sched.specs.inside.Ranks.{FollowOneAnother, inputs_in}
+use Rattle.clk_sched.specs.inside.Ranks.{Ranked, FollowOneAnother, inputs_in}
 use Rattle.clk_sched.specs.inside.Places.{AllFit, edges_in, input_at}
 use Rattle.clk_sched.specs.inside.Pulling.{CanPull, Keeps}
 use Rattle.clk_sched.specs.Log.{asking}
@@ -60,7 +59,7 @@ asking-past gives a b c p q x k n order h passed =
     (asked-vain gives a c p q x (take k order ++ take n (drop k order)) None refl (asked-both gives a b c p q q x (take k order) (take n (drop k order)) None h passed))
 
 -- None of a row was passed over.
-pub asking-still : {S : Type 0} (gives : S → ℕ → Option Packet → S → Type 0) (a b c : Nodes) (p q : S) (x k n : ℕ) (row : List Rank) → n ≡ 0 → IsAsking gives a b p q x (take k (inputs_in row))
+pub asking-still : {S : Type 0} (gives : S → ℕ → Option Packet → S → Type 0) (a b c : Nodes) (p q : S) (x k n : ℕ) (row : List Ranked) → n ≡ 0 → IsAsking gives a b p q x (take k (inputs_in row))
     → HasAskedAll gives b c q q x (take n (inputs_in (take (length row - k) (drop k row)))) None → IsAsking gives a c p q x (take k (inputs_in row))
 asking-still gives a b c p q x k n row none h passed =
     subst (λ m. IsAsking gives a c p q x (take m (inputs_in row))) (let same : k + n ≡ k = omega (arith, none) in same)
@@ -80,7 +79,7 @@ turn-past gives a b c p q x first count k n l h passed =
     asking-past gives a b c p q x k n (range_with_len first count) h (subst (λ front. HasAskedAll gives b c q q x front None) (sym rest) passed)
 
 -- The first input of an order is one of the node's, and each of those is there.
-pub first-below : (table : List Inputs) (x : ℕ) (p : Inputs) (order : List Rank) (d : Rank) → slice_get table x ≡ Some p → 0 < length order → AllByRecursion (λ i. IsSome (input_at table x i)) (inputs_in order)
+pub first-below : (table : List Inputs) (x : ℕ) (p : Inputs) (order : List Ranked) (d : Ranked) → slice_get table x ≡ Some p → 0 < length order → AllByRecursion (λ i. IsSome (input_at table x i)) (inputs_in order)
     → (get_or order 0 d).input < length p.each.items
 first-below table x p order d e some h = grind (arith, common_steps, some-below)
 
@@ -88,13 +87,13 @@ pub input-there : (table : List Inputs) (x i : ℕ) (p : Inputs) → slice_get t
 input-there table x i p e l = (order-there table x p (i ∷ []) e (l, tt)).0
 
 -- The front of an order, of which ranks follow one another.
-pub row-follows : (order : List Rank) (d : Rank) (n m : ℕ) → n ≤ m → m ≤ length order → FollowOneAnother (take n (take m order)) → take n (inputs_in order) ≡ range_with_len (get_or order 0 d).input n
+pub row-follows : (order : List Ranked) (d : Ranked) (n m : ℕ) → n ≤ m → m ≤ length order → FollowOneAnother (take n (take m order)) → take n (inputs_in order) ≡ range_with_len (get_or order 0 d).input n
 row-follows order d zero m l some follow = refl
 row-follows [] d (suc n) m l some follow = absurd (omega arith)
 row-follows (r ∷ order) d (suc n) zero l some follow = absurd (omega arith)
 row-follows (r ∷ order) d (suc n) (suc m) l some follow = ap (λ is. r.input ∷ is) (sym (front n m order (omega arith))) ∙ follow ∙ ap (λ k. range_with_len r.input (suc k)) (search rules)
   where
-    front : (n m : ℕ) (order : List Rank) → n ≤ m → inputs_in (take n (take m order)) ≡ take n (inputs_in order)
+    front : (n m : ℕ) (order : List Ranked) → n ≤ m → inputs_in (take n (take m order)) ≡ take n (inputs_in order)
     front zero m order l = refl
     front (suc n) zero order l = absurd (omega arith)
     front (suc n) (suc m) [] l = refl

@@ -7,12 +7,11 @@ use Rattle.clk_packet.specs.declared.packet.Packet.{Packet}
 use Rattle.clk_sched.specs.declared.session.nodes.Nodes.{Nodes}
 use Rattle.clk_sched.specs.declared.session.state.State.{State}
 use Rattle.clk_sched.specs.declared.session.state.State.TheVariants.{Prio, Stride}
-use Rattle.clk_sched.specs.declared.session.stride.Rank.{Rank}
 use Rattle.clk_sched.specs.declared.session.stride.Passes.{Passes}
 use Rattle.clk_sched.specs.inside.Holds.OfClass.{IsStride}
 use Rattle.clk_sched.specs.inside.Places.{edges_of, edges_at, edges_in, input_at}
 use Rattle.clk_sched.specs.inside.Pulling.{CanPull}
-use Rattle.clk_sched.specs.inside.Ranks.{AreInOrder, inputs_in}
+use Rattle.clk_sched.specs.inside.Ranks.{Ranked, AreInOrder, inputs_in}
 use Rattle.clk_sched.specs.inside.Turning.{with_state, HasAsked, HasAskedAll, HadTurn, WasPulled}
 use Rattle.clk_sched.specs.inside.Winning.{IsWonAt, WinsFirst, MayAskOn, TurnsOn}
 use Rattle.clk_sched.proofs.Classes.RankLemmas.{after-place, inputs-after, in_order-after}
@@ -61,7 +60,7 @@ module _ {S : Type 0} (gives : S → ℕ → Option Packet → S → Type 0) (a 
       asking-ready gives a a q q x 0 i order may.0 may.1 none here.0 here.1
 
   pub first-some : (i : ℕ) → take 1 order ≡ i ∷ [] → 0 < length held.value.row.items
-  first-some i is = subst (λ n. 0 < n) (length-map held.value.row.items (λ (k : Rank). k.input)) (first-of order i is).0
+  first-some i is = subst (λ n. 0 < n) (length-map held.value.row.items (λ (k : Ranked). k.input)) (first-of order i is).0
 
   -- The first gave nothing.
   abbrev pub first-vain : (b : Nodes) (r : S) (i : ℕ) (got : Option Packet) → take 1 order ≡ i ∷ [] → got ≡ None → HasAsked gives a b q r x i got → MayAskOn gives b r x 1
@@ -106,10 +105,10 @@ asked-on gives a b c p q r x asked order rest o within is vain given =
     places (Some r) = ap (λ k. Some (k, r.1)) (past-length (take asked order) r.0 ∙ ap (λ n. n + r.0) (length-take-le asked order within))
 
 -- The ranks that are left of a row after so many, in words of its order.
-pub left-after : (row : List Rank) (s : Passes) (n : ℕ) → row ≡ s.row.items → inputs_in (take (length row - n) (drop n row)) ≡ drop n (inputs_in s.row.items)
+pub left-after : (row : List Ranked) (s : Passes) (n : ℕ) → row ≡ s.row.items → inputs_in (take (length row - n) (drop n row)) ≡ drop n (inputs_in s.row.items)
 left-after row s n is = inputs-after row n ∙ ap (λ l. drop n (inputs_in l)) is
 
-pub left-order : (row : List Rank) (s : Passes) (n : ℕ) → row ≡ s.row.items → AreInOrder s.row.items → AreInOrder (take (length row - n) (drop n row))
+pub left-order : (row : List Ranked) (s : Passes) (n : ℕ) → row ≡ s.row.items → AreInOrder s.row.items → AreInOrder (take (length row - n) (drop n row))
 left-order row s n is h = subst AreInOrder (sym (after-place row n)) (in_order-after n row (subst AreInOrder (sym is) h))
 
 -- passes that fit, of which so many inputs were asked
@@ -120,13 +119,13 @@ fits-first : {S : Type 0} (gives : S → ℕ → Option Packet → S → Type 0)
 fits-first gives a b p q x order s vain fits = subst (λ table. FitsAt table x s) vain.keeps.inputs fits
 
 -- One of those that were left gave a packet.
-pub turned-won : {S : Type 0} (gives : S → ℕ → Option Packet → S → Type 0) (b c : Nodes) (q r : S) (x asked place : ℕ) (packet : Packet) (s z : Passes) (row : List Rank) (o : Option (ℕ × Packet)) → FitsLater b x asked s → row ≡ s.row.items
+pub turned-won : {S : Type 0} (gives : S → ℕ → Option Packet → S → Type 0) (b c : Nodes) (q r : S) (x asked place : ℕ) (packet : Packet) (s z : Passes) (row : List Ranked) (o : Option (ℕ × Packet)) → FitsLater b x asked s → row ≡ s.row.items
     → o ≡ Some (place, packet) → IfSome o (λ k. k.0 < length (take (length row - asked) (drop asked row))) → HasAskedAll gives b c q r x (inputs_in (take (length row - asked) (drop asked row))) o → IsWonAt s z (asked + place)
     → TurnsOn gives b c q r x asked s z (Some packet)
 turned-won gives b c q r x asked place packet s z row o fits is given within others won first before held holds can vain held_is holds_is =
     had-won gives first c before r x (asked + place) packet s z s.row.items (Some (asked + place, packet)) can (fits-first gives first b before q x (take asked (inputs_in s.row.items)) s vain fits.0) refl refl below
     (subst (λ k. HasAskedAll gives first c before r x (inputs_in s.row.items) (later asked k)) given
-    (asked-on gives first b c before q r x asked (inputs_in s.row.items) _ o (subst (λ n. asked ≤ n) (sym (length-map s.row.items (λ (k : Rank). k.input))) fits.1) (left-after row s asked is) vain others)) won held holds held_is
+    (asked-on gives first b c before q r x asked (inputs_in s.row.items) _ o (subst (λ n. asked ≤ n) (sym (length-map s.row.items (λ (k : Ranked). k.input))) fits.1) (left-after row s asked is) vain others)) won held holds held_is
     holds_is
   where
     below : asked + place < length s.row.items
@@ -136,12 +135,12 @@ turned-won gives b c q r x asked place packet s z row o fits is given within oth
         let here = subst (λ k. IfSome k (λ g. g.0 < length (take (length row - asked) (drop asked row)))) given within in omega (arith, size, same, here)
 
 -- None of them gave one.
-pub turned-lost : {S : Type 0} (gives : S → ℕ → Option Packet → S → Type 0) (b c : Nodes) (q r : S) (x asked : ℕ) (s : Passes) (row : List Rank) (o : Option (ℕ × Packet)) → FitsLater b x asked s → row ≡ s.row.items → o ≡ None
+pub turned-lost : {S : Type 0} (gives : S → ℕ → Option Packet → S → Type 0) (b c : Nodes) (q r : S) (x asked : ℕ) (s : Passes) (row : List Ranked) (o : Option (ℕ × Packet)) → FitsLater b x asked s → row ≡ s.row.items → o ≡ None
     → HasAskedAll gives b c q r x (inputs_in (take (length row - asked) (drop asked row))) o → TurnsOn gives b c q r x asked s s None
 turned-lost gives b c q r x asked s row o fits is none others first before held holds can vain held_is holds_is =
     had-lost gives first c before r x s s.row.items None can (fits-first gives first b before q x (take asked (inputs_in s.row.items)) s vain fits.0) refl refl
     (subst (λ k. HasAskedAll gives first c before r x (inputs_in s.row.items) (later asked k)) none
-    (asked-on gives first b c before q r x asked (inputs_in s.row.items) _ o (subst (λ n. asked ≤ n) (sym (length-map s.row.items (λ (k : Rank). k.input))) fits.1) (left-after row s asked is) vain others)) held holds held_is
+    (asked-on gives first b c before q r x asked (inputs_in s.row.items) _ o (subst (λ n. asked ≤ n) (sym (length-map s.row.items (λ (k : Ranked). k.input))) fits.1) (left-after row s asked is) vain others)) held holds held_is
     holds_is
 
 -- The passes of a StrideSched are taken out for the rest of its turn.

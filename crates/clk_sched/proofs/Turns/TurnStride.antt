@@ -10,7 +10,6 @@ use Rattle.clk_sched.specs.declared.session.inputs.Inputs.{Inputs}
 use Rattle.clk_sched.specs.declared.session.nodes.Nodes.{Nodes}
 use Rattle.clk_sched.specs.declared.session.state.State.{State}
 use Rattle.clk_sched.specs.declared.session.state.State.TheVariants.{Stride}
-use Rattle.clk_sched.specs.declared.session.stride.Rank.{Rank}
 use Rattle.clk_sched.specs.declared.session.stride.Passes.{Passes}
 use Rattle.clk_packet.specs.Scheduler.{Scheduler, stride}
 use Rattle.clk_sched.specs.Turns.{Turn, AsksInOrder, giver}
@@ -18,7 +17,7 @@ use Rattle.clk_sched.specs.inside.Holds.OfClass.{FitsPasses}
 use Rattle.clk_sched.specs.inside.Holds.Stride.{HoldsPasses}
 use Rattle.clk_sched.specs.inside.Places.{edges_of, edges_in, input_at}
 use Rattle.clk_sched.specs.inside.Pulling.{Now, CanPull, AsksAll, TakesTurn, now_of, as_turn, with_turn, asked_in_order}
-use Rattle.clk_sched.specs.inside.Ranks.{AreInOrder, inputs_in}
+use Rattle.clk_sched.specs.inside.Ranks.{Ranked, AreInOrder, inputs_in}
 use Rattle.clk_sched.specs.inside.Turning.{HasAskedAll, HadTurn}
 use Rattle.clk_sched.specs.inside.Winning.{IsWonAt}
 use Rattle.clk_sched.proofs.Classes.Orders.{IsOrderOf, stride-order}
@@ -101,13 +100,13 @@ stride-turn a b x s z order r tickets there fits is within asked follows row his
         (λ h. subst (λ l. AsksInOrder l own) (is ∙ order-is tickets (history x) s.value holds) h)
 
 -- what is wanted for asking the inputs of its row
-pub stride-may : (a : Nodes) (x : ℕ) (s : Passes) (row : List Rank) → CanPull a x (edges_of a.inputs.items x) → FitsAt a.inputs.items x s → row ≡ s.row.items
+pub stride-may : (a : Nodes) (x : ℕ) (s : Passes) (row : List Ranked) → CanPull a x (edges_of a.inputs.items x) → FitsAt a.inputs.items x s → row ≡ s.row.items
     → CanPull a x (edges_in a.inputs.items x (inputs_in row)) × AllByRecursion (λ i. IsSome (input_at a.inputs.items x i)) (inputs_in row)
 stride-may a x s row can fits e =
     let is : IsOrderAt a.inputs.items x (inputs_in row) = stride-asks a.inputs.items x s (inputs_in row) fits (ap inputs_in e) in (can-ask a x (inputs_in row) can is, inputs-asked a.inputs.items x (inputs_in row) can.there is)
 
 -- The input at a place of the row gave a packet.
-pub had-won : {S : Type 0} (gives : S → ℕ → Option Packet → S → Type 0) (a b : Nodes) (q r : S) (x place : ℕ) (packet : Packet) (s z : Passes) (row : List Rank) (o : Option (ℕ × Packet)) → CanPull a x (edges_of a.inputs.items x)
+pub had-won : {S : Type 0} (gives : S → ℕ → Option Packet → S → Type 0) (a b : Nodes) (q r : S) (x place : ℕ) (packet : Packet) (s z : Passes) (row : List Ranked) (o : Option (ℕ × Packet)) → CanPull a x (edges_of a.inputs.items x)
     → FitsAt a.inputs.items x s → row ≡ s.row.items → o ≡ Some (place, packet) → IfSome o (λ k. k.0 < length row) → HasAskedAll gives a b q r x (inputs_in row) o → IsWonAt s z place
     → (held holds : Box Passes) → held.value ≡ s → holds.value ≡ z → HadTurn gives a b q r x (Stride held) (Stride holds) (Some packet)
 had-won gives a b q r x place packet s z row o can fits e is within asked won held holds before after =
@@ -121,7 +120,7 @@ had-won gives a b q r x place packet s z row o can fits e is within asked won he
     given = subst (HasAskedAll gives a b q r x order) is asked
 
     below : place < length order
-    below = subst (λ n. place < n) (sym (length-map row (λ (k : Rank). k.input))) (subst (λ k. IfSome k (λ g. g.0 < length row)) is within)
+    below = subst (λ n. place < n) (sym (length-map row (λ (k : Ranked). k.input))) (subst (λ k. IfSome k (λ g. g.0 < length row)) is within)
 
     boxed : FitsAt a.inputs.items x held.value → order ≡ inputs_in held.value.row.items → IsWonAt held.value holds.value place → HadTurn gives a b q r x (Stride held) (Stride holds) (Some packet)
     boxed fits e won =
@@ -131,7 +130,7 @@ had-won gives a b q r x place packet s z row o can fits e is within asked won he
         (λ tickets. stride-turn a b x held holds order (Some (place, packet)) tickets can.there fits e below given.asks (stride-won a x place packet order held.value holds.value e below won)))
 
 -- None of them gave one.
-pub had-lost : {S : Type 0} (gives : S → ℕ → Option Packet → S → Type 0) (a b : Nodes) (q r : S) (x : ℕ) (s : Passes) (row : List Rank) (o : Option (ℕ × Packet)) → CanPull a x (edges_of a.inputs.items x) → FitsAt a.inputs.items x s
+pub had-lost : {S : Type 0} (gives : S → ℕ → Option Packet → S → Type 0) (a b : Nodes) (q r : S) (x : ℕ) (s : Passes) (row : List Ranked) (o : Option (ℕ × Packet)) → CanPull a x (edges_of a.inputs.items x) → FitsAt a.inputs.items x s
     → row ≡ s.row.items → o ≡ None → HasAskedAll gives a b q r x (inputs_in row) o → (held holds : Box Passes) → held.value ≡ s → holds.value ≡ s → HadTurn gives a b q r x (Stride held) (Stride holds) None
 had-lost gives a b q r x s row o can fits e is asked held holds before after =
     let order = inputs_in row in

@@ -102,7 +102,7 @@ impl Nodes {
         while place < order.len() {
             place += self.pass_resting_of(q, node, &order[place..]);
             if place < order.len() {
-                if let Some(packet) = self.look(q, node, order[place].input) {
+                if let Some(packet) = self.look(q, node, order[place].input()) {
                     return Some((place, packet));
                 }
                 place += 1;
@@ -125,8 +125,8 @@ impl Nodes {
             return 0;
         }
         // `MANY` consecutive inputs end `MANY` - 1 behind the first.
-        let first = order[0].input;
-        let last = order[usize::from(MANY) - 1].input;
+        let first = order[0].input();
+        let last = order[usize::from(MANY) - 1].input();
         if usize::from(last) != usize::from(first) + usize::from(MANY) - 1 {
             return 0;
         }

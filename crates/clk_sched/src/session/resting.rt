@@ -56,7 +56,7 @@ impl Nodes {
                 place += idle;
                 continue;
             }
-            if !self.skip(q, node, order[place].input) {
+            if !self.skip(q, node, order[place].input()) {
                 return place;
             }
             place += 1;

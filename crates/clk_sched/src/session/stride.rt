@@ -12,6 +12,7 @@ use crate::session::state::State;
 use clk_packet::Packet;
 use smallvec::SmallVec;
 use std::alloc::{AllocError, Global};
+use std::marker::Model;
 
 /// The stride of one ticket.
 const GREATEST_STRIDE: u32 = 65_536;
@@ -20,37 +21,81 @@ const GREATEST_STRIDE: u32 = 65_536;
 const AT_ONCE: usize = 8;
 
 /// An input with its pass, less what was subtracted from all passes.
+// Both are one number, so that a rank is read, compared and written at once.
 #[derive(Clone, Copy, Debug, Default, PartialEq, Eq)]
 pub struct Rank {
-    pub pass: u32,
-    pub input: u16,
+    number: u64,
+}
+
+impl Model for Rank {
+    ghost use Rattle.std.specs.Prelude.{◌<◌, ◌+◌, ◌*◌, ◌/◌, ◌%◌, ◌^◌};
+    ghost use Rattle.std.proofs.Common.{ap};
+    ghost use Rattle.std.proofs.lemmas.Nat.{div-add-mod'};
+    ghost use Rattle.clk_sched.specs.inside.Ranks.{Ranked};
+
+    ghost Value = { Ranked };
+
+    ghost view = { λ r. record { pass = r.number / 65536; input = r.number % 65536 } };
+
+    ghost invariant = { λ r. r.number < 2 ^ 48 };
+
+    ghost inverse = { λ r. record { number = r.pass * 65536 + r.input } };
+
+    ghost inverse_ok = { λ r h. ap (λ n. record { number = n }) (div-add-mod' r.number 65536) };
 }
 
 impl Rank {
+    /// This input with this pass.
+    #[inline]
+    fn new(pass: u32, input: u16) -> Rank
+        ensures { result ≡ record { pass = pass; input = input } }
+    {
+        Rank {
+            number: (u64::from(pass) << 16) + u64::from(input),
+        }
+    }
+
+    /// The pass.
+    #[inline]
+    fn pass(self) -> u32
+        ensures { result ≡ self.pass }
+    {
+        (self.number >> 16) as u32
+    }
+
+    /// The input.
+    #[inline]
+    pub fn input(self) -> u16
+        ensures { result ≡ self.input }
+    {
+        (self.number % 65_536) as u16
+    }
+
     /// Whether this rank stands before another by (pass, index), or is equal to it.
-    // The other is looked at where it stands, field by field: a processor waits for a rank that was just written and is read as a whole.
+    #[inline]
     fn is_up_to(self, other: &Rank) -> bool
         ensures { result ≡ is_up_to self other.now }
     {
-        self.pass < other.pass || (self.pass == other.pass && self.input <= other.input)
+        self.number <= other.number
     }
 
     /// The same input with a pass that is less by so much.
+    #[inline]
     fn less(self, least: u32) -> Rank
         requires { least ≤ self.pass }
         ensures { result ≡ less least self }
     {
-        self.at_pass(self.pass - least)
+        Rank {
+            number: self.number - (u64::from(least) << 16),
+        }
     }
 
     /// The same input with another pass.
+    #[inline]
     fn at_pass(self, pass: u32) -> Rank
         ensures { result ≡ at_pass pass self }
     {
-        Rank {
-            pass,
-            input: self.input,
-        }
+        Rank::new(pass, self.input())
     }
 }
 
@@ -109,7 +154,7 @@ impl Passes {
     {
         self.vain = place > 0;
         let row = self.row.as_mut_slice();
-        let stride = self.strides[usize::from(row[place].input)];
+        let stride = self.strides[usize::from(row[place].input())];
         win_at(row, place, stride);
     }
 
@@ -154,7 +199,7 @@ impl Passes {
             return None;
         }
         match passes.row() {
-            [first, ..] => Some(first.input),
+            [first, ..] => Some(first.input()),
             [] => None,
         }
     }
@@ -256,7 +301,8 @@ fn follow_one_another(ranks: &[Rank]) -> bool
         [first, ..] => {
             let last = ranks[ranks.len() - 1];
             let between = ranks.len() - 1;
-            first.pass == last.pass && usize::from(last.input) == usize::from(first.input) + between
+            first.pass() == last.pass()
+                && usize::from(last.input()) == usize::from(first.input()) + between
         }
     }
 }
@@ -267,7 +313,7 @@ fn first_row(alloc: Global, inputs: u16) -> Result<SmallVec<Rank, 2>, AllocError
 {
     let mut row = SmallVec::new(alloc);
     for input in 0..inputs {
-        row.push(Rank { pass: 0, input })?;
+        row.push(Rank::new(0, input))?;
     }
     Ok(row)
 }
@@ -328,7 +374,7 @@ fn win_behind(row: &mut [Rank], place: usize, stride: u32)
     requires order { AreInOrder row.old }
     ensures { IsRowWon place stride row.old row.new }
 {
-    let pass = row[place].pass;
+    let pass = row[place].pass();
     // The winner and those after it lose its pass. Those before it, which had none, get pass 0: that of the winner, subtracted.
     subtract(&mut row[place..], pass);
     place_visited(row, place, stride);
@@ -341,8 +387,8 @@ fn least_of(rank: Rank, others: &[Rank]) -> u32
     ensures { result ≡ first_pass (put_rank rank others.now) }
 {
     match others {
-        [next, ..] if !rank.is_up_to(next) => next.pass,
-        _ => rank.pass,
+        [next, ..] if !rank.is_up_to(next) => next.pass(),
+        _ => rank.pass(),
     }
 }
 
@@ -382,7 +428,7 @@ fn are_at_zero(ranks: &[Rank]) -> bool
 {
     match ranks {
         [] => true,
-        [.., last] => last.pass == 0,
+        [.., last] => last.pass() == 0,
     }
 }
 
@@ -510,7 +556,7 @@ fn subtract_least(row: &mut [Rank])
     requires least { All (λ rank. first_pass row.old ≤ rank.pass) row.old }
     ensures { row.new ≡ from_least row.old }
 {
-    let least = row[0].pass;
+    let least = row[0].pass();
     subtract(row, least);
 }
 
@@ -524,6 +570,6 @@ fn subtract(ranks: &mut [Rank], least: u32)
         return;
     }
     for rank in ranks.iter_mut() {
-        rank.pass -= least;
+        *rank = rank.less(least);
     }
 }

@@ -8,17 +8,16 @@ use Rattle.std.proofs.lemmas.List.FromFn.{length-range_with_len, get_or-range_wi
 use Rattle.clk_packet.specs.declared.packet.Packet.{Packet}
 use Rattle.clk_sched.specs.declared.session.drr.Deficits.{Deficits}
 use Rattle.clk_sched.specs.declared.session.stride.Passes.{Passes}
-use Rattle.clk_sched.specs.declared.session.stride.Rank.{Rank}
 use Rattle.clk_sched.specs.declared.session.inputs.Inputs.{Inputs}
 use Rattle.clk_sched.specs.declared.session.nodes.Nodes.{Nodes}
 use Rattle.clk_sched.specs.declared.session.inputs.Input.TheVariants.{Node}
 use Rattle.clk_sched.specs.declared.session.state.State.TheVariants.{RoundRobin, Drr, Stride}
 use Rattle.clk_sched.specs.inside.Places.{edges_in, input_at}
 use Rattle.clk_sched.specs.inside.Pulling.{CanPull}
-use Rattle.clk_sched.specs.inside.Ranks.{AreInOrder, inputs_in}
+use Rattle.clk_sched.specs.inside.Ranks.{Ranked, AreInOrder, inputs_in}
 use Rattle.clk_sched.proofs.Lists.Ranges.{range-front}
 use Rattle.clk_sched.proofs.Nodes.Asking.{IsAsking, asking-first, asked-vain, answers-then, asking-ready, asking-given, asking-next, asking-all}
-use Rattle.clk_sched.proofs.Nodes.Asked.{entry, rank_at, entry-input, input-is, child-after, keeps-child, queue-visited, asks-queue, asks-child}
+use Rattle.clk_sched.proofs.Nodes.Asked.{entry, read-input, input-is, child-after, keeps-child, queue-visited, asks-queue, asks-child}
 use Rattle.clk_sched.proofs.Classes.RankLemmas.{after-place, inputs-after, in_order-after}
 use Rattle.clk_sched.proofs.Nodes.Idle.{rest-can, asking-past, turn-can, turn-past}
 use Rattle.clk_sched.proofs.Nodes.Placed.{can-turn, kept-there, passes-same, pulled-back, pulled-put, pulled-still, some-same, state-there}
@@ -83,14 +82,14 @@ nodes::Nodes::ask_in_order-pass_resting_of-place-requires-clause-order g t c =
     subst AreInOrder (sym (after-place c.args.order.now c.loop-place.place)) (in_order-after c.loop-place.place c.args.order.now c.requires.order)
 
 -- what was asked once so many more of an order were skipped
-order-past : {S : Type 0} (gives : S → ℕ → Option Packet → S → Type 0) (a b c : Nodes) (p q : S) (x k n : ℕ) (order : List Rank) → IsAsking gives a b p q x (take k (inputs_in order))
+order-past : {S : Type 0} (gives : S → ℕ → Option Packet → S → Type 0) (a b c : Nodes) (p q : S) (x k n : ℕ) (order : List Ranked) → IsAsking gives a b p q x (take k (inputs_in order))
     → HasAskedAll gives b c q q x (take n (inputs_in (take (length order - k) (drop k order)))) None → IsAsking gives a c p q x (take (k + n) (inputs_in order))
 order-past gives a b c p q x k n order h passed = asking-past gives a b c p q x k n (inputs_in order) h (subst (λ l. HasAskedAll gives b c q q x (take n l) None) (inputs-after order k) passed)
 
-order-below : (k : ℕ) (order : List Rank) → k < length order → k < length (inputs_in order)
-order-below k order l = subst (λ n. k < n) (sym (length-map order (λ (r : Rank). r.input))) l
+order-below : (k : ℕ) (order : List Ranked) → k < length order → k < length (inputs_in order)
+order-below k order l = subst (λ n. k < n) (sym (length-map order (λ (r : Ranked). r.input))) l
 
-order-within : (k n : ℕ) (order : List Rank) → k < length order → n ≤ length (take (length order - k) (drop k order)) → k + n ≤ length order
+order-within : (k n : ℕ) (order : List Ranked) → k < length order → n ≤ length (take (length order - k) (drop k order)) → k + n ≤ length order
 order-within k n order l within = let size = ap length (after-place order k) ∙ length-drop k order in omega (arith, l, within, size)
 
 pub nodes::Nodes::ask_in_order-look-requires : goal.nodes::Nodes::ask_in_order-look-requires
@@ -99,7 +98,7 @@ nodes::Nodes::ask_in_order-look-requires g t c =
     let k = c.loop-place.place + c.pass_resting_of-place.result in
     let test : k < length order = c.if-place-order.true in
     let past = order-past g.Q.Ask.gives c.args.self.now c.loop-place.self c.pass_resting_of-place.new.self c.args.q.now c.loop-place.q c.args.node c.loop-place.place c.pass_resting_of-place.result order c.loop-place.invariant.1 c.pass_resting_of-place.ensures.asked in
-    let ready = asking-ready g.Q.Ask.gives c.args.self.now c.pass_resting_of-place.new.self c.args.q.now c.loop-place.q c.args.node k (rank_at order k).input (inputs_in order) c.requires.can_pull c.requires.within past (order-below k order test) (entry-input order k test) in
+    let ready = asking-ready g.Q.Ask.gives c.args.self.now c.pass_resting_of-place.new.self c.args.q.now c.loop-place.q c.args.node k c.input.result (inputs_in order) c.requires.can_pull c.requires.within past (order-below k order test) (read-input order k c.input.result c.index-order-place.result test c.index-order-place.is c.input.ensures) in
     let same = ap length past.keeps.inputs in
     let less = c.decreases in
     λ κs le. (omega (arith, same, less), (search, (ready.0, ready.1)))
@@ -110,7 +109,7 @@ nodes::Nodes::ask_in_order-returns-in-Some-clause-asked g t c =
     let k = c.loop-place.place + c.pass_resting_of-place.result in
     let test : k < length order = c.if-place-order.true in
     let past = order-past g.Q.Ask.gives c.args.self.now c.loop-place.self c.pass_resting_of-place.new.self c.args.q.now c.loop-place.q c.args.node c.loop-place.place c.pass_resting_of-place.result order c.loop-place.invariant.1 c.pass_resting_of-place.ensures.asked in
-    asking-given g.Q.Ask.gives c.args.self.now c.pass_resting_of-place.new.self c.look.new.self c.args.q.now c.loop-place.q c.look.new.q c.args.node k (rank_at order k).input c.look.result c.in-Some.packet (inputs_in order) (order-below k order test) past (entry-input order k test) c.in-Some.is c.look.ensures
+    asking-given g.Q.Ask.gives c.args.self.now c.pass_resting_of-place.new.self c.look.new.self c.args.q.now c.loop-place.q c.look.new.q c.args.node k c.input.result c.look.result c.in-Some.packet (inputs_in order) (order-below k order test) past (read-input order k c.input.result c.index-order-place.result test c.index-order-place.is c.input.ensures) c.in-Some.is c.look.ensures
 
 pub nodes::Nodes::ask_in_order-loop-place-preserved-then-place-order : goal.nodes::Nodes::ask_in_order-loop-place-preserved-then-place-order
 nodes::Nodes::ask_in_order-loop-place-preserved-then-place-order g t c =
@@ -119,7 +118,7 @@ nodes::Nodes::ask_in_order-loop-place-preserved-then-place-order g t c =
     let test : k < length order = c.if-place-order.true in
     let past = order-past g.Q.Ask.gives c.args.self.now c.loop-place.self c.pass_resting_of-place.new.self c.args.q.now c.loop-place.q c.args.node c.loop-place.place c.pass_resting_of-place.result order c.loop-place.invariant.1 c.pass_resting_of-place.ensures.asked in (
       omega (arith, test),
-      asking-next g.Q.Ask.gives c.args.self.now c.pass_resting_of-place.new.self c.look.new.self c.args.q.now c.loop-place.q c.look.new.q c.args.node k (rank_at order k).input c.look.result (inputs_in order) (order-below k order test) past (entry-input order k test) c.in_default.is c.look.ensures,
+      asking-next g.Q.Ask.gives c.args.self.now c.pass_resting_of-place.new.self c.look.new.self c.args.q.now c.loop-place.q c.look.new.q c.args.node k c.input.result c.look.result (inputs_in order) (order-below k order test) past (read-input order k c.input.result c.index-order-place.result test c.index-order-place.is c.input.ensures) c.in_default.is c.look.ensures,
     )
 
 pub nodes::Nodes::ask_in_order-loop-place-preserved : goal.nodes::Nodes::ask_in_order-loop-place-preserved

@@ -8,5 +8,5 @@ loop-place-preserved c =
     let row = c.loop-place.row in
     let place = c.loop-place.place in
     let eight : place + 8 + 1 - (place + 1) ≡ 8 = omega arith in
-    putting-next _ row c.copy_within.new.self place 7 (place + 8) c.args.rank (record { pass = 0; input = 0 }) (omega arith) (omega arith) (sym c.is_up_to.ensures ∙ c.if-not-is_up_to.true)
+    putting-next _ row c.copy_within.new.self place 7 (place + 8) c.args.rank c.index-row-place.result (omega arith) (omega arith) (sym c.is_up_to.ensures ∙ c.if-not-is_up_to.true)
     (c.copy_within.ensures.after ∙ ap (paste row place (drop (place + 1) row)) eight) c.loop-place.invariant

@@ -1,19 +1,18 @@
-use Rattle.std.proofs.Common.{ℕ, List, min, ◌≡◌, ◌≤◌, None, length, take, sym, subst, arith, rules}
+use Rattle.std.proofs.Common.{ℕ, List, min, ◌≡◌, ◌≤◌, None, length, take, sym, ap, ◌∙◌, subst, arith, rules}
 use Rattle.std.specs.List.{range_with_len}
 use Rattle.std.proofs.lemmas.List.{length-map}
-use Rattle.clk_sched.specs.declared.session.stride.Rank.{Rank}
-use Rattle.clk_sched.specs.inside.Ranks.{inputs_in}
+use Rattle.clk_sched.specs.inside.Ranks.{Ranked, inputs_in}
 use Rattle.clk_sched.specs.inside.Turning.{HasAskedAll}
-use Rattle.clk_sched.proofs.Classes.RankLemmas.{in_order-front}
-use Rattle.clk_sched.proofs.Nodes.Asked.{entry, rank_at}
+use Rattle.clk_sched.proofs.Classes.RankLemmas.{read-at, in_order-front}
+use Rattle.clk_sched.proofs.Nodes.Asked.{entry}
 use Rattle.clk_sched.proofs.Nodes.Idle.{first-below, input-there, row-follows, order-room, idle-recorded}
 use Rattle.clk_sched.proofs.session.nodes.Nodes.pass_idle_of.Goals as goal
 
-abbrev blank : Rank
+abbrev blank : Ranked
 blank = record { pass = 0; input = 0 }
 
 -- how many ranks were looked at, and how many of these follow one another
-few-taken : (order : List Rank) (idle behind looked n : ℕ) {most : ℕ} → idle ≤ most → most ≡ min (length order) behind → looked ≡ idle → n ≤ length (take looked order) → (looked ≤ length order) × (n ≤ looked) × (n ≤ behind)
+few-taken : (order : List Ranked) (idle behind looked n : ℕ) {most : ℕ} → idle ≤ most → most ≡ min (length order) behind → looked ≡ idle → n ≤ length (take looked order) → (looked ≤ length order) × (n ≤ looked) × (n ≤ behind)
 few-taken order idle behind looked n l is same within = search rules
 
 pub overflow_sub-left : goal.overflow_sub-left
@@ -31,7 +30,7 @@ following-count-requires g c = in_order-front _ c.args.order.now c.requires.orde
 pub record_idle-requires-clause-room : goal.record_idle-requires-clause-room
 record_idle-requires-clause-room g c =
     let room = order-room c.args.self.now c.args.node (inputs_in c.args.order.now) c.requires.can_pull c.requires.within in
-    let size = length-map c.args.order.now (λ (r : Rank). r.input) in
+    let size = length-map c.args.order.now (λ (r : Ranked). r.input) in
     let few = few-taken c.args.order.now _ _ c.from-7.result c.following-count.result c.idle_from-idle.ensures.within c.min.ensures c.from-7.ensures c.following-count.ensures.within in
     omega (arith, room, size, few)
 
@@ -52,10 +51,13 @@ pub returns-clause-asked : goal.returns-clause-asked
 returns-clause-asked g c =
     let a = c.args.self.now in
     let n = c.following-count.result in
-    let first = (rank_at c.args.order.now 0).input in
+    let first = c.input-first.result in
+    let some = c.if-order-from.false in
+    let many = c.from.ensures in
+    let first_is = c.input-first.ensures ∙ ap (λ (r : Ranked). r.input) (read-at c.args.order.now 0 c.index-order-0.result blank (omega (arith, some, many)) c.index-order-0.is) in
     let same = c.from-7.ensures in
     let few = few-taken c.args.order.now _ _ c.from-7.result n c.idle_from-idle.ensures.within c.min.ensures same c.following-count.ensures.within in
     let follow = row-follows c.args.order.now blank n c.from-7.result few.1 few.0 c.following-count.ensures.follow in
-    subst (λ front. HasAskedAll g.Q.Ask.gives a c.record_idle.new.self c.args.q.now c.args.q.now c.args.node front None) (sym follow)
+    subst (λ front. HasAskedAll g.Q.Ask.gives a c.record_idle.new.self c.args.q.now c.args.q.now c.args.node front None) (sym (follow ∙ ap (λ i. range_with_len i n) (sym first_is)))
     (subst (λ now. HasAskedAll g.Q.Ask.gives a now c.args.q.now c.args.q.now c.args.node (range_with_len first n) None) (sym c.record_idle.ensures)
     (idle-recorded g.Q.Ask.gives a c.args.q.now c.args.node first n c.requires.can_pull.fit (λ i l. c.idle_from-idle.ensures.idle i (omega (arith, l, same, few)))))

@@ -1,13 +1,12 @@
 use Rattle.std.proofs.Common.{◌≡◌, ◌<◌, ◌∙◌, length, take, None, IsSome, refl, sym, ap, subst, arith}
 use Rattle.std.specs.List.{AllByRecursion}
 use Rattle.std.proofs.lemmas.List.{length-drop, length-map}
-use Rattle.clk_sched.specs.declared.session.stride.Rank.{Rank}
 use Rattle.clk_sched.specs.inside.Places.{edges_in, input_at}
 use Rattle.clk_sched.specs.inside.Pulling.{CanPull}
-use Rattle.clk_sched.specs.inside.Ranks.{AreInOrder, inputs_in}
+use Rattle.clk_sched.specs.inside.Ranks.{Ranked, AreInOrder, inputs_in}
 use Rattle.clk_sched.specs.inside.Turning.{HasAskedAll}
 use Rattle.clk_sched.proofs.Classes.RankLemmas.{after-place, inputs-after, in_order-after}
-use Rattle.clk_sched.proofs.Nodes.Asked.{rank_at, entry-input}
+use Rattle.clk_sched.proofs.Nodes.Asked.{read-input}
 use Rattle.clk_sched.proofs.Nodes.Asking.{asking-first, asking-ready, asking-next}
 use Rattle.clk_sched.proofs.Nodes.Idle.{rest-can, asking-past, asking-still}
 use Rattle.clk_sched.proofs.session.nodes.Nodes.pass_resting_of.Goals as goal
@@ -43,8 +42,8 @@ skip-requires g c =
     let k = c.loop-place.place in
     let below : k < length c.args.order.now = c.loop-place-test.true in
     let h = asking-still g.Q.Ask.gives c.args.self.now c.loop-place.self c.pass_idle_of-idle.new.self c.args.q.now c.args.q.now c.args.node k c.pass_idle_of-idle.result c.args.order.now (omega arith) c.loop-place.invariant.1 c.pass_idle_of-idle.ensures.asked in
-    let ready = asking-ready g.Q.Ask.gives c.args.self.now c.pass_idle_of-idle.new.self c.args.q.now c.args.q.now c.args.node k (rank_at c.args.order.now k).input (inputs_in c.args.order.now) c.requires.can_pull c.requires.within h
-    (subst (λ n. k < n) (sym (length-map c.args.order.now (λ (r : Rank). r.input))) below) (entry-input c.args.order.now k below) in
+    let ready = asking-ready g.Q.Ask.gives c.args.self.now c.pass_idle_of-idle.new.self c.args.q.now c.args.q.now c.args.node k c.input.result (inputs_in c.args.order.now) c.requires.can_pull c.requires.within h
+    (subst (λ n. k < n) (sym (length-map c.args.order.now (λ (r : Ranked). r.input))) below) (read-input c.args.order.now k c.input.result c.index-order-place.result below c.index-order-place.is c.input.ensures) in
     record { can_pull = ready.0; within = ready.1 }
 
 pub loop-place-preserved : goal.loop-place-preserved
@@ -53,8 +52,8 @@ loop-place-preserved g c =
     let below : k < length c.args.order.now = c.loop-place-test.true in
     let h = asking-still g.Q.Ask.gives c.args.self.now c.loop-place.self c.pass_idle_of-idle.new.self c.args.q.now c.args.q.now c.args.node k c.pass_idle_of-idle.result c.args.order.now (omega arith) c.loop-place.invariant.1 c.pass_idle_of-idle.ensures.asked in (
       omega (arith, below),
-      asking-next g.Q.Ask.gives c.args.self.now c.pass_idle_of-idle.new.self c.skip.new.self c.args.q.now c.args.q.now c.args.q.now c.args.node k (rank_at c.args.order.now k).input None (inputs_in c.args.order.now)
-          (subst (λ n. k < n) (sym (length-map c.args.order.now (λ (r : Rank). r.input))) below) h (entry-input c.args.order.now k below) refl (c.skip.ensures.asked c.if-not-skip.false),
+      asking-next g.Q.Ask.gives c.args.self.now c.pass_idle_of-idle.new.self c.skip.new.self c.args.q.now c.args.q.now c.args.q.now c.args.node k c.input.result None (inputs_in c.args.order.now)
+          (subst (λ n. k < n) (sym (length-map c.args.order.now (λ (r : Ranked). r.input))) below) h (read-input c.args.order.now k c.input.result c.index-order-place.result below c.index-order-place.is c.input.ensures) refl (c.skip.ensures.asked c.if-not-skip.false),
     )
 
 pub returns-then-not-skip-clause-asked : goal.returns-then-not-skip-clause-asked

@@ -3,21 +3,20 @@ use Rattle.std.specs.List.{All}
 use Rattle.std.proofs.lemmas.List.Elements.{All-from_recursion, recursion_from_All}
 use Rattle.std.proofs.lemmas.Option.{slice_get-get_or}
 use Rattle.smallvec.proofs.SmallVecLemmas.{items-with_items}
-use Rattle.clk_sched.specs.declared.session.stride.Rank.{Rank}
-use Rattle.clk_sched.specs.inside.Ranks.{IsRankOf, HasRisingPasses, IsRowWon, after_win, first_pass, from_least}
-use Rattle.clk_sched.proofs.Classes.RankLemmas.{win-from, least-none, win-kept, win-kept_rising}
+use Rattle.clk_sched.specs.inside.Ranks.{Ranked, IsRankOf, HasRisingPasses, IsRowWon, after_win, first_pass, from_least}
+use Rattle.clk_sched.proofs.Classes.RankLemmas.{read-at, win-from, least-none, win-kept, win-kept_rising}
 use Rattle.clk_sched.proofs.Classes.StridePasses.{passes-won}
 use Rattle.clk_sched.proofs.session.stride.Passes.won.Goals as goal
 
 -- the default of a place that there is
-abbrev blank : Rank
+abbrev blank : Ranked
 blank = record { pass = 0; input = 0 }
 
 -- the new row, in words of the row and the strides
-won-is : (row now ranks : List Rank) (strides read : List ℕ) (place input : ℕ) → now ≡ row → read ≡ strides → input ≡ (get_or now place blank).input → place < length row → IsRowWon place (get_or read input 0) now ranks
+won-is : (row now ranks : List Ranked) (strides read : List ℕ) (place input : ℕ) → now ≡ row → read ≡ strides → input ≡ (get_or now place blank).input → place < length row → IsRowWon place (get_or read input 0) now ranks
     → ranks ≡ from_least (after_win (get_or row place blank).pass (get_or strides (get_or row place blank).input 0) place row)
 won-is row now ranks strides read place input same as_read from l won =
-    won (get_or now place blank) (slice_get-get_or now place blank (subst (λ (xs : List Rank). place < length xs) (sym same) l))
+    won (get_or now place blank) (slice_get-get_or now place blank (subst (λ (xs : List Ranked). place < length xs) (sym same) l))
     ∙ ap from_least (win-from row now strides read place input blank _ same as_read from refl)
 
 pub invariant_of-self : goal.invariant_of-self
@@ -30,7 +29,7 @@ invariant_of-self c =
     let inputs = length strides in
     let is =
     items-with_items c.args.self.now.row c.win_at.new.row (search rules)
-    ∙ won-is row c.as_mut_slice-row.result.now c.win_at.new.row strides c.deref.result.now place c.from.result c.as_mut_slice-row.ensures.value c.deref.ensures c.from.ensures c.requires.place c.win_at.ensures
+    ∙ won-is row c.as_mut_slice-row.result.now c.win_at.new.row strides c.deref.result.now place c.from.result c.as_mut_slice-row.ensures.value c.deref.ensures (c.from.ensures ∙ c.input.ensures ∙ ap (λ (r : Ranked). r.input) (read-at c.as_mut_slice-row.result.now place c.index-row-place.result blank (subst (λ (xs : List Ranked). place < length xs) (sym c.as_mut_slice-row.ensures.value) c.requires.place) c.index-row-place.is)) c.requires.place c.win_at.ensures
     in
     let rises = c.args.self.now.rising in
     let ranked = recursion_from_All (IsRankOf inputs) row c.args.self.now.ranks in
@@ -52,6 +51,6 @@ returns-clause-holds c tickets turns t holds visits gives =
     let strides = c.args.self.now.strides.items in
     let is =
     items-with_items c.args.self.now.row c.win_at.new.row (search rules)
-    ∙ won-is row c.as_mut_slice-row.result.now c.win_at.new.row strides c.deref.result.now place c.from.result c.as_mut_slice-row.ensures.value c.deref.ensures c.from.ensures c.requires.place c.win_at.ensures
+    ∙ won-is row c.as_mut_slice-row.result.now c.win_at.new.row strides c.deref.result.now place c.from.result c.as_mut_slice-row.ensures.value c.deref.ensures (c.from.ensures ∙ c.input.ensures ∙ ap (λ (r : Ranked). r.input) (read-at c.as_mut_slice-row.result.now place c.index-row-place.result blank (subst (λ (xs : List Ranked). place < length xs) (sym c.as_mut_slice-row.ensures.value) c.requires.place) c.index-row-place.is)) c.requires.place c.win_at.ensures
     in
     passes-won tickets turns t c.args.self.now _ place blank holds c.requires.place c.args.self.now.rising visits gives winner.pass (get_or strides winner.input 0) refl refl is refl
