@@ -167,18 +167,29 @@ impl Passes {
     ghost use Rattle.clk_sched.specs.inside.Holds.OfClass.{FitsPasses, IsStride};
 
     /// Pulls a StrideSched.
-    // Mostly the first input of the row gives a packet. It is asked while the passes stand in their place, so that such a pull doesn't take
-    // them out and put them back.
     #[cycle(pull)]
-    #[inline(never)]
+    #[inline(always)]
     pub fn pull<Q: Ask>(nodes: &mut Nodes, q: &mut Q, node: u16) -> Option<Packet>
         requires can_pull { CanPull nodes.old node (edges_of nodes.old.inputs.items node) }
         requires holds { IfSome (slice_get nodes.old.states.items node) IsStride }
         ensures { WasPulled Q.gives nodes.old nodes.new q.old q.new node result }
     {
-        let Some(input) = Passes::first_input(nodes, node) else {
-            return Passes::ask_on(nodes, q, node, 0);
-        };
+        match Passes::first_input(nodes, node) {
+            Some(input) => Passes::ask_first(nodes, q, node, input),
+            None => Passes::ask_on(nodes, q, node, 0),
+        }
+    }
+
+    // Pulls a StrideSched whose first input mostly gives a packet. It is asked while the passes stand in their place, so that such a pull
+    // doesn't take them out and put them back.
+    #[cycle(pull)]
+    #[inline(never)]
+    fn ask_first<Q: Ask>(nodes: &mut Nodes, q: &mut Q, node: u16, input: u16) -> Option<Packet>
+        requires can_pull { CanPull nodes.old node (edges_of nodes.old.inputs.items node) }
+        requires holds { IfSome (slice_get nodes.old.states.items node) IsStride }
+        requires first { (held : Box Passes) → slice_get nodes.old.states.items node ≡ Some (Stride held) → take 1 (inputs_in held.value.row.items) ≡ input ∷ [] }
+        ensures { WasPulled Q.gives nodes.old nodes.new q.old q.new node result }
+    {
         let Some(packet) = nodes.look(q, node, input) else {
             return Passes::ask_on(nodes, q, node, 1);
         };

@@ -404,6 +404,23 @@ stride::Passes::ask_on-returns g t c m =
     out-pulled g.Q.Ask.gives c.args.nodes.now c.take.new.self c.turn-got.new.nodes c.put.new.self c.args.q.now c.turn-got.new.q c.args.node c.args.asked passes _ c.deref_mut.result.now c.turn-got.result
     (record { may = m; state = c.take.ensures.state ∙ ap Some c.in-Stride.is; out = c.take.ensures.taken; is = c.deref_mut.ensures.value }) c.turn-got.ensures c.put.ensures
 
+-- the input that is asked first
+first-is : (o : Option ℕ) (i : ℕ) (order : List ℕ) → o ≡ Some i → IfSome o (λ input. take 1 order ≡ input ∷ []) → take 1 order ≡ i ∷ []
+first-is o i order is h = subst (λ p. IfSome p (λ input. take 1 order ≡ input ∷ [])) is h
+
+pub stride::Passes::pull-ask_first-requires : goal.stride::Passes::pull-ask_first-requires
+stride::Passes::pull-ask_first-requires g t c =
+    λ κs le. (
+      omega arith,
+      (
+        search,
+        (
+          c.requires.can_pull,
+          (c.requires.holds, λ held is. first-is c.first_input.result c.in-Some.input (inputs_in held.value.row.items) c.in-Some.is (c.first_input.ensures held is)),
+        ),
+      ),
+    )
+
 pub stride::Passes::pull-ask_on-requires : goal.stride::Passes::pull-ask_on-requires
 stride::Passes::pull-ask_on-requires g t c =
     let a = c.args.nodes.now in
@@ -411,59 +428,51 @@ stride::Passes::pull-ask_on-requires g t c =
     let held = stride-there a.states.items x (state-there a x _ c.requires.can_pull) c.requires.holds in
     λ κs le. (omega arith, (search, first-none g.Q.Ask.gives a c.args.q.now x held.0 c.requires.can_pull held.1))
 
-pub stride::Passes::pull-returns-in_default : goal.stride::Passes::pull-returns-in_default
-stride::Passes::pull-returns-in_default g t c =
+pub stride::Passes::pull-returns-in-None : goal.stride::Passes::pull-returns-in-None
+stride::Passes::pull-returns-in-None g t c =
     let a = c.args.nodes.now in
     let x = c.args.node in
     let held = stride-there a.states.items x (state-there a x _ c.requires.can_pull) c.requires.holds in
     c.ask_on.ensures (first-none g.Q.Ask.gives a c.args.q.now x held.0 c.requires.can_pull held.1)
 
--- the input that is asked first
-first-is : (o : Option ℕ) (i : ℕ) (order : List ℕ) → o ≡ Some i → IfSome o (λ input. take 1 order ≡ input ∷ []) → take 1 order ≡ i ∷ []
-first-is o i order is h = subst (λ p. IfSome p (λ input. take 1 order ≡ input ∷ [])) is h
-
-pub stride::Passes::pull-look-requires : goal.stride::Passes::pull-look-requires
-stride::Passes::pull-look-requires g t c =
+pub stride::Passes::ask_first-look-requires : goal.stride::Passes::ask_first-look-requires
+stride::Passes::ask_first-look-requires g t c =
     let a = c.args.nodes.now in
     let x = c.args.node in
     let held = stride-there a.states.items x (state-there a x _ c.requires.can_pull) c.requires.holds in
-    let may = first-may g.Q.Ask.gives a c.args.q.now x held.0 c.requires.can_pull held.1 c.in-Some.input (first-is c.first_input.result c.in-Some.input (inputs_in held.0.value.row.items) c.in-Some.is (c.first_input.ensures held.0 held.1)) in
+    let may = first-may g.Q.Ask.gives a c.args.q.now x held.0 c.requires.can_pull held.1 c.args.input (c.requires.first held.0 held.1) in
     λ κs le. (omega arith, (search, (may.0, may.1)))
 
-pub stride::Passes::pull-ask_on-requires-in_default-look : goal.stride::Passes::pull-ask_on-requires-in_default-look
-stride::Passes::pull-ask_on-requires-in_default-look g t c =
+pub stride::Passes::ask_first-ask_on-requires : goal.stride::Passes::ask_first-ask_on-requires
+stride::Passes::ask_first-ask_on-requires g t c =
     let a = c.args.nodes.now in
     let x = c.args.node in
     let held = stride-there a.states.items x (state-there a x _ c.requires.can_pull) c.requires.holds in
-    let is = first-is c.first_input.result c.in-Some.input (inputs_in held.0.value.row.items) c.in-Some.is (c.first_input.ensures held.0 held.1) in
     let same = ap length c.look.ensures.keeps.inputs in
-    λ κs le. (omega (arith, same), (search, first-vain g.Q.Ask.gives a c.args.q.now x held.0 c.requires.can_pull held.1 c.look.new.self c.look.new.q c.in-Some.input c.look.result is c.in_default-look.is c.look.ensures))
+    λ κs le. (omega (arith, same), (search, first-vain g.Q.Ask.gives a c.args.q.now x held.0 c.requires.can_pull held.1 c.look.new.self c.look.new.q c.args.input c.look.result (c.requires.first held.0 held.1) c.in_default.is c.look.ensures))
 
-pub stride::Passes::pull-returns-in_default-look : goal.stride::Passes::pull-returns-in_default-look
-stride::Passes::pull-returns-in_default-look g t c =
+pub stride::Passes::ask_first-returns-in_default : goal.stride::Passes::ask_first-returns-in_default
+stride::Passes::ask_first-returns-in_default g t c =
     let a = c.args.nodes.now in
     let x = c.args.node in
     let held = stride-there a.states.items x (state-there a x _ c.requires.can_pull) c.requires.holds in
-    let is = first-is c.first_input.result c.in-Some.input (inputs_in held.0.value.row.items) c.in-Some.is (c.first_input.ensures held.0 held.1) in
-    c.ask_on-in_default-look.ensures (first-vain g.Q.Ask.gives a c.args.q.now x held.0 c.requires.can_pull held.1 c.look.new.self c.look.new.q c.in-Some.input c.look.result is c.in_default-look.is c.look.ensures)
+    c.ask_on.ensures (first-vain g.Q.Ask.gives a c.args.q.now x held.0 c.requires.can_pull held.1 c.look.new.self c.look.new.q c.args.input c.look.result (c.requires.first held.0 held.1) c.in_default.is c.look.ensures)
 
-pub stride::Passes::pull-win_first_at-requires-clause-order : goal.stride::Passes::pull-win_first_at-requires-clause-order
-stride::Passes::pull-win_first_at-requires-clause-order g t c later here =
+pub stride::Passes::ask_first-win_first_at-requires-clause-order : goal.stride::Passes::ask_first-win_first_at-requires-clause-order
+stride::Passes::ask_first-win_first_at-requires-clause-order g t c later here =
     let a = c.args.nodes.now in
     let x = c.args.node in
     let held = stride-there a.states.items x (state-there a x _ c.requires.can_pull) c.requires.holds in
-    let is = first-is c.first_input.result c.in-Some.input (inputs_in held.0.value.row.items) c.in-Some.is (c.first_input.ensures held.0 held.1) in
     let same = passes-same held.0 later (some-same (Stride held.0) (Stride later) (sym (c.look.ensures.keeps.ahead x (omega arith) ∙ held.1) ∙ here)) in
     subst (λ (b : Box Passes). (0 < length b.value.row.items) × AreInOrder b.value.row.items) same
-    (first-some g.Q.Ask.gives a c.args.q.now x held.0 c.requires.can_pull held.1 c.in-Some.input is, first-order g.Q.Ask.gives a c.args.q.now x held.0 c.requires.can_pull held.1)
+    (first-some g.Q.Ask.gives a c.args.q.now x held.0 c.requires.can_pull held.1 c.args.input (c.requires.first held.0 held.1), first-order g.Q.Ask.gives a c.args.q.now x held.0 c.requires.can_pull held.1)
 
-pub stride::Passes::pull-returns : goal.stride::Passes::pull-returns
-stride::Passes::pull-returns g t c =
+pub stride::Passes::ask_first-returns : goal.stride::Passes::ask_first-returns
+stride::Passes::ask_first-returns g t c =
     let a = c.args.nodes.now in
     let x = c.args.node in
     let held = stride-there a.states.items x (state-there a x _ c.requires.can_pull) c.requires.holds in
-    let is = first-is c.first_input.result c.in-Some.input (inputs_in held.0.value.row.items) c.in-Some.is (c.first_input.ensures held.0 held.1) in
-    first-won g.Q.Ask.gives a c.args.q.now x held.0 c.requires.can_pull held.1 c.look.new.self c.win_first_at.new.nodes c.look.new.q c.in-Some.input c.look.result c.in-Some-look.packet is c.in-Some-look.is c.look.ensures
+    first-won g.Q.Ask.gives a c.args.q.now x held.0 c.requires.can_pull held.1 c.look.new.self c.win_first_at.new.nodes c.look.new.q c.args.input c.look.result c.in-Some.packet (c.requires.first held.0 held.1) c.in-Some.is c.look.ensures
     (c.win_first_at.ensures held.0 (c.look.ensures.keeps.ahead x (omega arith) ∙ held.1))
 
 pub drr::Deficits::pull-turn-got-requires : goal.drr::Deficits::pull-turn-got-requires

@@ -7,7 +7,7 @@ use Rattle.clk_sched.proofs.session.+pull.Given as goal
 
 -- a node is pulled before those below it, and each step of its pull before the next
 abbrev rank : ℕ → ℕ → ℕ → ℕ
-rank size x step = 7 * (size - x) + step
+rank size x step = 8 * (size - x) + step
 
 abbrev pub decreases-nodes::Nodes::ask : goal.decreases-nodes::Nodes::ask
 decreases-nodes::Nodes::ask g l = rank (length l.self.now.inputs.items) l.node 0
@@ -43,13 +43,16 @@ abbrev pub decreases-drr::Deficits::pull : goal.decreases-drr::Deficits::pull
 decreases-drr::Deficits::pull g l = rank (length l.nodes.now.inputs.items) l.node 5
 
 abbrev pub decreases-stride::Passes::pull : goal.decreases-stride::Passes::pull
-decreases-stride::Passes::pull g l = rank (length l.nodes.now.inputs.items) l.node 5
+decreases-stride::Passes::pull g l = rank (length l.nodes.now.inputs.items) l.node 6
+
+abbrev pub decreases-stride::Passes::ask_first : goal.decreases-stride::Passes::ask_first
+decreases-stride::Passes::ask_first g l = rank (length l.nodes.now.inputs.items) l.node 5
 
 abbrev pub decreases-shaper::Bucket::pull : goal.decreases-shaper::Bucket::pull
 decreases-shaper::Bucket::pull g l = rank (length l.nodes.now.inputs.items) l.node 5
 
 abbrev pub decreases-nodes::Nodes::pull : goal.decreases-nodes::Nodes::pull
-decreases-nodes::Nodes::pull g l = rank (length l.self.now.inputs.items) l.node 6
+decreases-nodes::Nodes::pull g l = rank (length l.self.now.inputs.items) l.node 7
 
 abbrev pub decreases-nodes::Nodes::ask_in_order-loop-place : goal.decreases-nodes::Nodes::ask_in_order-loop-place
 decreases-nodes::Nodes::ask_in_order-loop-place g l = length l.order - l.place
