@@ -3,6 +3,7 @@ pub mod Below
 pub mod Pulling
 pub mod Asking
 pub mod InTwo
+pub mod First
 pub mod Asked
 pub mod Edges
 pub mod InOrder

@@ -1,6 +1,7 @@
 -- The turn of a node of each class: what it asks, and what it holds after.
 pub mod TurnPrio
 pub mod TurnRoundRobin
+pub mod RoundRobinAsks
 pub mod TurnStride
 pub mod StrideAsks
 pub mod TurnShaper

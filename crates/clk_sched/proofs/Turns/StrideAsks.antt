@@ -1,7 +1,7 @@
 -- What a StrideSched asks first, and what it asks after that.
-use Rattle.std.proofs.Common.{◌≡◌, ℕ, ◌+◌, ◌-◌, ◌<◌, ◌≤◌, List, [], ◌∷◌, ◌++◌, length, take, drop, slice_get, slice_index, Option, Some, None, IsSome, IfSome, refl, sym, ap, ◌∙◌, subst, arith}
+use Rattle.std.proofs.Common.{◌≡◌, ℕ, ◌+◌, ◌-◌, ◌<◌, ◌≤◌, List, [], ◌∷◌, length, take, drop, slice_get, Option, Some, None, IsSome, IfSome, refl, sym, ap, ◌∙◌, subst, arith}
 use Rattle.std.specs.List.{AllByRecursion}
-use Rattle.std.proofs.lemmas.List.{length-drop, length-map, length-take-le, take-append-drop}
+use Rattle.std.proofs.lemmas.List.{length-drop, length-map}
 use Rattle.std.specs.Global.{Box}
 use Rattle.clk_packet.specs.declared.packet.Packet.{Packet}
 use Rattle.clk_sched.specs.declared.session.nodes.Nodes.{Nodes}
@@ -12,12 +12,12 @@ use Rattle.clk_sched.specs.inside.Holds.OfClass.{IsStride}
 use Rattle.clk_sched.specs.inside.Places.{edges_of, edges_at, edges_in, input_at}
 use Rattle.clk_sched.specs.inside.Pulling.{CanPull}
 use Rattle.clk_sched.specs.inside.Ranks.{Ranked, AreInOrder, inputs_in}
-use Rattle.clk_sched.specs.inside.Turning.{with_state, HasAsked, HasAskedAll, HadTurn, WasPulled}
-use Rattle.clk_sched.specs.inside.Winning.{IsWonAt, WinsFirst, MayAskOn, TurnsOn}
+use Rattle.clk_sched.specs.inside.Turning.{with_state, HasAsked, HasAskedAll, HadTurn, MayAskOn, WasPulled}
+use Rattle.clk_sched.specs.inside.Winning.{IsWonAt, WinsFirst, TurnsOn}
 use Rattle.clk_sched.proofs.Classes.RankLemmas.{after-place, inputs-after, in_order-after}
-use Rattle.clk_sched.proofs.Nodes.Asking.{IsAsking, asking-first, asking-ready, asking-next, asking-given, asked-vain, vain-asked}
+use Rattle.clk_sched.proofs.Nodes.Asking.{IsAsking, asking-first, asking-ready, asking-given, asked-vain}
+use Rattle.clk_sched.proofs.Nodes.First.{first-of, later, asked-on}
 use Rattle.clk_sched.proofs.Nodes.Idle.{rest-can}
-use Rattle.clk_sched.proofs.Nodes.InTwo.{in_second, past-length, asked-both}
 use Rattle.clk_sched.proofs.Nodes.Ordered.{item-there}
 use Rattle.clk_sched.proofs.Nodes.Placed.{asked-placed, can-put, fits-there, kept-there, passes-same, pulled-back, pulled-put, some-same}
 use Rattle.clk_sched.proofs.Turns.TurnStride.{FitsAt, stride-in_order, stride-may, had-won, had-lost}
@@ -30,28 +30,19 @@ stride-there states x l h = let s = item-there states x l in by_state s.0 s.1 (s
     by_state (Stride held) e h = (held, e)
     by_state s e h = absurd h
 
--- the first of an order
-pub first-of : (order : List ℕ) (i : ℕ) → take 1 order ≡ i ∷ [] → (0 < length order) × (i ≡ slice_index order 0)
-first-of [] i e = absurd (let none = ap length e in omega (arith, none))
-first-of (j ∷ order) i e = (omega arith, sym (ap (λ l. slice_index l 0) e))
-
 -- What stands at an input that is first in the row of a StrideSched, which it may ask.
 module _ {S : Type 0} (gives : S → ℕ → Option Packet → S → Type 0) (a : Nodes) (q : S) (x : ℕ) (held : Box Passes) (can : CanPull a x (edges_of a.inputs.items x)) (begun : slice_get a.states.items x ≡ Some (Stride held)) where
   abbrev order : List ℕ
   order = inputs_in held.value.row.items
 
-  pub fits : FitsAt a.inputs.items x held.value
+  fits : FitsAt a.inputs.items x held.value
   fits = fits-there a.inputs.items a.states.items x (Stride held) can.fit begun
 
-  pub none : IsAsking gives a a q q x (take 0 order)
+  none : IsAsking gives a a q q x (take 0 order)
   none = asking-first gives a q x can.fit
 
   pub first-order : AreInOrder held.value.row.items
   first-order = stride-in_order a.inputs.items x held.value can.there fits
-
-  -- It asked none so far.
-  abbrev pub first-none : MayAskOn gives a q x 0
-  first-none = record { first = a; before = q; held = held; can = can; begun = begun; stays = begun; within = omega arith; in_vain = vain-asked gives a a q q x (take 0 order) none }
 
   pub first-may : (i : ℕ) → take 1 order ≡ i ∷ [] → CanPull a x (edges_at a.inputs.items x i) × IsSome (input_at a.inputs.items x i)
   first-may i is =
@@ -62,22 +53,6 @@ module _ {S : Type 0} (gives : S → ℕ → Option Packet → S → Type 0) (a 
   pub first-some : (i : ℕ) → take 1 order ≡ i ∷ [] → 0 < length held.value.row.items
   first-some i is = subst (λ n. 0 < n) (length-map held.value.row.items (λ (k : Ranked). k.input)) (first-of order i is).0
 
-  -- The first gave nothing.
-  abbrev pub first-vain : (b : Nodes) (r : S) (i : ℕ) (got : Option Packet) → take 1 order ≡ i ∷ [] → got ≡ None → HasAsked gives a b q r x i got → MayAskOn gives b r x 1
-  first-vain b r i got is vain asked =
-      let here = first-of order i is in
-      let some = first-some i is in
-      record {
-        first = a;
-        before = q;
-        held = held;
-        can = can;
-        begun = begun;
-        stays = asked.keeps.ahead x (omega arith) ∙ begun;
-        within = omega (arith, some);
-        in_vain = vain-asked gives a b q r x (take 1 order) (asking-next gives a a b q q r x 0 i got order here.0 none here.1 vain asked);
-      }
-
   -- It gave a packet, and wins.
   pub first-won : (b c : Nodes) (r : S) (i : ℕ) (got : Option Packet) (packet : Packet) → take 1 order ≡ i ∷ [] → got ≡ Some packet → HasAsked gives a b q r x i got → WinsFirst b c x held → WasPulled gives a c q r x (Some packet)
   first-won b c r i got packet is given asked wins =
@@ -86,23 +61,6 @@ module _ {S : Type 0} (gives : S → ℕ → Option Packet → S → Type 0) (a 
       (had-won gives a b q r x 0 packet held.value wins.holds.value held.value.row.items (Some (0, packet)) can fits refl refl (first-some i is)
       (asking-given gives a a b q q r x 0 i got packet order here.0 none here.1 given asked) wins.won held wins.holds refl refl)
       wins.is
-
--- a place among those of an order that are left after so many, as one of the order
-abbrev later : ℕ → Option (ℕ × Packet) → Option (ℕ × Packet)
-later asked None = None
-later asked (Some r) = Some (asked + r.0, r.1)
-
--- The first inputs of an order gave nothing, and the others were asked.
-asked-on : {S : Type 0} (gives : S → ℕ → Option Packet → S → Type 0) (a b c : Nodes) (p q r : S) (x asked : ℕ) (order rest : List ℕ) (o : Option (ℕ × Packet)) → asked ≤ length order → rest ≡ drop asked order
-    → HasAskedAll gives a b p q x (take asked order) None → HasAskedAll gives b c q r x rest o → HasAskedAll gives a c p r x order (later asked o)
-asked-on gives a b c p q r x asked order rest o within is vain given =
-    subst (λ l. HasAskedAll gives a c p r x l (later asked o)) (take-append-drop asked order)
-    (subst (HasAskedAll gives a c p r x (take asked order ++ drop asked order)) (places o)
-    (asked-both gives a b c p q r x (take asked order) (drop asked order) o (asked-vain gives a b p q x (take asked order) None refl vain) (subst (λ l. HasAskedAll gives b c q r x l o) is given)))
-  where
-    places : (o : Option (ℕ × Packet)) → in_second (take asked order) o ≡ later asked o
-    places None = refl
-    places (Some r) = ap (λ k. Some (k, r.1)) (past-length (take asked order) r.0 ∙ ap (λ n. n + r.0) (length-take-le asked order within))
 
 -- The ranks that are left of a row after so many, in words of its order.
 pub left-after : (row : List Ranked) (s : Passes) (n : ℕ) → row ≡ s.row.items → inputs_in (take (length row - n) (drop n row)) ≡ drop n (inputs_in s.row.items)
@@ -145,13 +103,14 @@ turned-lost gives b c q r x asked s row o fits is none others first before held 
 
 -- The passes of a StrideSched are taken out for the rest of its turn.
 pub record IsOut {S : Type 0} (gives : S → ℕ → Option Packet → S → Type 0) (n t : Nodes) (q : S) (x asked : ℕ) (passes : Box Passes) (s : Passes) : Type 0 where
-  pub may : MayAskOn gives n q x asked
+  pub held : Box Passes
+  pub may : MayAskOn gives n q x (Stride held) (inputs_in held.value.row.items) asked
   pub state : slice_get n.states.items x ≡ Some (Stride passes)
   pub out : t ≡ with_state n x Prio
   pub is : s ≡ passes.value
 
-held-is : {S : Type 0} (gives : S → ℕ → Option Packet → S → Type 0) (n t : Nodes) (q : S) (x asked : ℕ) (passes : Box Passes) (s : Passes) (h : IsOut gives n t q x asked passes s) → h.may.held.value ≡ s
-held-is gives n t q x asked passes s h = ap (λ (b : Box Passes). b.value) (passes-same h.may.held passes (some-same (Stride h.may.held) (Stride passes) (sym h.may.stays ∙ h.state))) ∙ sym h.is
+held-is : {S : Type 0} (gives : S → ℕ → Option Packet → S → Type 0) (n t : Nodes) (q : S) (x asked : ℕ) (passes : Box Passes) (s : Passes) (h : IsOut gives n t q x asked passes s) → h.held.value ≡ s
+held-is gives n t q x asked passes s h = ap (λ (b : Box Passes). b.value) (passes-same h.held passes (some-same (Stride h.held) (Stride passes) (sym h.may.stays ∙ h.state))) ∙ sym h.is
 
 -- What it may do then.
 pub record MayTurn (t : Nodes) (x asked : ℕ) (s : Passes) : Type 0 where
@@ -163,32 +122,32 @@ pub out-may : {S : Type 0} (gives : S → ℕ → Option Packet → S → Type 0
 out-may gives n t q x asked passes s h =
     subst (λ (u : Nodes). MayTurn u x asked s) (sym h.out)
     (subst (MayTurn (with_state n x Prio) x asked) (held-is gives n t q x asked passes s h)
-    (record { can = can-put n x _ Prio rest.0 (λ p e. tt); there = rest.1; fits = (subst (λ table. FitsAt table x m.held.value) (sym m.in_vain.keeps.inputs) fits, m.within) }))
+    (record { can = can-put n x _ Prio rest.0 (λ p e. tt); there = rest.1; fits = (subst (λ table. FitsAt table x h.held.value) (sym m.in_vain.keeps.inputs) fits, subst (λ n. asked ≤ n) (length-map h.held.value.row.items (λ (k : Ranked). k.input)) m.within) }))
   where
-    m : MayAskOn gives n q x asked
+    m : MayAskOn gives n q x (Stride h.held) (inputs_in h.held.value.row.items) asked
     m = h.may
 
     order : List ℕ
-    order = inputs_in m.held.value.row.items
+    order = inputs_in h.held.value.row.items
 
-    fits : FitsAt m.first.inputs.items x m.held.value
-    fits = fits-there m.first.inputs.items m.first.states.items x (Stride m.held) m.can.fit m.begun
+    fits : FitsAt m.first.inputs.items x h.held.value
+    fits = fits-there m.first.inputs.items m.first.states.items x (Stride h.held) m.can.fit m.begun
 
     rest : CanPull n x (edges_in n.inputs.items x (drop asked order)) × AllByRecursion (λ i. IsSome (input_at n.inputs.items x i)) (drop asked order)
     rest =
-        let may = stride-may m.first x m.held.value m.held.value.row.items m.can fits refl in
+        let may = stride-may m.first x h.held.value h.held.value.row.items m.can fits refl in
         rest-can gives m.first n m.before q x asked order may.0 may.1 (asked-vain gives m.first n m.before q x (take asked order) None refl m.in_vain)
 
 -- It had its turn.
 pub out-turned : {S : Type 0} (gives : S → ℕ → Option Packet → S → Type 0) (n t u : Nodes) (q r : S) (x asked : ℕ) (passes holds : Box Passes) (s : Passes) (got : Option Packet) (h : IsOut gives n t q x asked passes s)
-    → TurnsOn gives t u q r x asked s holds.value got → HadTurn gives (with_state h.may.first x Prio) u h.may.before r x (Stride h.may.held) (Stride holds) got
+    → TurnsOn gives t u q r x asked s holds.value got → HadTurn gives (with_state h.may.first x Prio) u h.may.before r x (Stride h.held) (Stride holds) got
 out-turned gives n t u q r x asked passes holds s got h turn =
     let m = h.may in
     let same = held-is gives n t q x asked passes s h in
-    turn (with_state m.first x Prio) m.before m.held holds (can-put m.first x _ Prio m.can (λ p e. tt))
+    turn (with_state m.first x Prio) m.before h.held holds (can-put m.first x _ Prio m.can (λ p e. tt))
     (subst (λ (v : Nodes). HasAskedAll gives (with_state m.first x Prio) v m.before q x (take asked (inputs_in s.row.items)) None) (sym h.out)
     (subst (λ (p : Passes). HasAskedAll gives (with_state m.first x Prio) (with_state n x Prio) m.before q x (take asked (inputs_in p.row.items)) None) same
-    (asked-placed gives m.first n m.before q x (take asked (inputs_in m.held.value.row.items)) None Prio m.can.there m.can.fit (λ p e. tt) m.in_vain))) same refl
+    (asked-placed gives m.first n m.before q x (take asked (inputs_in h.held.value.row.items)) None Prio m.can.there m.can.fit (λ p e. tt) m.in_vain))) same refl
 
 pub out-there : {S : Type 0} (gives : S → ℕ → Option Packet → S → Type 0) (n t u : Nodes) (q r : S) (x asked : ℕ) (passes holds : Box Passes) (s : Passes) (got : Option Packet) → IsOut gives n t q x asked passes s
     → TurnsOn gives t u q r x asked s holds.value got → x < length u.states.items
@@ -200,4 +159,4 @@ pub out-pulled : {S : Type 0} (gives : S → ℕ → Option Packet → S → Typ
     → TurnsOn gives t u q r x asked s holds.value got → b ≡ with_state u x (Stride holds) → WasPulled gives h.may.first b h.may.before r x got
 out-pulled gives n t u b q r x asked passes holds s got h turn back =
     let m = h.may in
-    pulled-back gives m.first (with_state m.first x Prio) u b m.before r x _ (Stride m.held) (Stride holds) got refl m.begun m.can (out-turned gives n t u q r x asked passes holds s got h turn) back
+    pulled-back gives m.first (with_state m.first x Prio) u b m.before r x _ (Stride h.held) (Stride holds) got refl m.begun m.can (out-turned gives n t u q r x asked passes holds s got h turn) back

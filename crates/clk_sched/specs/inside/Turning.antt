@@ -1,5 +1,5 @@
 -- What it means that a node was pulled, had its turn, or asked its inputs.
-use Rattle.std.specs.Prelude.{◌≡◌, ℕ, suc, List, [], ◌∷◌, length, Option, Some, None, IfSome, slice_get}
+use Rattle.std.specs.Prelude.{◌≡◌, ℕ, suc, ◌≤◌, List, [], ◌∷◌, length, take, Option, Some, None, IfSome, slice_get}
 use Rattle.std.specs.Vec.{with_item}
 use Rattle.clk_packet.specs.declared.packet.Packet.{Packet}
 use Rattle.clk_sched.specs.declared.session.state.State.{State}
@@ -11,7 +11,7 @@ use Rattle.clk_sched.specs.Log.{asking}
 use Rattle.clk_sched.specs.Answers.{Answers}
 use Rattle.clk_sched.specs.inside.Places.{edges_of, edges_at, edges_in, input_at, queue_asked}
 use Rattle.clk_sched.specs.inside.Logged.{with_idle}
-use Rattle.clk_sched.specs.inside.Pulling.{Keeps, Pulls, AsksAll, TakesTurn, added, now_of, asked_in_order}
+use Rattle.clk_sched.specs.inside.Pulling.{CanPull, Keeps, Pulls, AsksAll, TakesTurn, added, now_of, asked_in_order}
 
 -- these nodes, of which one holds this state
 abbrev pub with_state : Nodes → ℕ → State → Nodes
@@ -52,3 +52,14 @@ pub record HasAskedAll {S : Type 0} (gives : S → ℕ → Option Packet → S �
   pub keeps : Keeps (suc x) old new (edges_in old.inputs.items x order)
   pub answers : Answers gives (queue_asked old.inputs.items) before (added old new) now
   pub asks : AsksAll old new x order (asked_in_order (now_of old) x order given)
+
+-- A node is in its turn, which began with the nodes `first` and this state. It asked so many inputs at the front of an order, which gave
+-- nothing, and its state is in its place.
+pub record MayAskOn {S : Type 0} (gives : S → ℕ → Option Packet → S → Type 0) (n : Nodes) (q : S) (x : ℕ) (state : State) (order : List ℕ) (asked : ℕ) : Type 0 where
+  pub first : Nodes
+  pub before : S
+  pub can : CanPull first x (edges_of first.inputs.items x)
+  pub begun : slice_get first.states.items x ≡ Some state
+  pub stays : slice_get n.states.items x ≡ Some state
+  pub within : asked ≤ length order
+  pub in_vain : HasAskedAll gives first n before q x (take asked order) None

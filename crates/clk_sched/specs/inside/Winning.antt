@@ -1,5 +1,5 @@
--- A StrideSched in its turn: what it asked so far, and what it holds once an input won.
-use Rattle.std.specs.Prelude.{◌≡◌, ℕ, ◌+◌, ◌≤◌, List, ◌∷◌, length, map, take, Option, Some, None, slice_get}
+-- What a StrideSched holds once an input won.
+use Rattle.std.specs.Prelude.{◌≡◌, ℕ, ◌+◌, List, ◌∷◌, map, take, Option, None, slice_get}
 use Rattle.std.specs.Global.{Box}
 use Rattle.clk_packet.specs.declared.packet.Packet.{Packet}
 use Rattle.clk_sched.specs.declared.visit.Visit.{Visit}
@@ -24,18 +24,6 @@ pub record WinsFirst (old new : Nodes) (x : ℕ) (held : Box Passes) : Type 0 wh
   pub holds : Box Passes
   pub is : new ≡ with_state old x (Stride holds)
   pub won : IsWonAt held.value holds.value 0
-
--- A StrideSched is in its turn, which began with the nodes `first`. It asked so many inputs of its row, which gave nothing, and what it
--- holds is in its place.
-pub record MayAskOn {S : Type 0} (gives : S → ℕ → Option Packet → S → Type 0) (n : Nodes) (q : S) (x asked : ℕ) : Type 0 where
-  pub first : Nodes
-  pub before : S
-  pub held : Box Passes
-  pub can : CanPull first x (edges_of first.inputs.items x)
-  pub begun : slice_get first.states.items x ≡ Some (Stride held)
-  pub stays : slice_get n.states.items x ≡ Some (Stride held)
-  pub within : asked ≤ length held.value.row.items
-  pub in_vain : HasAskedAll gives first n before q x (take asked (inputs_in held.value.row.items)) None
 
 -- A StrideSched that asked so many inputs of its row, which gave nothing, had its turn, whatever nodes that began with.
 abbrev pub TurnsOn : {S : Type 0} → (S → ℕ → Option Packet → S → Type 0) → Nodes → Nodes → S → S → ℕ → ℕ → Passes → Passes → Option Packet → Type 0

@@ -160,8 +160,8 @@ impl Passes {
 
     ghost use Rattle.clk_sched.specs.inside.Places.{edges_of, edges_in, input_at};
     ghost use Rattle.clk_sched.specs.inside.Pulling.{CanPull};
-    ghost use Rattle.clk_sched.specs.inside.Turning.{WasPulled};
-    ghost use Rattle.clk_sched.specs.inside.Winning.{IsWonAt, WinsFirst, MayAskOn, TurnsOn};
+    ghost use Rattle.clk_sched.specs.inside.Turning.{WasPulled, MayAskOn};
+    ghost use Rattle.clk_sched.specs.inside.Winning.{IsWonAt, WinsFirst, TurnsOn};
     ghost use Rattle.std.specs.Global.{Box};
     ghost use Rattle.clk_sched.specs.declared.session.state.State.TheVariants.{Stride};
     ghost use Rattle.clk_sched.specs.inside.Holds.OfClass.{FitsPasses, IsStride};
@@ -231,8 +231,8 @@ impl Passes {
     #[cycle(pull)]
     #[inline(never)]
     fn ask_on<Q: Ask>(nodes: &mut Nodes, q: &mut Q, node: u16, asked: usize) -> Option<Packet>
-        requires { MayAskOn Q.gives nodes.old q.old node asked }
-        ensures { (m : MayAskOn Q.gives nodes.old q.old node asked) → WasPulled Q.gives m.first nodes.new m.before q.new node result }
+        requires { (held : Box Passes) × MayAskOn Q.gives nodes.old q.old node (Stride held) (inputs_in held.value.row.items) asked }
+        ensures { (held : Box Passes) (m : MayAskOn Q.gives nodes.old q.old node (Stride held) (inputs_in held.value.row.items) asked) → WasPulled Q.gives m.first nodes.new m.before q.new node result }
     {
         let State::Stride(mut passes) = nodes.take(node) else {
             unreachable!()

@@ -1,6 +1,4 @@
-use Rattle.std.proofs.lemmas.Bool.Decides.{nat_tests}
-use Rattle.std.proofs.lemmas.Grind.{common_steps, elements}
-use Rattle.std.proofs.Common.{IfSome, slice_get, ◌≡◌, ℕ, ◌+◌, ◌-◌, ◌<◌, ◌≤◌, true, List, [], ◌∷◌, length, take, drop, Option, Some, None, IsSome, refl, sym, ap, ◌∙◌, subst, arith, rules}
+use Rattle.std.proofs.Common.{IfSome, slice_get, ◌≡◌, ℕ, ◌+◌, ◌-◌, ◌<◌, ◌≤◌, true, List, [], ◌∷◌, length, vec_len, get_or, take, drop, Option, Some, None, IsSome, refl, sym, ap, ◌∙◌, subst, arith, rules}
 use Rattle.std.specs.Global.{Box}
 use Rattle.std.specs.List.{AllByRecursion, range_with_len}
 use Rattle.std.proofs.lemmas.List.{length-drop, length-map}
@@ -12,7 +10,7 @@ use Rattle.clk_sched.specs.declared.session.inputs.Inputs.{Inputs}
 use Rattle.clk_sched.specs.declared.session.nodes.Nodes.{Nodes}
 use Rattle.clk_sched.specs.declared.session.inputs.Input.TheVariants.{Node}
 use Rattle.clk_sched.specs.declared.session.state.State.TheVariants.{RoundRobin, Drr, Stride}
-use Rattle.clk_sched.specs.inside.Places.{edges_in, input_at}
+use Rattle.clk_sched.specs.inside.Places.{edges_of, edges_in, input_at}
 use Rattle.clk_sched.specs.inside.Pulling.{CanPull}
 use Rattle.clk_sched.specs.inside.Ranks.{Ranked, AreInOrder, inputs_in}
 use Rattle.clk_sched.proofs.Lists.Ranges.{range-front}
@@ -20,17 +18,23 @@ use Rattle.clk_sched.proofs.Nodes.Asking.{IsAsking, asking-first, asked-vain, an
 use Rattle.clk_sched.proofs.Nodes.Asked.{entry, read-input, input-is, child-after, keeps-child, queue-visited, asks-queue, asks-child}
 use Rattle.clk_sched.proofs.Classes.RankLemmas.{after-place, inputs-after, in_order-after}
 use Rattle.clk_sched.proofs.Nodes.Idle.{rest-can, asking-past, turn-can, turn-past}
-use Rattle.clk_sched.proofs.Nodes.Placed.{can-turn, kept-there, passes-same, pulled-back, pulled-put, pulled-still, some-same, state-there}
+use Rattle.clk_sched.proofs.Nodes.Placed.{can-turn, kept-there, passes-same, pulled-back, some-same, state-there}
 use Rattle.clk_sched.proofs.Turns.TurnPrio.{prio-asks, prio-pulled}
-use Rattle.clk_sched.proofs.Turns.TurnRoundRobin.{begins, may-first, may-second, had-first, had-second, had-none}
+use Rattle.clk_sched.proofs.Turns.TurnRoundRobin.{Begins, begins}
+use Rattle.clk_sched.proofs.Turns.RoundRobinAsks as round
+use Rattle.clk_sched.proofs.Turns.RoundRobinAsks.{round-there, on-begins, on-may, on-first, on-second-may, on-second, on-neither, on-same, on-found}
+use Rattle.clk_sched.proofs.Nodes.First.{on-none, on-vain}
+use Rattle.clk_sched.proofs.Nodes.Ordered.{item-there}
+use Rattle.std.proofs.lemmas.Option.{get_or_from_slice_get}
+use Rattle.clk_sched.specs.declared.session.round_robin.Beginning.{Beginning}
 use Rattle.clk_sched.proofs.Nodes.Logged.{queue-answers, asked-logged}
 use Rattle.clk_sched.proofs.Turns.LooksDrr.{looks-at-asked}
 use Rattle.clk_sched.proofs.Turns.TurnDrr.{looks-below, making-first, making-can, making-next, making-passed, making-all, had-ended}
 use Rattle.clk_sched.proofs.Turns.TurnStride.{stride-in_order}
-use Rattle.clk_sched.proofs.Turns.StrideAsks.{left-after, left-order, turned-won, turned-lost, out-may, out-there, out-pulled, stride-there, first-none, first-may, first-some, first-order, first-vain, first-won}
+use Rattle.clk_sched.proofs.Turns.StrideAsks.{left-after, left-order, turned-won, turned-lost, out-may, out-there, out-pulled, stride-there, first-may, first-some, first-order, first-won}
 use Rattle.clk_sched.proofs.Turns.ShaperRow.{below-refused, below-answered, whole-answered, answers-keep, goes-may, goes-room, goes-edges, goes-order, goes-inputs}
 use Rattle.clk_sched.specs.inside.Tokens.{GoesDown}
-use Rattle.clk_sched.specs.inside.Turning.{HadTurn, HasAsked, HasAskedAll, WasPulled}
+use Rattle.clk_sched.specs.inside.Turning.{HasAsked, HasAskedAll, WasPulled}
 use Rattle.clk_sched.specs.inside.Looking.{IsHead}
 use Rattle.clk_sched.proofs.Nodes.InOrder.{packet_of}
 use Rattle.clk_sched.proofs.session.+pull.Goals as goal
@@ -300,58 +304,214 @@ drr::Deficits::turn-returns g t c =
     let all : c.loop-looks.looks ≡ length d.row.items = let f = c.loop-looks-test.false in let m = c.loop-looks.invariant.1 in omega (arith, f, m) in
     had-ended g.Q.Ask.gives a c.loop-looks.nodes c.args.q.now c.loop-looks.q x d c.loop-looks.self None c.requires.can_pull c.requires.fits (making-all g.Q.Ask.gives a c.loop-looks.nodes c.args.q.now c.loop-looks.q x d c.loop-looks.self c.loop-looks.looks c.loop-looks.invariant.0 all)
 
-pub round_robin::Beginning::pull-ask_in_turn-requires : goal.round_robin::Beginning::pull-ask_in_turn-requires
-round_robin::Beginning::pull-ask_in_turn-requires g t c =
-    let b = c.of-beginning.result in
-    let h = begins c.args.nodes.now c.args.node c.len-inputs.result b c.index.result.now c.requires.can_pull c.index.ensures c.len-inputs.ensures c.of-beginning.ensures in
-    let may = may-first c.args.nodes.now c.args.node c.len-inputs.result b.input h c.requires.can_pull in
-    λ κs le. (omega arith, (search, (may.0, (may.1, may.2))))
+pub round_robin::Beginning::pull-ask_first-requires : goal.round_robin::Beginning::pull-ask_first-requires
+round_robin::Beginning::pull-ask_first-requires g t c =
+    λ κs le. (omega arith, (search, (c.requires.can_pull, subst (λ o. IfSome o (λ input. slice_get c.args.nodes.now.states.items c.args.node ≡ Some (RoundRobin (record { input = input })))) c.in-Some.is c.first_input.ensures)))
 
-pub round_robin::Beginning::pull-overflow_sub-inputs : goal.round_robin::Beginning::pull-overflow_sub-inputs
-round_robin::Beginning::pull-overflow_sub-inputs g t c =
-    let b = c.of-beginning.result in
-    let low = (begins c.args.nodes.now c.args.node c.len-inputs.result b c.index.result.now c.requires.can_pull c.index.ensures c.len-inputs.ensures c.of-beginning.ensures).low in
-    omega (arith, low)
-
-pub round_robin::Beginning::pull-overflow_add-first : goal.round_robin::Beginning::pull-overflow_add-first
-round_robin::Beginning::pull-overflow_add-first g t c = grind (arith, common_steps, elements, nat_tests, begins)
-
-pub round_robin::Beginning::pull-overflow_add-input : goal.round_robin::Beginning::pull-overflow_add-input
-round_robin::Beginning::pull-overflow_add-input g t c = grind (arith, common_steps, elements, nat_tests, begins)
-
-pub round_robin::Beginning::pull-returns-in-Some : goal.round_robin::Beginning::pull-returns-in-Some
-round_robin::Beginning::pull-returns-in-Some g t c =
-    let b = c.of-beginning.result in
-    let h = begins c.args.nodes.now c.args.node c.len-inputs.result b c.index.result.now c.requires.can_pull c.index.ensures c.len-inputs.ensures c.of-beginning.ensures in
-    pulled-put g.Q.Ask.gives c.args.nodes.now c.ask_in_turn.new.self c.put.new.self c.args.q.now c.ask_in_turn.new.q c.args.node _ (RoundRobin b) (RoundRobin (record { input = c.input_after-input.result })) (Some c.in-Some.packet) c.of-beginning.ensures c.requires.can_pull
-    (subst (λ next. HadTurn g.Q.Ask.gives c.args.nodes.now c.ask_in_turn.new.self c.args.q.now c.ask_in_turn.new.q c.args.node (RoundRobin b) (RoundRobin (record { input = next })) (Some c.in-Some.packet)) (sym c.input_after-input.ensures)
-    (had-first g.Q.Ask.gives c.args.nodes.now c.ask_in_turn.new.self c.args.q.now c.ask_in_turn.new.q c.args.node c.len-inputs.result b.input c.in-Some.place c.in-Some.packet c.ask_in_turn.result h c.requires.can_pull c.in-Some.is c.ask_in_turn.ensures.place c.ask_in_turn.ensures.asked))
-    c.put.ensures
-
-pub round_robin::Beginning::pull-ask_in_turn-requires-2 : goal.round_robin::Beginning::pull-ask_in_turn-requires-2
-round_robin::Beginning::pull-ask_in_turn-requires-2 g t c =
-    let b = c.of-beginning.result in
-    let h = begins c.args.nodes.now c.args.node c.len-inputs.result b c.index.result.now c.requires.can_pull c.index.ensures c.len-inputs.ensures c.of-beginning.ensures in
-    let kept = c.ask_in_turn.ensures.asked.keeps in
-    let may = may-second c.args.nodes.now c.ask_in_turn.new.self c.args.node c.len-inputs.result b.input h c.requires.can_pull kept in
-    λ κs le. (omega arith, (search, (may.0, (may.1, may.2))))
-
-pub round_robin::Beginning::pull-returns-in-Some-ask_in_turn : goal.round_robin::Beginning::pull-returns-in-Some-ask_in_turn
-round_robin::Beginning::pull-returns-in-Some-ask_in_turn g t c =
-    let b = c.of-beginning.result in
-    let h = begins c.args.nodes.now c.args.node c.len-inputs.result b c.index.result.now c.requires.can_pull c.index.ensures c.len-inputs.ensures c.of-beginning.ensures in
-    pulled-put g.Q.Ask.gives c.args.nodes.now c.ask_in_turn-2.new.self c.put-in-Some-ask_in_turn.new.self c.args.q.now c.ask_in_turn-2.new.q c.args.node _ (RoundRobin b) (RoundRobin (record { input = c.in-Some-ask_in_turn.place + 1 })) (Some c.in-Some-ask_in_turn.packet) c.of-beginning.ensures c.requires.can_pull
-    (had-second g.Q.Ask.gives c.args.nodes.now c.ask_in_turn.new.self c.ask_in_turn-2.new.self c.args.q.now c.ask_in_turn.new.q c.ask_in_turn-2.new.q c.args.node c.len-inputs.result b.input c.in-Some-ask_in_turn.place c.in-Some-ask_in_turn.packet c.ask_in_turn.result c.ask_in_turn-2.result h c.requires.can_pull
-    c.in_default.is c.ask_in_turn.ensures.asked c.in-Some-ask_in_turn.is c.ask_in_turn-2.ensures.place c.ask_in_turn-2.ensures.asked)
-    c.put-in-Some-ask_in_turn.ensures
+pub round_robin::Beginning::pull-ask_on-requires : goal.round_robin::Beginning::pull-ask_on-requires
+round_robin::Beginning::pull-ask_on-requires g t c =
+    let a = c.args.nodes.now in
+    let x = c.args.node in
+    let held = round-there a.states.items x (state-there a x _ c.requires.can_pull) c.requires.holds in
+    λ κs le. (omega arith, (search, (held.0, on-none g.Q.Ask.gives a c.args.q.now x (RoundRobin held.0) (held.0.input ∷ []) c.requires.can_pull held.1)))
 
 pub round_robin::Beginning::pull-returns-in-None : goal.round_robin::Beginning::pull-returns-in-None
 round_robin::Beginning::pull-returns-in-None g t c =
+    let a = c.args.nodes.now in
+    let x = c.args.node in
+    let held = round-there a.states.items x (state-there a x _ c.requires.can_pull) c.requires.holds in
+    c.ask_on.ensures held.0 (on-none g.Q.Ask.gives a c.args.q.now x (RoundRobin held.0) (held.0.input ∷ []) c.requires.can_pull held.1)
+
+-- what stands at a node, in words of the inputs it has
+round-begins : (a : Nodes) (x : ℕ) (b : Beginning) → CanPull a x (edges_of a.inputs.items x) → slice_get a.states.items x ≡ Some (RoundRobin b) → (p : Inputs) × Begins a.inputs.items x (vec_len p.each) b.input × (slice_get a.inputs.items x ≡ Some p)
+round-begins a x b can begun = let p = item-there a.inputs.items x can.there in (p.0, begins a x (vec_len p.0.each) b p.0 can (sym (get_or_from_slice_get a.inputs.items x p.0 p.0 p.1)) refl begun, p.1)
+
+pub round_robin::Beginning::ask_first-look-requires : goal.round_robin::Beginning::ask_first-look-requires
+round_robin::Beginning::ask_first-look-requires g t c =
+    let a = c.args.nodes.now in
+    let x = c.args.node in
+    let b : Beginning = record { input = c.args.input } in
+    let begins = round-begins a x b c.requires.can_pull c.requires.holds in
+    let may = round.first-may g.Q.Ask.gives a c.args.q.now x (vec_len begins.0.each) b c.requires.can_pull c.requires.holds begins.1 in
+    λ κs le. (omega arith, (search, (may.0, may.1)))
+
+pub round_robin::Beginning::ask_first-ask_on-requires : goal.round_robin::Beginning::ask_first-ask_on-requires
+round_robin::Beginning::ask_first-ask_on-requires g t c =
+    let a = c.args.nodes.now in
+    let b : Beginning = record { input = c.args.input } in
+    let same = ap length c.look.ensures.keeps.inputs in
+    λ κs le. (
+      omega (arith, same),
+      (
+        search,
+        (b, on-vain g.Q.Ask.gives a c.look.new.self c.args.q.now c.look.new.q c.args.node c.args.input (RoundRobin b) (c.args.input ∷ []) c.look.result c.requires.can_pull c.requires.holds refl c.in_default.is c.look.ensures),
+      ),
+    )
+
+pub round_robin::Beginning::ask_first-returns-in_default : goal.round_robin::Beginning::ask_first-returns-in_default
+round_robin::Beginning::ask_first-returns-in_default g t c =
+    let a = c.args.nodes.now in
+    let b : Beginning = record { input = c.args.input } in
+    c.ask_on.ensures b (on-vain g.Q.Ask.gives a c.look.new.self c.args.q.now c.look.new.q c.args.node c.args.input (RoundRobin b) (c.args.input ∷ []) c.look.result c.requires.can_pull c.requires.holds refl c.in_default.is c.look.ensures)
+
+pub round_robin::Beginning::ask_first-input_after-requires : goal.round_robin::Beginning::ask_first-input_after-requires
+round_robin::Beginning::ask_first-input_after-requires g t c =
+    let a = c.args.nodes.now in
+    let x = c.args.node in
+    let b : Beginning = record { input = c.args.input } in
+    let p = c.index.result.now in
+    let h = begins a x c.len-inputs.result b p c.requires.can_pull (subst (λ l. p ≡ get_or l x p) c.look.ensures.keeps.inputs c.index.ensures) c.len-inputs.ensures c.requires.holds in
+    h.low
+
+pub round_robin::Beginning::ask_first-returns : goal.round_robin::Beginning::ask_first-returns
+round_robin::Beginning::ask_first-returns g t c =
+    let a = c.args.nodes.now in
+    let x = c.args.node in
+    let b : Beginning = record { input = c.args.input } in
+    let p = c.index.result.now in
+    let h = begins a x c.len-inputs.result b p c.requires.can_pull (subst (λ l. p ≡ get_or l x p) c.look.ensures.keeps.inputs c.index.ensures) c.len-inputs.ensures c.requires.holds in
+    round.first-gave g.Q.Ask.gives a c.args.q.now x c.len-inputs.result b c.requires.can_pull c.requires.holds h c.look.new.self c.begin_at.new.nodes c.look.new.q c.input_after.result c.look.result c.in-Some.packet c.in-Some.is c.look.ensures c.input_after.ensures c.begin_at.ensures
+
+pub round_robin::Beginning::ask_on-overflow_add-first : goal.round_robin::Beginning::ask_on-overflow_add-first
+round_robin::Beginning::ask_on-overflow_add-first g t c =
+    let n = c.args.nodes.now in
     let b = c.of-beginning.result in
-    let h = begins c.args.nodes.now c.args.node c.len-inputs.result b c.index.result.now c.requires.can_pull c.index.ensures c.len-inputs.ensures c.of-beginning.ensures in
-    pulled-still g.Q.Ask.gives c.args.nodes.now c.ask_in_turn-2.new.self c.args.q.now c.ask_in_turn-2.new.q c.args.node (RoundRobin b) None c.of-beginning.ensures
-    (had-none g.Q.Ask.gives c.args.nodes.now c.ask_in_turn.new.self c.ask_in_turn-2.new.self c.args.q.now c.ask_in_turn.new.q c.ask_in_turn-2.new.q c.args.node c.len-inputs.result b.input c.ask_in_turn.result c.ask_in_turn-2.result h c.requires.can_pull
-    c.in_default.is c.ask_in_turn.ensures.asked c.in-None.is c.ask_in_turn-2.ensures.asked)
+    let p = c.index.result.now in
+    let count = c.len-inputs.result in
+    let all = c.len-inputs.ensures in
+    let place = c.index.ensures in
+    let m = on-found g.Q.Ask.gives n c.args.q.now c.args.node c.args.asked b c.of-beginning.ensures c.requires in
+    let h = on-begins g.Q.Ask.gives n c.args.q.now c.args.node c.args.asked b m count p place all in
+    let low = h.low in
+    let few = h.few in
+    let most = m.within in
+    omega (arith, low, few, most)
+
+pub round_robin::Beginning::ask_on-overflow_sub-inputs : goal.round_robin::Beginning::ask_on-overflow_sub-inputs
+round_robin::Beginning::ask_on-overflow_sub-inputs g t c =
+    let n = c.args.nodes.now in
+    let b = c.of-beginning.result in
+    let p = c.index.result.now in
+    let count = c.len-inputs.result in
+    let all = c.len-inputs.ensures in
+    let place = c.index.ensures in
+    let m = on-found g.Q.Ask.gives n c.args.q.now c.args.node c.args.asked b c.of-beginning.ensures c.requires in
+    let h = on-begins g.Q.Ask.gives n c.args.q.now c.args.node c.args.asked b m count p place all in
+    let low = h.low in
+    let few = h.few in
+    let most = m.within in
+    omega (arith, low, few, most)
+
+pub round_robin::Beginning::ask_on-overflow_sub-inputs-2 : goal.round_robin::Beginning::ask_on-overflow_sub-inputs-2
+round_robin::Beginning::ask_on-overflow_sub-inputs-2 g t c =
+    let n = c.args.nodes.now in
+    let b = c.of-beginning.result in
+    let p = c.index.result.now in
+    let count = c.len-inputs.result in
+    let all = c.len-inputs.ensures in
+    let place = c.index.ensures in
+    let m = on-found g.Q.Ask.gives n c.args.q.now c.args.node c.args.asked b c.of-beginning.ensures c.requires in
+    let h = on-begins g.Q.Ask.gives n c.args.q.now c.args.node c.args.asked b m count p place all in
+    let low = h.low in
+    let few = h.few in
+    let most = m.within in
+    omega (arith, low, few, most)
+
+pub round_robin::Beginning::ask_on-overflow_add-first-in-Some : goal.round_robin::Beginning::ask_on-overflow_add-first-in-Some
+round_robin::Beginning::ask_on-overflow_add-first-in-Some g t c =
+    let n = c.args.nodes.now in
+    let b = c.of-beginning.result in
+    let p = c.index.result.now in
+    let count = c.len-inputs.result in
+    let all = c.len-inputs.ensures in
+    let place = c.index.ensures in
+    let m = on-found g.Q.Ask.gives n c.args.q.now c.args.node c.args.asked b c.of-beginning.ensures c.requires in
+    let h = on-begins g.Q.Ask.gives n c.args.q.now c.args.node c.args.asked b m count p place all in
+    let low = h.low in
+    let few = h.few in
+    let most = m.within in
+    let within = subst (λ k. IfSome k (λ g. g.0 < count - b.input - c.args.asked)) c.in-Some.is c.ask_in_turn.ensures.place in
+    omega (arith, low, few, most, within)
+
+pub round_robin::Beginning::ask_on-overflow_add-first-in-Some-2 : goal.round_robin::Beginning::ask_on-overflow_add-first-in-Some-2
+round_robin::Beginning::ask_on-overflow_add-first-in-Some-2 g t c =
+    let n = c.args.nodes.now in
+    let b = c.of-beginning.result in
+    let p = c.index.result.now in
+    let count = c.len-inputs.result in
+    let all = c.len-inputs.ensures in
+    let place = c.index.ensures in
+    let m = on-found g.Q.Ask.gives n c.args.q.now c.args.node c.args.asked b c.of-beginning.ensures c.requires in
+    let h = on-begins g.Q.Ask.gives n c.args.q.now c.args.node c.args.asked b m count p place all in
+    let low = h.low in
+    let few = h.few in
+    let most = m.within in
+    let within = subst (λ k. IfSome k (λ g. g.0 < count - b.input - c.args.asked)) c.in-Some.is c.ask_in_turn.ensures.place in
+    omega (arith, low, few, most, within)
+
+pub round_robin::Beginning::ask_on-ask_in_turn-requires : goal.round_robin::Beginning::ask_on-ask_in_turn-requires
+round_robin::Beginning::ask_on-ask_in_turn-requires g t c =
+    let n = c.args.nodes.now in
+    let b = c.of-beginning.result in
+    let p = c.index.result.now in
+    let count = c.len-inputs.result in
+    let all = c.len-inputs.ensures in
+    let place = c.index.ensures in
+    let m = on-found g.Q.Ask.gives n c.args.q.now c.args.node c.args.asked b c.of-beginning.ensures c.requires in
+    let may = on-may g.Q.Ask.gives n c.args.q.now c.args.node c.args.asked b m count p place all in
+    λ κs le. (omega arith, (search, (may.0, (may.1, may.2))))
+
+pub round_robin::Beginning::ask_on-returns-in-Some : goal.round_robin::Beginning::ask_on-returns-in-Some
+round_robin::Beginning::ask_on-returns-in-Some g t c d k =
+    let n = c.args.nodes.now in
+    let b = c.of-beginning.result in
+    let p = c.index.result.now in
+    let count = c.len-inputs.result in
+    let all = c.len-inputs.ensures in
+    let place = c.index.ensures in
+    on-same g.Q.Ask.gives n c.begin_at.new.nodes c.args.q.now c.ask_in_turn.new.q c.args.node c.args.asked b d (Some c.in-Some.packet) c.of-beginning.ensures
+    (λ m.
+    on-first g.Q.Ask.gives n c.args.q.now c.args.node c.args.asked b m count p place all c.ask_in_turn.new.self c.begin_at.new.nodes c.ask_in_turn.new.q c.in-Some.place c.input_after-input.result c.in-Some.packet c.ask_in_turn.result c.in-Some.is c.ask_in_turn.ensures.place
+    c.ask_in_turn.ensures.asked c.input_after-input.ensures c.begin_at.ensures) k
+
+pub round_robin::Beginning::ask_on-ask_in_turn-requires-2 : goal.round_robin::Beginning::ask_on-ask_in_turn-requires-2
+round_robin::Beginning::ask_on-ask_in_turn-requires-2 g t c =
+    let n = c.args.nodes.now in
+    let b = c.of-beginning.result in
+    let p = c.index.result.now in
+    let count = c.len-inputs.result in
+    let all = c.len-inputs.ensures in
+    let place = c.index.ensures in
+    let m = on-found g.Q.Ask.gives n c.args.q.now c.args.node c.args.asked b c.of-beginning.ensures c.requires in
+    let may = on-second-may g.Q.Ask.gives n c.args.q.now c.args.node c.args.asked b m count p place all c.ask_in_turn.new.self c.ask_in_turn.new.q c.ask_in_turn.result c.ask_in_turn.ensures.asked in
+    let same = ap length c.ask_in_turn.ensures.asked.keeps.inputs in
+    λ κs le. (omega (arith, same), (search, (may.0, (may.1, may.2))))
+
+pub round_robin::Beginning::ask_on-returns-in-Some-ask_in_turn : goal.round_robin::Beginning::ask_on-returns-in-Some-ask_in_turn
+round_robin::Beginning::ask_on-returns-in-Some-ask_in_turn g t c d k =
+    let n = c.args.nodes.now in
+    let b = c.of-beginning.result in
+    let p = c.index.result.now in
+    let count = c.len-inputs.result in
+    let all = c.len-inputs.ensures in
+    let place = c.index.ensures in
+    on-same g.Q.Ask.gives n c.begin_at-in-Some-ask_in_turn.new.nodes c.args.q.now c.ask_in_turn-2.new.q c.args.node c.args.asked b d (Some c.in-Some-ask_in_turn.packet) c.of-beginning.ensures
+    (λ m.
+    on-second g.Q.Ask.gives n c.args.q.now c.args.node c.args.asked b m count p place all c.ask_in_turn.new.self c.ask_in_turn-2.new.self c.begin_at-in-Some-ask_in_turn.new.nodes c.ask_in_turn.new.q c.ask_in_turn-2.new.q c.in-Some-ask_in_turn.place c.in-Some-ask_in_turn.packet c.ask_in_turn.result c.ask_in_turn-2.result
+    c.in_default.is c.ask_in_turn.ensures.asked c.in-Some-ask_in_turn.is c.ask_in_turn-2.ensures.place c.ask_in_turn-2.ensures.asked c.begin_at-in-Some-ask_in_turn.ensures) k
+
+pub round_robin::Beginning::ask_on-returns-in-None : goal.round_robin::Beginning::ask_on-returns-in-None
+round_robin::Beginning::ask_on-returns-in-None g t c d k =
+    let n = c.args.nodes.now in
+    let b = c.of-beginning.result in
+    let p = c.index.result.now in
+    let count = c.len-inputs.result in
+    let all = c.len-inputs.ensures in
+    let place = c.index.ensures in
+    on-same g.Q.Ask.gives n c.ask_in_turn-2.new.self c.args.q.now c.ask_in_turn-2.new.q c.args.node c.args.asked b d None c.of-beginning.ensures
+    (λ m.
+    on-neither g.Q.Ask.gives n c.args.q.now c.args.node c.args.asked b m count p place all c.ask_in_turn.new.self c.ask_in_turn-2.new.self c.ask_in_turn.new.q c.ask_in_turn-2.new.q c.ask_in_turn.result c.ask_in_turn-2.result c.in_default.is c.ask_in_turn.ensures.asked c.in-None.is
+    c.ask_in_turn-2.ensures.asked) k
 
 pub stride::Passes::turn-ask_in_order-requires : goal.stride::Passes::turn-ask_in_order-requires
 stride::Passes::turn-ask_in_order-requires g t c =
@@ -388,7 +548,7 @@ stride::Passes::turn-returns-in-None g t c =
 pub stride::Passes::ask_on-turn-got-requires : goal.stride::Passes::ask_on-turn-got-requires
 stride::Passes::ask_on-turn-got-requires g t c =
     let passes = c.in-Stride.passes in
-    let may = out-may g.Q.Ask.gives c.args.nodes.now c.take.new.self c.args.q.now c.args.node c.args.asked passes c.deref_mut.result.now (record { may = c.requires; state = c.take.ensures.state ∙ ap Some c.in-Stride.is; out = c.take.ensures.taken; is = c.deref_mut.ensures.value }) in
+    let may = out-may g.Q.Ask.gives c.args.nodes.now c.take.new.self c.args.q.now c.args.node c.args.asked passes c.deref_mut.result.now (record { held = c.requires.0; may = c.requires.1; state = c.take.ensures.state ∙ ap Some c.in-Stride.is; out = c.take.ensures.taken; is = c.deref_mut.ensures.value }) in
     let same = ap (λ (n : Nodes). length n.inputs.items) c.take.ensures.taken in
     λ κs le. (omega (arith, same), (search, (may.can, (may.there, (may.fits.0, may.fits.1)))))
 
@@ -396,13 +556,13 @@ pub stride::Passes::ask_on-put-requires : goal.stride::Passes::ask_on-put-requir
 stride::Passes::ask_on-put-requires g t c =
     let passes = c.in-Stride.passes in
     out-there g.Q.Ask.gives c.args.nodes.now c.take.new.self c.turn-got.new.nodes c.args.q.now c.turn-got.new.q c.args.node c.args.asked passes (boxed passes c.turn-got.new.self) c.deref_mut.result.now c.turn-got.result
-    (record { may = c.requires; state = c.take.ensures.state ∙ ap Some c.in-Stride.is; out = c.take.ensures.taken; is = c.deref_mut.ensures.value }) c.turn-got.ensures
+    (record { held = c.requires.0; may = c.requires.1; state = c.take.ensures.state ∙ ap Some c.in-Stride.is; out = c.take.ensures.taken; is = c.deref_mut.ensures.value }) c.turn-got.ensures
 
 pub stride::Passes::ask_on-returns : goal.stride::Passes::ask_on-returns
-stride::Passes::ask_on-returns g t c m =
+stride::Passes::ask_on-returns g t c held m =
     let passes = c.in-Stride.passes in
     out-pulled g.Q.Ask.gives c.args.nodes.now c.take.new.self c.turn-got.new.nodes c.put.new.self c.args.q.now c.turn-got.new.q c.args.node c.args.asked passes _ c.deref_mut.result.now c.turn-got.result
-    (record { may = m; state = c.take.ensures.state ∙ ap Some c.in-Stride.is; out = c.take.ensures.taken; is = c.deref_mut.ensures.value }) c.turn-got.ensures c.put.ensures
+    (record { held = held; may = m; state = c.take.ensures.state ∙ ap Some c.in-Stride.is; out = c.take.ensures.taken; is = c.deref_mut.ensures.value }) c.turn-got.ensures c.put.ensures
 
 -- the input that is asked first
 first-is : (o : Option ℕ) (i : ℕ) (order : List ℕ) → o ≡ Some i → IfSome o (λ input. take 1 order ≡ input ∷ []) → take 1 order ≡ i ∷ []
@@ -426,14 +586,14 @@ stride::Passes::pull-ask_on-requires g t c =
     let a = c.args.nodes.now in
     let x = c.args.node in
     let held = stride-there a.states.items x (state-there a x _ c.requires.can_pull) c.requires.holds in
-    λ κs le. (omega arith, (search, first-none g.Q.Ask.gives a c.args.q.now x held.0 c.requires.can_pull held.1))
+    λ κs le. (omega arith, (search, (held.0, on-none g.Q.Ask.gives a c.args.q.now x (Stride held.0) (inputs_in held.0.value.row.items) c.requires.can_pull held.1)))
 
 pub stride::Passes::pull-returns-in-None : goal.stride::Passes::pull-returns-in-None
 stride::Passes::pull-returns-in-None g t c =
     let a = c.args.nodes.now in
     let x = c.args.node in
     let held = stride-there a.states.items x (state-there a x _ c.requires.can_pull) c.requires.holds in
-    c.ask_on.ensures (first-none g.Q.Ask.gives a c.args.q.now x held.0 c.requires.can_pull held.1)
+    c.ask_on.ensures held.0 (on-none g.Q.Ask.gives a c.args.q.now x (Stride held.0) (inputs_in held.0.value.row.items) c.requires.can_pull held.1)
 
 pub stride::Passes::ask_first-look-requires : goal.stride::Passes::ask_first-look-requires
 stride::Passes::ask_first-look-requires g t c =
@@ -449,14 +609,14 @@ stride::Passes::ask_first-ask_on-requires g t c =
     let x = c.args.node in
     let held = stride-there a.states.items x (state-there a x _ c.requires.can_pull) c.requires.holds in
     let same = ap length c.look.ensures.keeps.inputs in
-    λ κs le. (omega (arith, same), (search, first-vain g.Q.Ask.gives a c.args.q.now x held.0 c.requires.can_pull held.1 c.look.new.self c.look.new.q c.args.input c.look.result (c.requires.first held.0 held.1) c.in_default.is c.look.ensures))
+    λ κs le. (omega (arith, same), (search, (held.0, on-vain g.Q.Ask.gives a c.look.new.self c.args.q.now c.look.new.q x c.args.input (Stride held.0) (inputs_in held.0.value.row.items) c.look.result c.requires.can_pull held.1 (c.requires.first held.0 held.1) c.in_default.is c.look.ensures)))
 
 pub stride::Passes::ask_first-returns-in_default : goal.stride::Passes::ask_first-returns-in_default
 stride::Passes::ask_first-returns-in_default g t c =
     let a = c.args.nodes.now in
     let x = c.args.node in
     let held = stride-there a.states.items x (state-there a x _ c.requires.can_pull) c.requires.holds in
-    c.ask_on.ensures (first-vain g.Q.Ask.gives a c.args.q.now x held.0 c.requires.can_pull held.1 c.look.new.self c.look.new.q c.args.input c.look.result (c.requires.first held.0 held.1) c.in_default.is c.look.ensures)
+    c.ask_on.ensures held.0 (on-vain g.Q.Ask.gives a c.look.new.self c.args.q.now c.look.new.q x c.args.input (Stride held.0) (inputs_in held.0.value.row.items) c.look.result c.requires.can_pull held.1 (c.requires.first held.0 held.1) c.in_default.is c.look.ensures)
 
 pub stride::Passes::ask_first-win_first_at-requires-clause-order : goal.stride::Passes::ask_first-win_first_at-requires-clause-order
 stride::Passes::ask_first-win_first_at-requires-clause-order g t c later here =

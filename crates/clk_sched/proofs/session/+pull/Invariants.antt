@@ -37,7 +37,13 @@ abbrev pub decreases-prio::pull_prio : goal.decreases-prio::pull_prio
 decreases-prio::pull_prio g l = rank (length l.nodes.now.inputs.items) l.node 5
 
 abbrev pub decreases-round_robin::Beginning::pull : goal.decreases-round_robin::Beginning::pull
-decreases-round_robin::Beginning::pull g l = rank (length l.nodes.now.inputs.items) l.node 5
+decreases-round_robin::Beginning::pull g l = rank (length l.nodes.now.inputs.items) l.node 6
+
+abbrev pub decreases-round_robin::Beginning::ask_first : goal.decreases-round_robin::Beginning::ask_first
+decreases-round_robin::Beginning::ask_first g l = rank (length l.nodes.now.inputs.items) l.node 5
+
+abbrev pub decreases-round_robin::Beginning::ask_on : goal.decreases-round_robin::Beginning::ask_on
+decreases-round_robin::Beginning::ask_on g l = rank (length l.nodes.now.inputs.items) l.node 4
 
 abbrev pub decreases-drr::Deficits::pull : goal.decreases-drr::Deficits::pull
 decreases-drr::Deficits::pull g l = rank (length l.nodes.now.inputs.items) l.node 5
