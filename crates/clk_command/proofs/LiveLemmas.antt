@@ -1,5 +1,5 @@
 -- What a run through inlets writes, and what its record means.
-use Rattle.std.proofs.Common.{◌≡◌, ◌++◌, ℕ, Bool, true, false, List, [], append-nil, append_assoc, Option, Some, Result, Ok, Err, IfOk, IfSome, OnOk, refl, sym, ap, subst, ◌∙◌, inl, inr}
+use Rattle.std.proofs.Common.{◌≡◌, ◌++◌, ℕ, Bool, true, false, List, [], append-nil, append_assoc, Option, Some, Result, Ok, Err, IfSome, OnOk, refl, sym, ap, subst, ◌∙◌, inl, inr}
 use Rattle.std.specs.Io.KnownBytes.{Appends}
 use Rattle.std.specs.List.{flat_map}
 use Rattle.std.proofs.KnownBytes.{Appends-nil, Appends-trans, Keeps-refl}
@@ -21,8 +21,7 @@ use Rattle.clk_live_run.specs.Recorded.{IsRecorded, run_record}
 use Rattle.clk_live_run.specs.Run.{LiveRunOf}
 use Rattle.clk_command.specs.Running.{EndsIn, HasRecord, LiveWrites, Tells}
 use Rattle.clk_command.proofs.TaskLemmas.{front-later}
-use Rattle.clk_command.specs.Tasks.{AreTogether, IsPlanIn, LivesWithVisits, WroteBoth}
-use Rattle.clk_report.specs.VisitCsv.{visits_text}
+use Rattle.clk_command.specs.Tasks.{AreTogether, WroteBoth}
 use Rattle.clk_words.specs.declared.pace.Pace.{Pace}
 
 -- the record of what can happen over a plan, and of its closing, ends in the report of all
@@ -113,16 +112,6 @@ kept-writes plan pace known traces course failed start now empty sound records t
     let w = live-writes plan pace known traces course true failed (Some start) (Some now) records tells run in
     let whole : now ≡ w.0 = w.2.whole refl sound ∙ ap (λ l. l ++ w.0) empty in
     subst (λ (script : List ℕ). LiveWrites plan pace known true (ending_text course.setup (Some 0) course.events) script) (sym whole) w.1
-
--- a recorded run, and the visit file of its record
-pub lives-with-visits : (tree trace : Option (List ℕ)) (pace : Pace) (text script : List ℕ) (logs : List (List Visit)) (plan : List Planned)
-    → IsPlanIn tree plan → LiveWrites plan pace trace true text script → EndsIn plan script text logs → LivesWithVisits tree trace pace text script (visits_text logs)
-lives-with-visits tree trace pace text script logs plan is_plan writes ends = record { plan = plan; is_plan = is_plan; writes = writes; logs = logs; ends = ends; csv = refl }
-
--- what two facts of a success say together
-pub if-both : {T : Type 0} (result : Result T Fault) (P Q R : T → Type 0) → ((x : T) → P x → Q x → R x) → IfOk result P → IfOk result Q → IfOk result R
-if-both (Ok x) P Q R both p q = both x p q
-if-both (Err fault) P Q R both p q = tt
 
 -- the report was written, its record, and then the visits to the sink of the report as far as it took them
 pub follow-last : (Q : List ℕ → List ℕ → List ℕ → Type 0) (result : Result (Unit {0}) Fault) (old mid new script_old script_new : Option (List ℕ)) (before after : ℕ) (lines text visits : List ℕ)

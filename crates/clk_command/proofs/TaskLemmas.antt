@@ -149,11 +149,6 @@ pub out-alone : {T : Type 0} (result : Result T Fault) (follows : Bool) (P R : L
 out-alone (Ok x) follows P R Q is h = (h.0, goes-alone follows P Q h.0 is h.1, h.2)
 out-alone (Err fault) follows P R Q is h = tt
 
-pub out-followed : {T : Type 0} (result : Result T Fault) (follows : Bool) (P R : List ℕ → Type 0) (Q : List ℕ → List ℕ → Type 0) → follows ≡ true → OnOk result ((all : List ℕ) × AreTogether Q all × R all)
-    → OnOk result ((all : List ℕ) × GoesOut follows P Q all × R all)
-out-followed (Ok x) follows P R Q is h = (h.0, goes-followed follows P Q h.0 is h.1, h.2)
-out-followed (Err fault) follows P R Q is h = tt
-
 -- what is written with visits is written without them too
 pub writes-over : (tree input : Option (List ℕ)) (text visits : List ℕ) → WritesWithVisits tree input text visits → WritesOver tree input text
 writes-over tree input text visits w = record { plan = w.plan; is_plan = w.is_plan; means = of-weaker input _ _ (λ script means. (w.logs, means)) w.means }

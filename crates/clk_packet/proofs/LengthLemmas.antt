@@ -71,9 +71,6 @@ lengths_in-row : (table : List (List Length)) → lengths_in (table ++ [] ∷ []
 lengths_in-row [] = refl
 lengths_in-row (lengths ∷ more) = let e = lengths_in-row more in omega (arith, e)
 
-pub IsWider-none : (table : List (List Length)) → IsWider table table
-IsWider-none table = record { each = λ s. refl; total = refl }
-
 pub IsWider-row : (table mid : List (List Length)) → IsWider table mid → IsWider table (mid ++ [] ∷ [])
 IsWider-row table mid h = record { each = λ s. get_or-row mid s ∙ h.each s; total = lengths_in-row mid ∙ h.total }
 

@@ -38,9 +38,6 @@ pub record Leads (text : List ℕ) (number : ℕ) (rest : List ℕ) (len : ℕ) 
   pub value : digits_value_after 10 number (leading_digits rest) ≡ digits_value 10 (leading_digits text)
   pub count : len + length (leading_digits rest) ≡ length (leading_digits text)
 
-pub Leads-none : (text : List ℕ) → Leads text 0 text 0
-Leads-none text = record { value = refl; count = omega arith }
-
 -- one digit more
 Leads-digit : (text : List ℕ) (number byte : ℕ) (rest : List ℕ) (len : ℕ) → is_ascii_digit byte ≡ true → Leads text number (byte ∷ rest) len → Leads text (number * 10 + (byte - 48)) rest (len + 1)
 Leads-digit text number byte rest len e h =

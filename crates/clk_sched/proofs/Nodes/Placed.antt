@@ -10,8 +10,7 @@ use Rattle.clk_packet.specs.declared.packet.Packet.{Packet}
 use Rattle.clk_sched.specs.declared.visit.Visit.{Visit}
 use Rattle.clk_sched.specs.declared.session.inputs.Inputs.{Inputs}
 use Rattle.clk_sched.specs.declared.session.state.State.{State}
-use Rattle.clk_sched.specs.declared.session.state.State.TheVariants.{Prio, RoundRobin, Stride, Shaper}
-use Rattle.clk_sched.specs.declared.session.round_robin.Beginning.{Beginning}
+use Rattle.clk_sched.specs.declared.session.state.State.TheVariants.{Prio, Stride, Shaper}
 use Rattle.clk_sched.specs.declared.session.shaper.Bucket.{Bucket}
 use Rattle.clk_sched.specs.declared.session.stride.Passes.{Passes}
 use Rattle.clk_sched.specs.declared.session.nodes.Nodes.{Nodes}
@@ -110,15 +109,7 @@ bucket_or b s = b
 pub bucket-same : (b c : Bucket) → Shaper b ≡ Shaper c → b ≡ c
 bucket-same b c e = ap (bucket_or b) e
 
--- so is the beginning of a RoundRobinSched
-abbrev beginning_or : Beginning → State → Beginning
-beginning_or b (RoundRobin c) = c
-beginning_or b s = b
-
-pub beginning-same : (b c : Beginning) → RoundRobin b ≡ RoundRobin c → b ≡ c
-beginning-same b c e = ap (beginning_or b) e
-
--- and the passes of a StrideSched
+-- so are the passes of a StrideSched
 abbrev passes_or : Box Passes → State → Box Passes
 passes_or b (Stride c) = c
 passes_or b s = b

@@ -17,8 +17,16 @@ use Rattle.clk_sched.proofs.Nodes.Asking.{asking-first, asking-ready, asking-giv
 use Rattle.clk_sched.proofs.Nodes.First.{later, asked-on}
 use Rattle.clk_sched.proofs.Nodes.Idle.{turn-can}
 use Rattle.clk_sched.proofs.Nodes.Ordered.{item-there}
-use Rattle.clk_sched.proofs.Nodes.Placed.{beginning-same, pulled-put, pulled-still, some-same}
+use Rattle.clk_sched.proofs.Nodes.Placed.{pulled-put, pulled-still, some-same}
 use Rattle.clk_sched.proofs.Turns.TurnRoundRobin.{Begins, begins, MayAsk, may-first, may-second, had-first, had-second, had-none}
+
+-- the beginning of a RoundRobinSched is one thing
+abbrev beginning_or : Beginning → State → Beginning
+beginning_or b (RoundRobin c) = c
+beginning_or b s = b
+
+beginning-same : (b c : Beginning) → RoundRobin b ≡ RoundRobin c → b ≡ c
+beginning-same b c e = ap (beginning_or b) e
 
 -- a RoundRobinSched holds a beginning
 pub round-there : (states : List State) (x : ℕ) → x < length states → IfSome (slice_get states x) IsRoundRobin → (b : Beginning) × (slice_get states x ≡ Some (RoundRobin b))
