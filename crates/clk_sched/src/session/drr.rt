@@ -199,6 +199,8 @@ impl Deficits {
     {
         let inputs = self.row.len() as u16;
         let mut looks = 0;
+        // Whether the last look passed nothing. Then the next inputs may well be idle.
+        let mut vain = false;
         while looks < inputs {
             let head = self.head();
             match head {
@@ -207,15 +209,19 @@ impl Deficits {
                         return head;
                     }
                     looks += 1;
+                    vain = true;
                 }
                 None => {
-                    let (got, passed) = self.look_by_asking(nodes, q, node);
-                    if passed {
-                        return got;
-                    }
-                    looks += 1;
-                    if got.is_none() {
+                    if vain {
                         looks += self.pass_over_idle(nodes, q, node, inputs - looks);
+                        vain = false;
+                    } else {
+                        let (got, passed) = self.look_by_asking(nodes, q, node);
+                        if passed {
+                            return got;
+                        }
+                        looks += 1;
+                        vain = true;
                     }
                 }
             }

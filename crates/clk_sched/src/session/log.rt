@@ -188,23 +188,19 @@ impl Log {
         self.all.push(&visit);
     }
 
-    /// Adds the visits of inputs that gave nothing, for which there is room.
+    /// Adds the visits of inputs that gave nothing, which aren't kept: only contracts see them.
     #[inline]
-    pub fn push_idle(&mut self, idle: &IdleInputs)
+    pub fn pass_idle(&mut self, idle: &IdleInputs)
+        requires unkept { self.old.kind.keeps || (self.old.kind.packs || self.old.kind.latest) ≡ false }
         requires room { idle.now.count ≤ self.old.spare }
         requires within { idle.now.first + idle.now.count < 2 ^ 16 }
         ensures { self.new ≡ with_idle self.old idle.now }
     {
-        if self.keeps_any {
-            self.push_idle_kept(idle);
-        } else {
-            self.all.push_idle(idle);
-        }
+        self.all.push_idle(idle);
     }
 
-    // Adds the visits of inputs that gave nothing to what is kept. A call of its own, as `push_kept` is.
-    #[inline(never)]
-    fn push_idle_kept(&mut self, idle: &IdleInputs)
+    /// Adds the visits of inputs that gave nothing, for which there is room.
+    pub fn push_idle(&mut self, idle: &IdleInputs)
         requires room { idle.now.count ≤ self.old.spare }
         requires within { idle.now.first + idle.now.count < 2 ^ 16 }
         ensures { self.new ≡ with_idle self.old idle.now }

@@ -53,11 +53,17 @@ impl Nodes {
         requires can_pull { CanPull self.old node (edges_of self.old.inputs.items node) }
         ensures { WasPulled Q.gives self.old self.new q.old q.new node result }
     {
-        match self.states[node as usize] {
+        match &self.states[node as usize] {
             State::Prio => pull_prio(self, q, node),
             State::RoundRobin(_) => Beginning::pull(self, q, node),
             State::Drr(_) => Deficits::pull(self, q, node),
-            State::Stride(_) => Passes::pull(self, q, node),
+            State::Stride(passes) => {
+                if passes.is_vain() {
+                    Passes::ask_on(self, q, node, 0)
+                } else {
+                    Passes::pull(self, q, node)
+                }
+            }
             State::Shaper(_) => Bucket::pull(self, q, node),
         }
     }
@@ -247,6 +253,26 @@ impl Nodes {
     /// Records that `count` inputs of a node, from `first` on, were asked and gave nothing.
     #[inline]
     pub fn record_idle(&mut self, node: u16, first: u16, count: u16)
+        requires room { count ≤ self.old.log.spare }
+        requires few { first + count ≤ most_inputs }
+        ensures { self.new ≡ with_idle_at self.old node first count }
+    {
+        if self.log.keeps_any() {
+            self.record_idle_kept(node, first, count);
+            return;
+        }
+        self.log.pass_idle(&IdleInputs {
+            pull: self.pull,
+            moment: self.moment,
+            node,
+            first,
+            count,
+        });
+    }
+
+    /// Records it as `record_idle` does, in a log that keeps visits. It is a call of its own, as `record_kept` is.
+    #[inline(never)]
+    fn record_idle_kept(&mut self, node: u16, first: u16, count: u16)
         requires room { count ≤ self.old.log.spare }
         requires few { first + count ≤ most_inputs }
         ensures { self.new ≡ with_idle_at self.old node first count }

@@ -23,7 +23,7 @@ impl Beginning {
     /// Pulls a RoundRobinSched.
     // What it holds stays in its place, since nothing of it is needed while inputs are asked.
     #[cycle(pull)]
-    #[inline(always)]
+    #[inline(never)]
     pub fn pull<Q: Ask>(nodes: &mut Nodes, q: &mut Q, node: u16) -> Option<Packet>
         requires can_pull { CanPull nodes.old node (edges_of nodes.old.inputs.items node) }
         requires holds { IfSome (slice_get nodes.old.states.items node) IsRoundRobin }
@@ -36,7 +36,7 @@ impl Beginning {
     }
 
     // The input at which a pull begins, unless it is known to be idle.
-    #[inline]
+    #[inline(always)]
     fn first_input<Q: Ask>(nodes: &Nodes, q: &Q, node: u16) -> Option<u16>
         requires can_pull { CanPull nodes.now node (edges_of nodes.now.inputs.items node) }
         requires holds { IfSome (slice_get nodes.now.states.items node) IsRoundRobin }
@@ -49,9 +49,10 @@ impl Beginning {
         Some(beginning.input)
     }
 
-    // Pulls a RoundRobinSched whose first input mostly gives a packet. It is a call of its own, so that such a pull has no loops.
+    // Pulls a RoundRobinSched whose first input mostly gives a packet. The loops over the other inputs are a call of their own, so that such
+    // a pull pays nothing for them.
     #[cycle(pull)]
-    #[inline(never)]
+    #[inline(always)]
     fn ask_first<Q: Ask>(nodes: &mut Nodes, q: &mut Q, node: u16, input: u16) -> Option<Packet>
         requires can_pull { CanPull nodes.old node (edges_of nodes.old.inputs.items node) }
         requires holds { slice_get nodes.old.states.items node ≡ Some (RoundRobin (record { input = input })) }

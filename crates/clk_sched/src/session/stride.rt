@@ -144,6 +144,12 @@ impl Passes {
         self.row.as_slice()
     }
 
+    /// Whether inputs before the winner were asked when a packet was last given. Then the first may well be idle.
+    #[inline]
+    pub fn is_vain(&self) -> bool {
+        self.vain
+    }
+
     /// Adds its stride to the pass of the input at this place of the row, which gave a packet. The inputs before it, which had none, get
     /// the pass that it had.
     fn won(&mut self, place: usize)
@@ -168,7 +174,7 @@ impl Passes {
 
     /// Pulls a StrideSched.
     #[cycle(pull)]
-    #[inline(always)]
+    #[inline(never)]
     pub fn pull<Q: Ask>(nodes: &mut Nodes, q: &mut Q, node: u16) -> Option<Packet>
         requires can_pull { CanPull nodes.old node (edges_of nodes.old.inputs.items node) }
         requires holds { IfSome (slice_get nodes.old.states.items node) IsStride }
@@ -183,7 +189,7 @@ impl Passes {
     // Pulls a StrideSched whose first input mostly gives a packet. It is asked while the passes stand in their place, so that such a pull
     // doesn't take them out and put them back.
     #[cycle(pull)]
-    #[inline(never)]
+    #[inline(always)]
     fn ask_first<Q: Ask>(nodes: &mut Nodes, q: &mut Q, node: u16, input: u16) -> Option<Packet>
         requires can_pull { CanPull nodes.old node (edges_of nodes.old.inputs.items node) }
         requires holds { IfSome (slice_get nodes.old.states.items node) IsStride }
@@ -197,8 +203,8 @@ impl Passes {
         Some(packet)
     }
 
-    // The first input of the row of a StrideSched, unless it may well be idle.
-    #[inline]
+    // The first input of the row of a StrideSched.
+    #[inline(always)]
     fn first_input(nodes: &Nodes, node: u16) -> Option<u16>
         requires there { node < length nodes.now.states.items }
         ensures { (held : Box Passes) → slice_get nodes.now.states.items node ≡ Some (Stride held) → IfSome result (λ input. take 1 (inputs_in held.value.row.items) ≡ input ∷ []) }
@@ -206,9 +212,6 @@ impl Passes {
         let State::Stride(passes) = &nodes.states[node as usize] else {
             return None;
         };
-        if passes.vain {
-            return None;
-        }
         match passes.row() {
             [first, ..] => Some(first.input()),
             [] => None,
@@ -227,10 +230,10 @@ impl Passes {
         }
     }
 
-    // Goes on with the turn of a StrideSched that asked the first so many inputs of its row, which gave nothing.
+    /// Goes on with the turn of a StrideSched that asked the first so many inputs of its row, which gave nothing.
     #[cycle(pull)]
     #[inline(never)]
-    fn ask_on<Q: Ask>(nodes: &mut Nodes, q: &mut Q, node: u16, asked: usize) -> Option<Packet>
+    pub fn ask_on<Q: Ask>(nodes: &mut Nodes, q: &mut Q, node: u16, asked: usize) -> Option<Packet>
         requires { (held : Box Passes) × MayAskOn Q.gives nodes.old q.old node (Stride held) (inputs_in held.value.row.items) asked }
         ensures { (held : Box Passes) (m : MayAskOn Q.gives nodes.old q.old node (Stride held) (inputs_in held.value.row.items) asked) → WasPulled Q.gives m.first nodes.new m.before q.new node result }
     {

@@ -11,6 +11,7 @@ use Rattle.clk_sched.specs.declared.session.nodes.Nodes.{Nodes}
 use Rattle.clk_sched.specs.declared.session.inputs.Input.TheVariants.{Node}
 use Rattle.clk_sched.specs.declared.session.state.State.TheVariants.{RoundRobin, Drr, Stride}
 use Rattle.clk_sched.specs.inside.Places.{edges_of, edges_in, input_at}
+use Rattle.clk_sched.specs.inside.Holds.OfClass.{IsStride, IsShaper}
 use Rattle.clk_sched.specs.inside.Pulling.{CanPull}
 use Rattle.clk_sched.specs.inside.Ranks.{Ranked, AreInOrder, inputs_in}
 use Rattle.clk_sched.proofs.Lists.Ranges.{range-front}
@@ -235,6 +236,38 @@ prio::pull_prio-returns-in-None g t c =
     prio-pulled g.Q.Ask.gives c.args.nodes.now c.ask_in_turn.new.self c.args.q.now c.ask_in_turn.new.q c.args.node c.len-inputs.result p None c.requires.can_pull c.requires.holds place count tt
     (subst (HasAskedAll g.Q.Ask.gives c.args.nodes.now c.ask_in_turn.new.self c.args.q.now c.ask_in_turn.new.q c.args.node (range_with_len 0 c.len-inputs.result)) c.in-None.is c.ask_in_turn.ensures.asked)
 
+pub nodes::Nodes::pull-ask_on-requires : goal.nodes::Nodes::pull-ask_on-requires
+nodes::Nodes::pull-ask_on-requires g t c =
+    let a = c.args.self.now in
+    let x = c.args.node in
+    let there = state-there a x _ c.requires.can_pull in
+    let begun = entry a.states.items x c.index.result.now there c.index.ensures ∙ ap Some c.in-Stride.is in
+    λ κs le. (omega arith, (search, (c.in-Stride.passes, on-none g.Q.Ask.gives a c.args.q.now x (Stride c.in-Stride.passes) (inputs_in c.in-Stride.passes.value.row.items) c.requires.can_pull begun)))
+
+pub nodes::Nodes::pull-returns-then-is_vain : goal.nodes::Nodes::pull-returns-then-is_vain
+nodes::Nodes::pull-returns-then-is_vain g t c =
+    let a = c.args.self.now in
+    let x = c.args.node in
+    let there = state-there a x _ c.requires.can_pull in
+    let begun = entry a.states.items x c.index.result.now there c.index.ensures ∙ ap Some c.in-Stride.is in
+    c.ask_on.ensures c.in-Stride.passes (on-none g.Q.Ask.gives a c.args.q.now x (Stride c.in-Stride.passes) (inputs_in c.in-Stride.passes.value.row.items) c.requires.can_pull begun)
+
+pub nodes::Nodes::pull-pull-requires-else-is_vain : goal.nodes::Nodes::pull-pull-requires-else-is_vain
+nodes::Nodes::pull-pull-requires-else-is_vain g t c =
+    let a = c.args.self.now in
+    let x = c.args.node in
+    let there = state-there a x _ c.requires.can_pull in
+    let begun = entry a.states.items x c.index.result.now there c.index.ensures ∙ ap Some c.in-Stride.is in
+    λ κs le. (omega arith, (search, (c.requires.can_pull, subst (λ o. IfSome o IsStride) (sym begun) tt)))
+
+pub nodes::Nodes::pull-pull-requires-in-Shaper : goal.nodes::Nodes::pull-pull-requires-in-Shaper
+nodes::Nodes::pull-pull-requires-in-Shaper g t c =
+    let a = c.args.self.now in
+    let x = c.args.node in
+    let there = state-there a x _ c.requires.can_pull in
+    let begun = entry a.states.items x c.index.result.now there c.index.ensures ∙ ap Some c.in-Shaper.is in
+    λ κs le. (omega arith, (search, (c.requires.can_pull, subst (λ o. IfSome o IsShaper) (sym begun) tt)))
+
 pub drr::Deficits::look_by_asking-returns : goal.drr::Deficits::look_by_asking-returns
 drr::Deficits::look_by_asking-returns g t c = search (rules, looks-at-asked)
 
@@ -266,7 +299,6 @@ drr::Deficits::turn-look_by_asking-got-requires g t c =
 pub drr::Deficits::turn-returns-then-passed : goal.drr::Deficits::turn-returns-then-passed
 drr::Deficits::turn-returns-then-passed g t c = search (rules, looks-below, had-ended, making-passed)
 
--- what the visits have come to once one that asked got nothing
 pub drr::Deficits::turn-pass_over_idle-looks-requires : goal.drr::Deficits::turn-pass_over_idle-looks-requires
 drr::Deficits::turn-pass_over_idle-looks-requires g t c =
     let below : c.loop-looks.looks < length c.args.self.now.row.items = looks-below c.args.self.now c.loop-looks.looks c.len-inputs.result c.loop-looks-test.true c.len-inputs.ensures.value in
@@ -274,22 +306,18 @@ drr::Deficits::turn-pass_over_idle-looks-requires g t c =
       first = c.args.nodes.now;
       before = c.args.q.now;
       begun = c.args.self.now;
-      looks = c.loop-looks.looks + 1;
+      looks = c.loop-looks.looks;
       can = c.requires.can_pull;
       fits = c.requires.fits;
-      making = making-next g.Q.Ask.gives c.args.nodes.now c.loop-looks.nodes c.look_by_asking-got.new.nodes c.args.q.now c.loop-looks.q c.look_by_asking-got.new.q c.args.node c.args.self.now c.loop-looks.self c.look_by_asking-got.new.self
-          c.loop-looks.looks c.look_by_asking-got.result.0 c.look_by_asking-got.result.1 c.loop-looks.invariant.0 below c.look_by_asking-got.ensures c.if-passed.false;
+      making = c.loop-looks.invariant.0;
       within = omega (arith, below);
     }
 
-pub drr::Deficits::turn-loop-looks-preserved-then-is_none : goal.drr::Deficits::turn-loop-looks-preserved-then-is_none
-drr::Deficits::turn-loop-looks-preserved-then-is_none g t c =
+pub drr::Deficits::turn-loop-looks-preserved-then-vain : goal.drr::Deficits::turn-loop-looks-preserved-then-vain
+drr::Deficits::turn-loop-looks-preserved-then-vain g t c =
     let below : c.loop-looks.looks < length c.args.self.now.row.items = looks-below c.args.self.now c.loop-looks.looks c.len-inputs.result c.loop-looks-test.true c.len-inputs.ensures.value in
     let few = c.pass_over_idle-looks.ensures.few in (
-      c.pass_over_idle-looks.ensures.goes_on c.args.nodes.now c.args.q.now c.args.self.now (c.loop-looks.looks + 1)
-          (making-next g.Q.Ask.gives c.args.nodes.now c.loop-looks.nodes c.look_by_asking-got.new.nodes c.args.q.now c.loop-looks.q c.look_by_asking-got.new.q c.args.node c.args.self.now c.loop-looks.self c.look_by_asking-got.new.self
-          c.loop-looks.looks c.look_by_asking-got.result.0 c.look_by_asking-got.result.1 c.loop-looks.invariant.0 below c.look_by_asking-got.ensures c.if-passed.false)
-          (omega (arith, below, few)),
+      c.pass_over_idle-looks.ensures.goes_on c.args.nodes.now c.args.q.now c.args.self.now c.loop-looks.looks c.loop-looks.invariant.0 (omega (arith, below, few)),
       omega (arith, below, few),
     )
 

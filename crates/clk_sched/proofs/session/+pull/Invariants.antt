@@ -1,4 +1,4 @@
-use Rattle.std.proofs.Common.{ℕ, ◌+◌, ◌*◌, ◌-◌, ◌≤◌, length, take}
+use Rattle.std.proofs.Common.{if◌then◌else◌, ℕ, ◌+◌, ◌*◌, ◌-◌, ◌≤◌, length, take}
 use Rattle.std.specs.List.{range_with_len}
 use Rattle.clk_sched.specs.inside.Ranks.{inputs_in}
 use Rattle.clk_sched.proofs.Nodes.Asking.{IsAsking}
@@ -73,7 +73,7 @@ abbrev pub invariant-nodes::Nodes::ask_in_turn-loop-place : goal.invariant-nodes
 invariant-nodes::Nodes::ask_in_turn-loop-place g l = (l.place ≤ l.count) × IsAsking g.Q.Ask.gives l.fn.self l.self l.fn.q l.q l.node (take l.place (range_with_len l.fn.first l.fn.count))
 
 abbrev pub decreases-drr::Deficits::turn-loop-looks : goal.decreases-drr::Deficits::turn-loop-looks
-decreases-drr::Deficits::turn-loop-looks g l = l.inputs - l.looks
+decreases-drr::Deficits::turn-loop-looks g l = 2 * (l.inputs - l.looks) + (if l.vain then 1 else 0)
 
 abbrev pub invariant-drr::Deficits::turn-loop-looks : goal.invariant-drr::Deficits::turn-loop-looks
 invariant-drr::Deficits::turn-loop-looks g l = IsMaking g.Q.Ask.gives l.initial.nodes l.nodes l.initial.q l.q l.node l.initial.self l.self l.looks × (l.looks ≤ l.inputs)
