@@ -49,10 +49,10 @@ impl Beginning {
         Some(beginning.input)
     }
 
-    // Pulls a RoundRobinSched whose first input mostly gives a packet. The loops over the other inputs are a call of their own, so that such
-    // a pull pays nothing for them.
+    // Pulls a RoundRobinSched whose first input mostly gives a packet. It and the loops over the other inputs are calls of their own, so that
+    // neither pays for the other.
     #[cycle(pull)]
-    #[inline(always)]
+    #[inline(never)]
     fn ask_first<Q: Ask>(nodes: &mut Nodes, q: &mut Q, node: u16, input: u16) -> Option<Packet>
         requires can_pull { CanPull nodes.old node (edges_of nodes.old.inputs.items node) }
         requires holds { slice_get nodes.old.states.items node ≡ Some (RoundRobin (record { input = input })) }
