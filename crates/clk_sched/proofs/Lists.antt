@@ -4,3 +4,4 @@ pub mod Ranges
 pub mod Members
 pub mod Apart
 pub mod Rising
+pub mod Written

@@ -4,6 +4,7 @@ pub mod Pulling
 pub mod Asking
 pub mod InTwo
 pub mod First
+pub mod Got
 pub mod Asked
 pub mod Edges
 pub mod InOrder

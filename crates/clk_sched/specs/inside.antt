@@ -2,6 +2,7 @@
 pub mod Drrs
 pub mod Due
 pub mod Falls
+pub mod Got
 pub mod Held
 pub mod Holds
 pub mod Kept

@@ -5,6 +5,7 @@ pub(crate) mod departures;
 mod drr;
 mod due;
 mod emitted;
+mod got;
 mod heads;
 mod idle;
 mod inputs;

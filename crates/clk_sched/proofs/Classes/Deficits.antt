@@ -6,8 +6,8 @@ use Rattle.std.proofs.lemmas.Bool.{false≢true}
 use Rattle.std.proofs.lemmas.Bool.Decides.{nat_tests}
 use Rattle.std.proofs.lemmas.List.{length-set, length-map}
 use Rattle.std.proofs.lemmas.Option.{slice_get_read, slice_get-map}
-use Rattle.smallvec.specs.SmallVec.{SmallVec, small_vec_len, with_items}
-use Rattle.smallvec.proofs.SmallVecLemmas.{items-with_items}
+use Rattle.std.specs.Global.{Vec}
+use Rattle.std.specs.Vec.{with_items}
 use Rattle.clk_packet.specs.declared.packet.Packet.{Packet}
 use Rattle.clk_packet.specs.Limits.{most_length, most_inputs, most_quantum}
 use Rattle.clk_sched.specs.declared.session.drr.Served.{Served}
@@ -19,6 +19,7 @@ use Rattle.clk_sched.specs.inside.Holds.Served.{AreQuantaWithin, AreDeficitsWith
 use Rattle.clk_sched.specs.inside.Holds.Deficit.{HoldsInput, ahead_at, HoldsDeficits}
 use Rattle.clk_sched.specs.inside.Looking.{IsHead}
 use Rattle.clk_sched.proofs.Lists.Numbers.{equal, differs}
+use Rattle.clk_sched.proofs.Lists.Written.{items-written}
 
 -- what is read at a place, as the code reads it
 pub row-read : (row lent : List Served) (i place : ℕ) (s : Served) → lent ≡ row → place ≡ i → i < length row → s ≡ get_or lent place s → slice_get row i ≡ Some s
@@ -42,12 +43,12 @@ read-some (x ∷ row) zero l = (x, refl)
 read-some (x ∷ row) (suc i) l = read-some row i (omega arith)
 
 -- What is added through the slice is added to the row.
-pub adds-within : (row : SmallVec Served) (lent new : List Served) (place i : ℕ) → lent ≡ row.items → length new ≡ small_vec_len row → place ≡ i → IsArrivedAt place lent new → IsArrivedAt i row.items (with_items row new).items
-adds-within row lent new place i same long at adds = search (rules, items-with_items)
+pub adds-within : (row : Vec Served) (lent new : List Served) (place i : ℕ) → lent ≡ row.items → length new ≡ length row.items → place ≡ i → IsArrivedAt place lent new → IsArrivedAt i row.items (with_items row new).items
+adds-within row lent new place i same long at adds = search (rules, items-written)
 
 -- And so is what is settled at a place.
-pub settled-within : (row : SmallVec Served) (lent : List Served) (place i : ℕ) (new after : Served) → lent ≡ row.items → place ≡ i → new ≡ after → (with_items row (slice_set lent place new)).items ≡ slice_set row.items i after
-settled-within row lent place i new after same at is = items-with_items row (slice_set lent place new) (length-set lent place new ∙ ap length same) ∙ (λ j. slice_set (same j) (at j) (is j))
+pub settled-within : (row : Vec Served) (lent : List Served) (place i : ℕ) (new after : Served) → lent ≡ row.items → place ≡ i → new ≡ after → (with_items row (slice_set lent place new)).items ≡ slice_set row.items i after
+settled-within row lent place i new after same at is = items-written row (slice_set lent place new) (length-set lent place new ∙ ap length same) ∙ (λ j. slice_set (same j) (at j) (is j))
 
 -- the limits of a row and its cursor
 pub record KeepsLimits (cursor : ℕ) (row : List Served) : Type 0 where

@@ -136,10 +136,8 @@ pub vain-in : (now : Now) (x : ℕ) (order : List ℕ) → AllByRecursion (λ (v
 vain-in now x order = all-map (λ (v : Visit). In v.input order) (λ i. asking now.number now.moment x i None) order (to-all (λ i. In i order) order (λ i m. m))
 
 -- a node asked some inputs and got nothing
-pub record IsAsking {S : Type 0} (gives : S → ℕ → Option Packet → S → Type 0) (old new : Nodes) (before now : S) (x : ℕ) (order : List ℕ) : Type 0 where
-  pub keeps : Keeps (suc x) old new (edges_in old.inputs.items x order)
-  pub answers : Answers gives (queue_asked old.inputs.items) before (added old new) now
-  pub asks : AsksAll old new x order (asked_in_vain (now_of old) x order)
+abbrev pub IsAsking : {S : Type 0} → (S → ℕ → Option Packet → S → Type 0) → Nodes → Nodes → S → S → ℕ → List ℕ → Type 0
+IsAsking gives old new before now x order = HasAskedAll gives old new before now x order None
 
 pub asking-first : {S : Type 0} (gives : S → ℕ → Option Packet → S → Type 0) (a : Nodes) (q : S) (x : ℕ) → AllFit a.inputs.items a.states.items → IsAsking gives a a q q x []
 asking-first gives a q x fit = record { keeps = keeps-none a fit; answers = subst (λ l. Answers gives (queue_asked a.inputs.items) q l q) (sym (added-none a)) refl; asks = asks-none a x }
@@ -213,16 +211,8 @@ asking-given gives a b c p q r x k i got packet order l h same is one =
     }
 
 pub asking-all : {S : Type 0} (gives : S → ℕ → Option Packet → S → Type 0) (a b : Nodes) (p q : S) (x k : ℕ) (order : List ℕ) → length order ≤ k → IsAsking gives a b p q x (take k order) → HasAskedAll gives a b p q x order None
-asking-all gives a b p q x k order l h =
-    let r : IsAsking gives a b p q x order = subst (IsAsking gives a b p q x) (take_all k order l) h in
-    record { keeps = r.keeps; answers = r.answers; asks = r.asks }
-
--- What was asked in vain was asked.
-pub vain-asked : {S : Type 0} (gives : S → ℕ → Option Packet → S → Type 0) (a b : Nodes) (p q : S) (x : ℕ) (order : List ℕ) → IsAsking gives a b p q x order → HasAskedAll gives a b p q x order None
-vain-asked gives a b p q x order h = record { keeps = h.keeps; answers = h.answers; asks = h.asks }
+asking-all gives a b p q x k order l h = subst (IsAsking gives a b p q x) (take_all k order l) h
 
 -- what was asked in vain, as a part of what is asked
 pub asked-vain : {S : Type 0} (gives : S → ℕ → Option Packet → S → Type 0) (a b : Nodes) (p q : S) (x : ℕ) (order : List ℕ) (r : Option (ℕ × Packet)) → r ≡ None → HasAskedAll gives a b p q x order r → IsAsking gives a b p q x order
-asked-vain gives a b p q x order r none h =
-    let k : HasAskedAll gives a b p q x order None = subst (HasAskedAll gives a b p q x order) none h in
-    record { keeps = k.keeps; answers = k.answers; asks = k.asks }
+asked-vain gives a b p q x order r none h = subst (HasAskedAll gives a b p q x order) none h

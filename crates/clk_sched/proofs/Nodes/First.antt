@@ -7,7 +7,7 @@ use Rattle.clk_sched.specs.declared.session.state.State.{State}
 use Rattle.clk_sched.specs.inside.Places.{edges_of}
 use Rattle.clk_sched.specs.inside.Pulling.{CanPull}
 use Rattle.clk_sched.specs.inside.Turning.{HasAsked, HasAskedAll, MayAskOn}
-use Rattle.clk_sched.proofs.Nodes.Asking.{asking-first, asking-next, asked-vain, vain-asked}
+use Rattle.clk_sched.proofs.Nodes.Asking.{asking-first, asking-next, asked-vain}
 use Rattle.clk_sched.proofs.Nodes.InTwo.{in_second, past-length, asked-both}
 
 -- the first of an order
@@ -19,7 +19,7 @@ first-of (j ∷ order) i e = (omega arith, sym (ap (λ l. slice_index l 0) e))
 abbrev pub on-none : {S : Type 0} (gives : S → ℕ → Option Packet → S → Type 0) (a : Nodes) (q : S) (x : ℕ) (state : State) (order : List ℕ) → CanPull a x (edges_of a.inputs.items x) → slice_get a.states.items x ≡ Some state
     → MayAskOn gives a q x state order 0
 on-none gives a q x state order can begun =
-    record { first = a; before = q; can = can; begun = begun; stays = begun; within = omega arith; in_vain = vain-asked gives a a q q x (take 0 order) (asking-first gives a q x can.fit) }
+    record { first = a; before = q; can = can; begun = begun; stays = begun; within = omega arith; in_vain = asking-first gives a q x can.fit }
 
 -- The first gave nothing.
 abbrev pub on-vain : {S : Type 0} (gives : S → ℕ → Option Packet → S → Type 0) (a b : Nodes) (q r : S) (x i : ℕ) (state : State) (order : List ℕ) (got : Option Packet) → CanPull a x (edges_of a.inputs.items x)
@@ -32,8 +32,7 @@ on-vain gives a b q r x i state order got can begun is vain asked =
       begun = begun;
       stays = asked.keeps.ahead x (omega arith) ∙ begun;
       within = let some = (first-of order i is).0 in omega (arith, some);
-      in_vain = vain-asked gives a b q r x (take 1 order)
-          (asking-next gives a a b q q r x 0 i got order (first-of order i is).0 (asking-first gives a q x can.fit) (first-of order i is).1 vain asked);
+      in_vain = asking-next gives a a b q q r x 0 i got order (first-of order i is).0 (asking-first gives a q x can.fit) (first-of order i is).1 vain asked;
     }
 
 -- a place among those of an order that are left after so many, as one of the order

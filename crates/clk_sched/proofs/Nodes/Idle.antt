@@ -102,9 +102,7 @@ row-follows (r ∷ order) d (suc n) (suc m) l some follow = ap (λ is. r.input �
 -- Those at the front were asked, and nothing else is.
 pub asking-front : {S : Type 0} (gives : S → ℕ → Option Packet → S → Type 0) (a b : Nodes) (p q : S) (x first count k n : ℕ) → k ≡ n → n ≤ count → IsAsking gives a b p q x (take k (range_with_len first count))
     → HasAskedAll gives a b p q x (range_with_len first n) None
-asking-front gives a b p q x first count k n same l h =
-    let front : IsAsking gives a b p q x (range_with_len first n) = subst (IsAsking gives a b p q x) (ap (λ m. take m (range_with_len first count)) same ∙ range-front first count n l) h in
-    record { keeps = front.keeps; answers = front.answers; asks = front.asks }
+asking-front gives a b p q x first count k n same l h = subst (IsAsking gives a b p q x) (ap (λ m. take m (range_with_len first count)) same ∙ range-front first count n l) h
 
 -- each input that is there has an edge
 inputs-edges : (table : List Inputs) (x : ℕ) (order : List ℕ) → AllByRecursion (λ i. IsSome (input_at table x i)) order → length order ≤ edges_in table x order

@@ -107,9 +107,7 @@ reached-asked gives a q deep x i rests low can there idle =
 pub reached-all : {S : Type 0} (gives : S → ℕ → Option Packet → S → Type 0) (a : Nodes) (q : S) (deep x : ℕ) (order : List ℕ) → RestsTo gives q deep → length a.inputs.items ≤ suc x + deep → CanPull a x (edges_in a.inputs.items x order)
     → AllByRecursion (λ i. IsSome (input_at a.inputs.items x i)) order → ((i : ℕ) → IsIdleAt gives q (λ m. IsIdleTo gives deep a.inputs.items a.states.items q m) (input_at a.inputs.items x i))
     → HasAskedAll gives a (with_block a (flat_map (visits_to deep a x) order)) q q x order None
-reached-all gives a q deep x [] rests low can there idle =
-    let none = subst (λ b. IsAsking gives a b q q x []) (sym (block-none a)) (asking-first gives a q x can.fit) in
-    record { keeps = none.keeps; answers = none.answers; asks = none.asks }
+reached-all gives a q deep x [] rests low can there idle = subst (λ b. IsAsking gives a b q q x []) (sym (block-none a)) (asking-first gives a q x can.fit)
 reached-all gives a q deep x (i ∷ order) rests low can there idle =
     let room = can.room in
     let first = reached-asked gives a q deep x i rests low (record { wired = can.wired; fit = can.fit; there = can.there; room = omega (arith, room); moment = can.moment }) there.0 (idle i) in

@@ -4,8 +4,7 @@ use Rattle.std.proofs.lemmas.Grind.{common_steps, elements}
 use Rattle.std.proofs.Common.{◌≡◌, ◌≢◌, ℕ, zero, suc, ◌+◌, ◌%◌, ◌<◌, ◌≤◌, ◌==◌, if◌then◌else◌, true, false, List, [], ◌∷◌, length, slice_get, slice_set, Option, Some, None, unwrap_or, refl, sym, ap, ◌∙◌, subst, mod-lt, arith, rules}
 use Rattle.std.proofs.lemmas.List.{length-set}
 use Rattle.std.proofs.Math.Nat.{mod-eq_of_lt}
-use Rattle.smallvec.specs.SmallVec.{with_items}
-use Rattle.smallvec.proofs.SmallVecLemmas.{items-with_items}
+use Rattle.std.specs.Vec.{with_items}
 use Rattle.clk_packet.specs.declared.packet.Packet.{Packet}
 use Rattle.clk_packet.specs.Limits.{most_length, most_inputs, most_quantum}
 use Rattle.clk_sched.specs.declared.session.drr.Served.{Served}
@@ -23,6 +22,7 @@ use Rattle.clk_sched.proofs.Classes.Deficits.{KeepsLimits, each-written, read-so
 use Rattle.clk_sched.proofs.Nodes.Idle.{idle-none, idle-next}
 use Rattle.clk_sched.proofs.Turns.LooksDrr.{idle-edge, looks-at-idle}
 use Rattle.clk_sched.proofs.Turns.TurnDrr.{going-can, goes-none, goes-next}
+use Rattle.clk_sched.proofs.Lists.Written.{items-written}
 
 -- what is written over, and what is written as it was
 written-over : (row : List Served) (i : ℕ) (x y : Served) → slice_set (slice_set row i x) i y ≡ slice_set row i y
@@ -79,7 +79,7 @@ module _ (d : Deficits) where
 
   pub arrives-at : IsArrivedAt next (emptied d here) (with_items d.row after).items
   arrives-at s e =
-      items-with_items d.row after after-long
+      items-written d.row after after-long
       ∙ ap (λ t. slice_set (emptied d here) next (with_quantum t)) (ap (λ o. unwrap_or o s) (sym (read-some (emptied d here) next within).1 ∙ e))
 
   pub limits : KeepsLimits next (with_items d.row after).items
@@ -99,7 +99,7 @@ module _ (d : Deficits) where
   }
 
   pub over-long : length passed-over.row.items ≡ length d.row.items
-  over-long = ap length (items-with_items d.row after after-long) ∙ after-long
+  over-long = ap length (items-written d.row after after-long) ∙ after-long
 
   pub settles-over : Settles d passed-over None false
   settles-over = record {

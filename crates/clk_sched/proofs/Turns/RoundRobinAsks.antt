@@ -14,10 +14,10 @@ use Rattle.clk_sched.specs.inside.Pulling.{CanPull}
 use Rattle.clk_sched.specs.inside.Turning.{with_state, HasAsked, HasAskedAll, HadTurn, MayAskOn, WasPulled}
 use Rattle.clk_sched.proofs.Lists.Ranges.{range-drop}
 use Rattle.clk_sched.proofs.Nodes.Asking.{asking-first, asking-ready, asking-given, asked-vain}
-use Rattle.clk_sched.proofs.Nodes.First.{later, asked-on}
+use Rattle.clk_sched.proofs.Nodes.First.{later, asked-on, on-none}
 use Rattle.clk_sched.proofs.Nodes.Idle.{turn-can}
 use Rattle.clk_sched.proofs.Nodes.Ordered.{item-there}
-use Rattle.clk_sched.proofs.Nodes.Placed.{pulled-put, pulled-still, some-same}
+use Rattle.clk_sched.proofs.Nodes.Placed.{pulled-put, pulled-still, some-same, state-there}
 use Rattle.clk_sched.proofs.Turns.TurnRoundRobin.{Begins, begins, MayAsk, may-first, may-second, had-first, had-second, had-none}
 
 -- the beginning of a RoundRobinSched is one thing
@@ -35,6 +35,12 @@ round-there states x l h = let s = item-there states x l in by_state s.0 s.1 (su
     by_state : (s : State) → slice_get states x ≡ Some s → IsRoundRobin s → (b : Beginning) × (slice_get states x ≡ Some (RoundRobin b))
     by_state (RoundRobin b) e h = (b, e)
     by_state s e h = absurd h
+
+-- Its turn begins.
+abbrev pub round-none : {S : Type 0} (gives : S → ℕ → Option Packet → S → Type 0) (a : Nodes) (q : S) (x : ℕ) → CanPull a x (edges_of a.inputs.items x) → IfSome (slice_get a.states.items x) IsRoundRobin
+    → (b : Beginning) × MayAskOn gives a q x (RoundRobin b) (b.input ∷ []) 0
+round-none gives a q x can holds =
+    let held = round-there a.states.items x (state-there a x _ can) holds in (held.0, on-none gives a q x (RoundRobin held.0) (held.0.input ∷ []) can held.1)
 
 -- The first input of the first part, which it may ask, and which gave a packet.
 module _ {S : Type 0} (gives : S → ℕ → Option Packet → S → Type 0) (a : Nodes) (q : S) (x n : ℕ) (b : Beginning) (can : CanPull a x (edges_of a.inputs.items x)) (begun : slice_get a.states.items x ≡ Some (RoundRobin b)) (h : Begins a.inputs.items x n b.input) where
@@ -134,3 +140,10 @@ pub on-found : {S : Type 0} (gives : S → ℕ → Option Packet → S → Type 
     → (d : Beginning) × MayAskOn gives n q x (RoundRobin d) (d.input ∷ []) asked → MayAskOn gives n q x (RoundRobin b) (b.input ∷ []) asked
 on-found gives n q x asked b found m =
     subst (λ e. MayAskOn gives n q x (RoundRobin e) (e.input ∷ []) asked) (beginning-same m.0 b (some-same (RoundRobin m.0) (RoundRobin b) (sym m.1.stays ∙ found))) m.1
+
+-- The bounds on what it goes on with.
+pub on-few : {S : Type 0} (gives : S → ℕ → Option Packet → S → Type 0) (n : Nodes) (q : S) (x asked : ℕ) (b : Beginning) (count : ℕ) (p : Inputs) → slice_get n.states.items x ≡ Some (RoundRobin b)
+    → (d : Beginning) × MayAskOn gives n q x (RoundRobin d) (d.input ∷ []) asked → p ≡ get_or n.inputs.items x p → count ≡ vec_len p.each → (asked ≤ 1) × (b.input < count) × (count ≤ 64)
+on-few gives n q x asked b count p here on place all =
+    let m = on-found gives n q x asked b here on in
+    let h = on-begins gives n q x asked b m count p place all in (m.within, h.low, h.few)

@@ -16,10 +16,10 @@ use Rattle.clk_sched.specs.inside.Turning.{with_state, HasAsked, HasAskedAll, Ha
 use Rattle.clk_sched.specs.inside.Winning.{IsWonAt, WinsFirst, TurnsOn}
 use Rattle.clk_sched.proofs.Classes.RankLemmas.{after-place, inputs-after, in_order-after}
 use Rattle.clk_sched.proofs.Nodes.Asking.{IsAsking, asking-first, asking-ready, asking-given, asked-vain}
-use Rattle.clk_sched.proofs.Nodes.First.{first-of, later, asked-on}
+use Rattle.clk_sched.proofs.Nodes.First.{first-of, later, asked-on, on-none}
 use Rattle.clk_sched.proofs.Nodes.Idle.{rest-can}
 use Rattle.clk_sched.proofs.Nodes.Ordered.{item-there}
-use Rattle.clk_sched.proofs.Nodes.Placed.{asked-placed, can-put, fits-there, kept-there, passes-same, pulled-back, pulled-put, some-same}
+use Rattle.clk_sched.proofs.Nodes.Placed.{asked-placed, can-put, fits-there, kept-there, passes-same, pulled-back, pulled-put, some-same, state-there}
 use Rattle.clk_sched.proofs.Turns.TurnStride.{FitsAt, stride-in_order, stride-may, had-won, had-lost}
 
 -- a StrideSched holds passes
@@ -29,6 +29,12 @@ stride-there states x l h = let s = item-there states x l in by_state s.0 s.1 (s
     by_state : (s : State) → slice_get states x ≡ Some s → IsStride s → (held : Box Passes) × (slice_get states x ≡ Some (Stride held))
     by_state (Stride held) e h = (held, e)
     by_state s e h = absurd h
+
+-- Its turn begins.
+abbrev pub stride-none : {S : Type 0} (gives : S → ℕ → Option Packet → S → Type 0) (a : Nodes) (q : S) (x : ℕ) → CanPull a x (edges_of a.inputs.items x) → IfSome (slice_get a.states.items x) IsStride
+    → (held : Box Passes) × MayAskOn gives a q x (Stride held) (inputs_in held.value.row.items) 0
+stride-none gives a q x can holds =
+    let held = stride-there a.states.items x (state-there a x _ can) holds in (held.0, on-none gives a q x (Stride held.0) (inputs_in held.0.value.row.items) can held.1)
 
 -- What stands at an input that is first in the row of a StrideSched, which it may ask.
 module _ {S : Type 0} (gives : S → ℕ → Option Packet → S → Type 0) (a : Nodes) (q : S) (x : ℕ) (held : Box Passes) (can : CanPull a x (edges_of a.inputs.items x)) (begun : slice_get a.states.items x ≡ Some (Stride held)) where

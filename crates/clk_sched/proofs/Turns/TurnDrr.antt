@@ -1,5 +1,5 @@
 -- The turn of a DRRSched, visit by visit.
-use Rattle.std.proofs.Common.{◌≡◌, ◌≢◌, ℕ, zero, suc, ◌+◌, ◌%◌, ◌<◌, Bool, true, false, if◌then◌else◌, List, [], ◌∷◌, ◌++◌, length, map, slice_get, Option, Some, None, IsSome, IfSome, MatchBool, inl, inr, refl, sym, ap, ◌∙◌, subst, arith, rules}
+use Rattle.std.proofs.Common.{◌≡◌, ◌≢◌, ℕ, zero, suc, ◌+◌, ◌%◌, ◌<◌, Bool, true, false, if◌then◌else◌, List, [], ◌∷◌, ◌++◌, length, vec_len, map, slice_get, Option, Some, None, IsSome, IfSome, MatchBool, inl, inr, refl, sym, ap, ◌∙◌, subst, arith, rules}
 use Rattle.std.specs.List.{AllByRecursion}
 use Rattle.std.proofs.lemmas.List.{map-append, length-append}
 use Rattle.std.specs.Global.{Box}
@@ -214,8 +214,8 @@ pub record HasEnded {S : Type 0} (gives : S → ℕ → Option Packet → S → 
   pub result : got ≡ result_of own
 
 -- an input is left to be looked at
-pub looks-below : (d : Deficits) (looks count : ℕ) → looks < count → count ≡ length d.row.items → looks < length d.row.items
-looks-below d looks count below all = omega (arith, below, all)
+pub looks-below : (d : Deficits) (looks count : ℕ) → looks < count → count ≡ vec_len d.row → looks < length d.row.items
+looks-below d looks count below all = let same = all ∙ d.row.ok.0 in omega (arith, below, same)
 
 -- A DRRSched that may go on can ask the next.
 pub going-can : {S : Type 0} (gives : S → ℕ → Option Packet → S → Type 0) (a b : Nodes) (q : S) (x : ℕ) (d mid : Deficits) (more k : ℕ) → MayGoOn gives a q x d more → GoesOnInVain gives a b q x d mid k → k < more

@@ -6,28 +6,28 @@ ghost use Rattle.clk_sched.specs.inside.Holds.Served.{AreQuantaWithin, AreDefici
 ghost use Rattle.clk_sched.specs.declared.session.drr.Served.{Served};
 
 use crate::ask::Ask;
+use crate::session::got::Got;
 use crate::session::inputs::input_after;
 use crate::session::nodes::Nodes;
 use crate::session::state::State;
 use crate::visit::Visit;
 use clk_packet::Packet;
-use smallvec::SmallVec;
 use std::alloc::{AllocError, Global};
 
 /// What is held of one input.
-#[derive(Clone, Copy, Debug, Default)]
+#[derive(Clone, Copy, Debug)]
 struct Served {
     quantum: u32,
     deficit: u32,
     // The packet that was got and isn't covered yet.
-    head: Option<Packet>,
+    head: Got,
 }
 
 /// The inputs of a DRRSched, and the cursor: the input whose turn it is.
 #[derive(Drop)]
 pub struct Deficits {
     cursor: u16,
-    row: SmallVec<Served, 2>,
+    row: Vec<Served>,
     ghost few: { length row.items ≤ most_inputs },
     ghost cursor_within: { cursor < length row.items },
     ghost quanta_within: { AreQuantaWithin row.items },
@@ -36,6 +36,7 @@ pub struct Deficits {
 }
 
 impl Served {
+    ghost use Rattle.std.specs.Prelude.{is_some};
     ghost use Rattle.clk_sched.specs.inside.Holds.Served.{settled, covers};
 
     fn waiting(quantum: u32) -> Served
@@ -44,8 +45,16 @@ impl Served {
         Served {
             quantum,
             deficit: 0,
-            head: None,
+            head: Got::new(None),
         }
+    }
+
+    // Whether a packet is held.
+    #[inline]
+    fn is_held(&self) -> bool
+        ensures { result ≡ is_some self.now.head }
+    {
+        self.head.packet().is_some()
     }
 
     // Takes what a visit got, by asking (fresh) or as the head that is held. Returns whether the deficit covers it. A packet that isn't
@@ -59,19 +68,19 @@ impl Served {
         match got {
             None => {
                 self.deficit = 0;
-                self.head = None;
+                self.head = Got::new(None);
                 false
             }
             Some(packet) => {
                 let length = u32::from(packet.length);
                 if length <= self.deficit {
                     self.deficit -= length;
-                    self.head = None;
+                    self.head = Got::new(None);
                     true
                 } else {
                     // A head that is held stays held, and nothing is written.
                     if fresh {
-                        self.head = got;
+                        self.head = Got::new(got);
                     }
                     false
                 }
@@ -117,17 +126,14 @@ impl Deficits {
         ensures held { IsHead self.now result }
         ensures law { (quanta : List ℕ) (inputs : ℕ) (before : List Visit) → HoldsDeficits quanta inputs before self.now → result ≡ head_at (next_input inputs before) before }
     {
-        self.at_cursor().head
+        self.at_cursor().head.packet()
     }
 
     /// Whether a head is held.
     pub fn holds_head(&self) -> bool
         ensures { result ≡ list_any (λ (s : Served). is_some s.head) self.now.row.items }
     {
-        self.row
-            .as_slice()
-            .iter()
-            .any(|served| served.head.is_some())
+        self.row.as_slice().iter().any(|served| served.is_held())
     }
 
     /// Whether no head is held, and the deficit of the input whose turn it is is its quantum. A turn that gets nothing then changes nothing.
@@ -146,7 +152,7 @@ impl Deficits {
         ensures { IfOk result (λ _. heads.new.items ≡ heads.old.items ++ heads_in self.now.row.items) }
     {
         for served in self.row.as_slice() {
-            if let Some(head) = served.head {
+            if let Some(head) = served.head.packet() {
                 heads.push(head)?;
             }
         }
@@ -177,7 +183,7 @@ impl Deficits {
     /// Pulls a DRRSched.
     #[cycle(pull)]
     #[inline(never)]
-    pub fn pull<Q: Ask>(nodes: &mut Nodes, q: &mut Q, node: u16) -> Option<Packet>
+    pub fn pull<Q: Ask>(nodes: &mut Nodes, q: &mut Q, node: u16) -> Got
         requires can_pull { CanPull nodes.old node (edges_of nodes.old.inputs.items node) }
         requires holds { IfSome (slice_get nodes.old.states.items node) IsDrr }
         ensures { WasPulled Q.gives nodes.old nodes.new q.old q.new node result }
@@ -187,7 +193,7 @@ impl Deficits {
         };
         let got = deficits.turn(nodes, q, node);
         nodes.put(node, State::Drr(deficits));
-        got
+        Got::new(got)
     }
 
     // The turn of a DRRSched.
@@ -315,11 +321,12 @@ impl Deficits {
         ensures few { result ≤ most }
         ensures none { HoldsNoneAhead self.now result }
     {
-        let mut count = 0;
-        while count < most && self.row[usize::from(self.cursor + count)].head.is_none() {
-            count += 1;
+        for count in 0..most {
+            if self.row[usize::from(self.cursor + count)].is_held() {
+                return count;
+            }
         }
-        count
+        most
     }
 
     /// How many inputs, from the one whose turn it is on and `count` at most, are queues known to be empty, without a gap.
@@ -394,10 +401,10 @@ impl Deficits {
 }
 
 // An input for each quantum, before its first arrival.
-fn all_waiting(alloc: Global, quanta: &[u32]) -> Result<SmallVec<Served, 2>, AllocError>
+fn all_waiting(alloc: Global, quanta: &[u32]) -> Result<Vec<Served>, AllocError>
     ensures { IfOk result (λ row. row.items ≡ map waiting quanta.now) }
 {
-    let mut row = SmallVec::new(alloc);
+    let mut row = Vec::new(alloc);
     for quantum in quanta {
         row.push(Served::waiting(*quantum))?;
     }

@@ -2,6 +2,7 @@
 
 use crate::ask::Ask;
 use crate::session::drr::Deficits;
+use crate::session::got::Got;
 use crate::session::idle::IdleInputs;
 use crate::session::inputs::{Input, Inputs};
 use crate::session::log::Log;
@@ -49,7 +50,7 @@ impl Nodes {
     /// Pulls a node, as its class does, and returns its result.
     #[cycle(pull)]
     #[inline(always)]
-    pub fn pull<Q: Ask>(&mut self, q: &mut Q, node: u16) -> Option<Packet>
+    pub fn pull<Q: Ask>(&mut self, q: &mut Q, node: u16) -> Got
         requires can_pull { CanPull self.old node (edges_of self.old.inputs.items node) }
         ensures { WasPulled Q.gives self.old self.new q.old q.new node result }
     {
@@ -299,7 +300,7 @@ impl Nodes {
     {
         match self.inputs[node as usize].each[input as usize] {
             Input::Queue(leaf) => q.ask(leaf),
-            Input::Node(child) => self.pull(q, child),
+            Input::Node(child) => self.pull(q, child).packet(),
         }
     }
 }

@@ -7,6 +7,7 @@ ghost use Rattle.clk_sched.specs.inside.Pulling.{CanPull};
 ghost use Rattle.clk_sched.specs.inside.Turning.{WasPulled};
 
 use crate::ask::Ask;
+use crate::session::got::Got;
 use crate::session::nodes::Nodes;
 use clk_packet::Packet;
 
@@ -27,14 +28,14 @@ pub fn pull_device<Q: Ask>(nodes: &mut Nodes, q: &mut Q) -> Option<Packet>
 /// Pulls a PrioSched.
 #[cycle(pull)]
 #[inline(never)]
-pub fn pull_prio<Q: Ask>(nodes: &mut Nodes, q: &mut Q, node: u16) -> Option<Packet>
+pub fn pull_prio<Q: Ask>(nodes: &mut Nodes, q: &mut Q, node: u16) -> Got
     requires can_pull { CanPull nodes.old node (edges_of nodes.old.inputs.items node) }
     requires holds { IfSome (slice_get nodes.old.states.items node) IsPrio }
     ensures { WasPulled Q.gives nodes.old nodes.new q.old q.new node result }
 {
     let inputs = nodes.inputs[node as usize].each.len() as u16;
     match nodes.ask_in_turn(q, node, 0, inputs, false) {
-        Some((_, packet)) => Some(packet),
-        None => None,
+        Some((_, packet)) => Got::new(Some(packet)),
+        None => Got::new(None),
     }
 }

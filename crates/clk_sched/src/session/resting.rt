@@ -66,7 +66,7 @@ impl Nodes {
 
     /// Skips an input of a node, if visits aren't kept and it is known that asking it gives nothing and changes nothing. Records a visit to
     /// it, and returns whether it did.
-    #[inline]
+    #[inline(always)]
     pub fn skip<Q: Ask>(&mut self, q: &Q, node: u16, input: u16) -> bool
         requires can_pull { CanPull self.old node (edges_at self.old.inputs.items node input) }
         requires within { IsSome (input_at self.old.inputs.items node input) }
@@ -84,7 +84,7 @@ impl Nodes {
     }
 
     /// Whether what stands at an input of a node is known to give nothing and to change nothing if it is asked.
-    #[inline]
+    #[inline(always)]
     fn rests_at<Q: Ask>(&self, q: &Q, node: u16, input: u16) -> bool
         requires can_pull { CanPull self.now node (edges_at self.now.inputs.items node input) }
         requires within { IsSome (input_at self.now.inputs.items node input) }
@@ -107,8 +107,9 @@ impl Nodes {
     }
 
     /// Whether all queues below a node are known to be empty, and it and all nodes below it are at rest.
-    // Queues between the least and the greatest leaf that stand elsewhere count too. Mostly there are none.
-    #[inline(always)]
+    // Queues between the least and the greatest leaf that stand elsewhere count too. Mostly there are none. A function of its own, so that an
+    // input where a queue stands is looked at without a call.
+    #[inline(never)]
     fn is_idle<Q: Ask>(&self, q: &Q, node: u16) -> bool
         requires there { node < length self.now.inputs.items }
         requires wired { AreWired self.now.inputs.items }

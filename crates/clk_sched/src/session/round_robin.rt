@@ -1,10 +1,10 @@
 //! The state and the pull of a RoundRobinSched.
 
 use crate::ask::Ask;
+use crate::session::got::Got;
 use crate::session::inputs::input_after;
 use crate::session::nodes::Nodes;
 use crate::session::state::State;
-use clk_packet::Packet;
 
 /// The input at which the next pull begins.
 #[derive(Clone, Copy, Debug)]
@@ -24,7 +24,7 @@ impl Beginning {
     // What it holds stays in its place, since nothing of it is needed while inputs are asked.
     #[cycle(pull)]
     #[inline(never)]
-    pub fn pull<Q: Ask>(nodes: &mut Nodes, q: &mut Q, node: u16) -> Option<Packet>
+    pub fn pull<Q: Ask>(nodes: &mut Nodes, q: &mut Q, node: u16) -> Got
         requires can_pull { CanPull nodes.old node (edges_of nodes.old.inputs.items node) }
         requires holds { IfSome (slice_get nodes.old.states.items node) IsRoundRobin }
         ensures { WasPulled Q.gives nodes.old nodes.new q.old q.new node result }
@@ -53,7 +53,7 @@ impl Beginning {
     // neither pays for the other.
     #[cycle(pull)]
     #[inline(never)]
-    fn ask_first<Q: Ask>(nodes: &mut Nodes, q: &mut Q, node: u16, input: u16) -> Option<Packet>
+    fn ask_first<Q: Ask>(nodes: &mut Nodes, q: &mut Q, node: u16, input: u16) -> Got
         requires can_pull { CanPull nodes.old node (edges_of nodes.old.inputs.items node) }
         requires holds { slice_get nodes.old.states.items node ≡ Some (RoundRobin (record { input = input })) }
         ensures { WasPulled Q.gives nodes.old nodes.new q.old q.new node result }
@@ -63,13 +63,13 @@ impl Beginning {
         };
         let inputs = nodes.inputs[node as usize].each.len() as u16;
         Beginning::begin_at(nodes, node, input_after(input, inputs));
-        Some(packet)
+        Got::new(Some(packet))
     }
 
     // Goes on with the turn of a RoundRobinSched that asked the first so many inputs, one at most, which gave nothing.
     #[cycle(pull)]
     #[inline(never)]
-    fn ask_on<Q: Ask>(nodes: &mut Nodes, q: &mut Q, node: u16, asked: u16) -> Option<Packet>
+    fn ask_on<Q: Ask>(nodes: &mut Nodes, q: &mut Q, node: u16, asked: u16) -> Got
         requires { (b : Beginning) × MayAskOn Q.gives nodes.old q.old node (RoundRobin b) (b.input ∷ []) asked }
         ensures { (b : Beginning) (m : MayAskOn Q.gives nodes.old q.old node (RoundRobin b) (b.input ∷ []) asked) → WasPulled Q.gives m.first nodes.new m.before q.new node result }
     {
@@ -85,14 +85,14 @@ impl Beginning {
         ) {
             let input = input_after(first + asked + place, inputs);
             Beginning::begin_at(nodes, node, input);
-            return Some(packet);
+            return Got::new(Some(packet));
         }
         match nodes.ask_in_turn(q, node, 0, first, true) {
             Some((place, packet)) => {
                 Beginning::begin_at(nodes, node, place + 1);
-                Some(packet)
+                Got::new(Some(packet))
             }
-            None => None,
+            None => Got::new(None),
         }
     }
 

@@ -5,6 +5,7 @@ ghost use Rattle.clk_packet.specs.Limits.{most_rate, most_burst};
 ghost use Rattle.clk_sched.specs.Limits.{end_of_moments};
 
 use crate::ask::Ask;
+use crate::session::got::Got;
 use crate::session::inputs::Input;
 use crate::session::nodes::Nodes;
 use crate::session::state::State;
@@ -107,7 +108,7 @@ impl Bucket {
     // walked down and up in loops: a processor mispredicts the returns of as many nested calls.
     #[cycle(pull)]
     #[inline(never)]
-    pub fn pull<Q: Ask>(nodes: &mut Nodes, q: &mut Q, node: u16) -> Option<Packet>
+    pub fn pull<Q: Ask>(nodes: &mut Nodes, q: &mut Q, node: u16) -> Got
         requires can_pull { CanPull nodes.old node (edges_of nodes.old.inputs.items node) }
         requires holds { IfSome (slice_get nodes.old.states.items node) IsShaper }
         ensures { WasPulled Q.gives nodes.old nodes.new q.old q.new node result }
@@ -115,12 +116,12 @@ impl Bucket {
         let (last, token) = Bucket::take_down(nodes, node);
         if !token {
             Bucket::answer_up(nodes, node, last, None);
-            return None;
+            return Got::new(None);
         }
         let got = nodes.ask(q, last, 0);
         Bucket::answer_at(nodes, last, got);
         Bucket::answer_up(nodes, node, last, got);
-        got
+        Got::new(got)
     }
 
     // Takes a token of this Shaper and of each below it in a chain, up to the first that has none. Returns the last that was tried, and

@@ -7,10 +7,10 @@ ghost use Rattle.clk_sched.specs.Laws.Stride.{stride_of};
 ghost use Rattle.clk_sched.specs.inside.Ranks.{greatest_stride, IsRankOf, FollowOneAnother, HasRisingPasses, HasRisingPasses-prop, AreInOrder, AreUpTo, is_up_to, put_rank, put_all, at_pass, after_win, first_pass, from_least, less, first_rank, inputs_in, IsRowWon};
 
 use crate::ask::Ask;
+use crate::session::got::Got;
 use crate::session::nodes::Nodes;
 use crate::session::state::State;
 use clk_packet::Packet;
-use smallvec::SmallVec;
 use std::alloc::{AllocError, Global};
 use std::marker::Model;
 
@@ -22,7 +22,7 @@ const AT_ONCE: usize = 8;
 
 /// An input with its pass, less what was subtracted from all passes.
 // Both are one number, so that a rank is read, compared and written at once.
-#[derive(Clone, Copy, Debug, Default, PartialEq, Eq)]
+#[derive(Clone, Copy, Debug, PartialEq, Eq)]
 pub struct Rank {
     number: u64,
 }
@@ -103,8 +103,8 @@ impl Rank {
 /// is ever above 65,536: a pull subtracts the winner's pass before it adds its stride.
 #[derive(Drop)]
 pub struct Passes {
-    row: SmallVec<Rank, 2>,
-    strides: SmallVec<u32, 4>,
+    row: Vec<Rank>,
+    strides: Vec<u32>,
     // Whether inputs before the winner were asked when a packet was last given. Then the first may well be idle.
     vain: bool,
     ghost ranks: { All (IsRankOf (length strides.items)) row.items },
@@ -175,7 +175,7 @@ impl Passes {
     /// Pulls a StrideSched.
     #[cycle(pull)]
     #[inline(never)]
-    pub fn pull<Q: Ask>(nodes: &mut Nodes, q: &mut Q, node: u16) -> Option<Packet>
+    pub fn pull<Q: Ask>(nodes: &mut Nodes, q: &mut Q, node: u16) -> Got
         requires can_pull { CanPull nodes.old node (edges_of nodes.old.inputs.items node) }
         requires holds { IfSome (slice_get nodes.old.states.items node) IsStride }
         ensures { WasPulled Q.gives nodes.old nodes.new q.old q.new node result }
@@ -190,7 +190,7 @@ impl Passes {
     // doesn't take them out and put them back.
     #[cycle(pull)]
     #[inline(always)]
-    fn ask_first<Q: Ask>(nodes: &mut Nodes, q: &mut Q, node: u16, input: u16) -> Option<Packet>
+    fn ask_first<Q: Ask>(nodes: &mut Nodes, q: &mut Q, node: u16, input: u16) -> Got
         requires can_pull { CanPull nodes.old node (edges_of nodes.old.inputs.items node) }
         requires holds { IfSome (slice_get nodes.old.states.items node) IsStride }
         requires first { (held : Box Passes) → slice_get nodes.old.states.items node ≡ Some (Stride held) → take 1 (inputs_in held.value.row.items) ≡ input ∷ [] }
@@ -200,7 +200,7 @@ impl Passes {
             return Passes::ask_on(nodes, q, node, 1);
         };
         Passes::win_first_at(nodes, node);
-        Some(packet)
+        Got::new(Some(packet))
     }
 
     // The first input of the row of a StrideSched.
@@ -233,7 +233,7 @@ impl Passes {
     /// Goes on with the turn of a StrideSched that asked the first so many inputs of its row, which gave nothing.
     #[cycle(pull)]
     #[inline(never)]
-    pub fn ask_on<Q: Ask>(nodes: &mut Nodes, q: &mut Q, node: u16, asked: usize) -> Option<Packet>
+    pub fn ask_on<Q: Ask>(nodes: &mut Nodes, q: &mut Q, node: u16, asked: usize) -> Got
         requires { (held : Box Passes) × MayAskOn Q.gives nodes.old q.old node (Stride held) (inputs_in held.value.row.items) asked }
         ensures { (held : Box Passes) (m : MayAskOn Q.gives nodes.old q.old node (Stride held) (inputs_in held.value.row.items) asked) → WasPulled Q.gives m.first nodes.new m.before q.new node result }
     {
@@ -242,7 +242,7 @@ impl Passes {
         };
         let got = passes.turn(nodes, q, node, asked);
         nodes.put(node, State::Stride(passes));
-        got
+        Got::new(got)
     }
 
     // The turn of a StrideSched that asked the first so many inputs of its row.
@@ -322,10 +322,10 @@ fn follow_one_another(ranks: &[Rank]) -> bool
 }
 
 /// So many inputs, with a pass of 0 each.
-fn first_row(alloc: Global, inputs: u16) -> Result<SmallVec<Rank, 2>, AllocError>
+fn first_row(alloc: Global, inputs: u16) -> Result<Vec<Rank>, AllocError>
     ensures { IfOk result (λ row. row.items ≡ map first_rank (range_with_len 0 inputs)) }
 {
-    let mut row = SmallVec::new(alloc);
+    let mut row = Vec::new(alloc);
     for input in 0..inputs {
         row.push(Rank::new(0, input))?;
     }
@@ -333,11 +333,11 @@ fn first_row(alloc: Global, inputs: u16) -> Result<SmallVec<Rank, 2>, AllocError
 }
 
 /// The stride of each input, by its tickets.
-fn strides_of(alloc: Global, tickets: &[u32]) -> Result<SmallVec<u32, 4>, AllocError>
+fn strides_of(alloc: Global, tickets: &[u32]) -> Result<Vec<u32>, AllocError>
     requires { All (λ n. 1 ≤ n) tickets.now }
     ensures { IfOk result (λ strides. strides.items ≡ map stride_of tickets.now) }
 {
-    let mut strides = SmallVec::new(alloc);
+    let mut strides = Vec::new(alloc);
     for count in tickets {
         strides.push(GREATEST_STRIDE / count)?;
     }

@@ -12,7 +12,7 @@ use Rattle.clk_sched.specs.declared.session.inputs.Input.TheVariants.{Node}
 use Rattle.clk_sched.specs.declared.session.state.State.TheVariants.{RoundRobin, Drr, Stride}
 use Rattle.clk_sched.specs.inside.Places.{edges_of, edges_in, input_at}
 use Rattle.clk_sched.specs.inside.Holds.OfClass.{IsStride, IsShaper}
-use Rattle.clk_sched.specs.inside.Pulling.{CanPull}
+use Rattle.clk_sched.specs.inside.Pulling.{CanPull, Asks}
 use Rattle.clk_sched.specs.inside.Ranks.{Ranked, AreInOrder, inputs_in}
 use Rattle.clk_sched.proofs.Lists.Ranges.{range-front}
 use Rattle.clk_sched.proofs.Nodes.Asking.{IsAsking, asking-first, asked-vain, answers-then, asking-ready, asking-given, asking-next, asking-all}
@@ -23,8 +23,9 @@ use Rattle.clk_sched.proofs.Nodes.Placed.{can-turn, kept-there, passes-same, pul
 use Rattle.clk_sched.proofs.Turns.TurnPrio.{prio-asks, prio-pulled}
 use Rattle.clk_sched.proofs.Turns.TurnRoundRobin.{Begins, begins}
 use Rattle.clk_sched.proofs.Turns.RoundRobinAsks as round
-use Rattle.clk_sched.proofs.Turns.RoundRobinAsks.{round-there, on-begins, on-may, on-first, on-second-may, on-second, on-neither, on-same, on-found}
+use Rattle.clk_sched.proofs.Turns.RoundRobinAsks.{round-none, on-begins, on-may, on-first, on-second-may, on-second, on-neither, on-same, on-found, on-few}
 use Rattle.clk_sched.proofs.Nodes.First.{on-none, on-vain}
+use Rattle.clk_sched.proofs.Nodes.Got.{pulled-got}
 use Rattle.clk_sched.proofs.Nodes.Ordered.{item-there}
 use Rattle.std.proofs.lemmas.Option.{get_or_from_slice_get}
 use Rattle.clk_sched.specs.declared.session.round_robin.Beginning.{Beginning}
@@ -32,7 +33,7 @@ use Rattle.clk_sched.proofs.Nodes.Logged.{queue-answers, asked-logged}
 use Rattle.clk_sched.proofs.Turns.LooksDrr.{looks-at-asked}
 use Rattle.clk_sched.proofs.Turns.TurnDrr.{looks-below, making-first, making-can, making-next, making-passed, making-all, had-ended}
 use Rattle.clk_sched.proofs.Turns.TurnStride.{stride-in_order}
-use Rattle.clk_sched.proofs.Turns.StrideAsks.{left-after, left-order, turned-won, turned-lost, out-may, out-there, out-pulled, stride-there, first-may, first-some, first-order, first-won}
+use Rattle.clk_sched.proofs.Turns.StrideAsks.{left-after, left-order, turned-won, turned-lost, out-may, out-there, out-pulled, stride-there, first-may, first-some, first-order, first-won, stride-none}
 use Rattle.clk_sched.proofs.Turns.ShaperRow.{below-refused, below-answered, whole-answered, answers-keep, goes-may, goes-room, goes-edges, goes-order, goes-inputs}
 use Rattle.clk_sched.specs.inside.Tokens.{GoesDown}
 use Rattle.clk_sched.specs.inside.Turning.{HasAsked, HasAskedAll, WasPulled}
@@ -66,7 +67,8 @@ nodes::Nodes::ask-returns-in-Node-clause-asks g t c =
     let table = c.args.self.now.inputs.items in
     let place = entry table c.args.node c.index.result.now (c.requires.can_pull.there) c.index.ensures in
     let input : input_at table c.args.node c.args.input ≡ Some (Node c.in-Node.child) = input-is table c.args.node c.args.input c.index.result.now c.index-2.result.now place c.requires.within c.index-2.ensures ∙ ap Some c.in-Node.is in
-    asks-child c.args.self.now c.pull.new.self c.args.node c.args.input c.in-Node.child c.pull.result input c.pull.ensures.pulls
+    subst (Asks c.args.self.now c.pull.new.self c.args.node c.args.input) (sym c.packet.ensures)
+    (asks-child c.args.self.now c.pull.new.self c.args.node c.args.input c.in-Node.child c.pull.result input c.pull.ensures.pulls)
 
 pub nodes::Nodes::ask_in_order-pass_resting_of-place-requires-clause-can_pull : goal.nodes::Nodes::ask_in_order-pass_resting_of-place-requires-clause-can_pull
 nodes::Nodes::ask_in_order-pass_resting_of-place-requires-clause-can_pull g t c =
@@ -225,16 +227,18 @@ prio::pull_prio-returns-in-Some g t c =
     let p = c.index.result.now in
     let place = entry c.args.nodes.now.inputs.items c.args.node p c.requires.can_pull.there c.index.ensures in
     let count = c.len-inputs.ensures ∙ p.each.ok.0 in
-    subst (WasPulled g.Q.Ask.gives c.args.nodes.now c.ask_in_turn.new.self c.args.q.now c.ask_in_turn.new.q c.args.node) (ap packet_of c.in-Some.is ∙ ap Some (sym c.in-Some.packet-is))
-    (prio-pulled g.Q.Ask.gives c.args.nodes.now c.ask_in_turn.new.self c.args.q.now c.ask_in_turn.new.q c.args.node c.len-inputs.result p c.ask_in_turn.result c.requires.can_pull c.requires.holds place count c.ask_in_turn.ensures.place c.ask_in_turn.ensures.asked)
+    pulled-got c.new.ensures
+    (subst (WasPulled g.Q.Ask.gives c.args.nodes.now c.ask_in_turn.new.self c.args.q.now c.ask_in_turn.new.q c.args.node) (ap packet_of c.in-Some.is ∙ ap Some (sym c.in-Some.packet-is))
+    (prio-pulled g.Q.Ask.gives c.args.nodes.now c.ask_in_turn.new.self c.args.q.now c.ask_in_turn.new.q c.args.node c.len-inputs.result p c.ask_in_turn.result c.requires.can_pull c.requires.holds place count c.ask_in_turn.ensures.place c.ask_in_turn.ensures.asked))
 
 pub prio::pull_prio-returns-in-None : goal.prio::pull_prio-returns-in-None
 prio::pull_prio-returns-in-None g t c =
     let p = c.index.result.now in
     let place = entry c.args.nodes.now.inputs.items c.args.node p c.requires.can_pull.there c.index.ensures in
     let count = c.len-inputs.ensures ∙ p.each.ok.0 in
-    prio-pulled g.Q.Ask.gives c.args.nodes.now c.ask_in_turn.new.self c.args.q.now c.ask_in_turn.new.q c.args.node c.len-inputs.result p None c.requires.can_pull c.requires.holds place count tt
-    (subst (HasAskedAll g.Q.Ask.gives c.args.nodes.now c.ask_in_turn.new.self c.args.q.now c.ask_in_turn.new.q c.args.node (range_with_len 0 c.len-inputs.result)) c.in-None.is c.ask_in_turn.ensures.asked)
+    pulled-got c.new-in-None.ensures
+    (prio-pulled g.Q.Ask.gives c.args.nodes.now c.ask_in_turn.new.self c.args.q.now c.ask_in_turn.new.q c.args.node c.len-inputs.result p None c.requires.can_pull c.requires.holds place count tt
+    (subst (HasAskedAll g.Q.Ask.gives c.args.nodes.now c.ask_in_turn.new.self c.args.q.now c.ask_in_turn.new.q c.args.node (range_with_len 0 c.len-inputs.result)) c.in-None.is c.ask_in_turn.ensures.asked))
 
 pub nodes::Nodes::pull-ask_on-requires : goal.nodes::Nodes::pull-ask_on-requires
 nodes::Nodes::pull-ask_on-requires g t c =
@@ -276,12 +280,12 @@ drr::Deficits::turn-loop-looks-init g t c = search (rules, making-first)
 
 pub drr::Deficits::turn-look_at_head-requires-clause-can_pull : goal.drr::Deficits::turn-look_at_head-requires-clause-can_pull
 drr::Deficits::turn-look_at_head-requires-clause-can_pull g t c =
-    let below : c.loop-looks.looks < length c.args.self.now.row.items = looks-below c.args.self.now c.loop-looks.looks c.len-inputs.result c.loop-looks-test.true c.len-inputs.ensures.value in
+    let below : c.loop-looks.looks < length c.args.self.now.row.items = looks-below c.args.self.now c.loop-looks.looks c.len-inputs.result c.loop-looks-test.true c.len-inputs.ensures in
     (making-can g.Q.Ask.gives c.args.nodes.now c.loop-looks.nodes c.args.q.now c.loop-looks.q c.args.node c.args.self.now c.loop-looks.self c.loop-looks.looks c.requires.can_pull c.requires.fits c.loop-looks.invariant.0 below).0
 
 pub drr::Deficits::turn-look_at_head-requires-clause-within : goal.drr::Deficits::turn-look_at_head-requires-clause-within
 drr::Deficits::turn-look_at_head-requires-clause-within g t c =
-    let below : c.loop-looks.looks < length c.args.self.now.row.items = looks-below c.args.self.now c.loop-looks.looks c.len-inputs.result c.loop-looks-test.true c.len-inputs.ensures.value in
+    let below : c.loop-looks.looks < length c.args.self.now.row.items = looks-below c.args.self.now c.loop-looks.looks c.len-inputs.result c.loop-looks-test.true c.len-inputs.ensures in
     (making-can g.Q.Ask.gives c.args.nodes.now c.loop-looks.nodes c.args.q.now c.loop-looks.q c.args.node c.args.self.now c.loop-looks.self c.loop-looks.looks c.requires.can_pull c.requires.fits c.loop-looks.invariant.0 below).1
 
 pub drr::Deficits::turn-returns-then-look_at_head : goal.drr::Deficits::turn-returns-then-look_at_head
@@ -292,7 +296,7 @@ drr::Deficits::turn-loop-looks-preserved-in-Some g t c = search (rules, looks-be
 
 pub drr::Deficits::turn-look_by_asking-got-requires : goal.drr::Deficits::turn-look_by_asking-got-requires
 drr::Deficits::turn-look_by_asking-got-requires g t c =
-    let below : c.loop-looks.looks < length c.args.self.now.row.items = looks-below c.args.self.now c.loop-looks.looks c.len-inputs.result c.loop-looks-test.true c.len-inputs.ensures.value in
+    let below : c.loop-looks.looks < length c.args.self.now.row.items = looks-below c.args.self.now c.loop-looks.looks c.len-inputs.result c.loop-looks-test.true c.len-inputs.ensures in
     let can = making-can g.Q.Ask.gives c.args.nodes.now c.loop-looks.nodes c.args.q.now c.loop-looks.q c.args.node c.args.self.now c.loop-looks.self c.loop-looks.looks c.requires.can_pull c.requires.fits c.loop-looks.invariant.0 below in
     λ κs le. (omega arith, (search, (can.0, (can.1, subst (IsHead c.loop-looks.self) c.in-None.is c.head-head.ensures.held))))
 
@@ -301,7 +305,7 @@ drr::Deficits::turn-returns-then-passed g t c = search (rules, looks-below, had-
 
 pub drr::Deficits::turn-pass_over_idle-looks-requires : goal.drr::Deficits::turn-pass_over_idle-looks-requires
 drr::Deficits::turn-pass_over_idle-looks-requires g t c =
-    let below : c.loop-looks.looks < length c.args.self.now.row.items = looks-below c.args.self.now c.loop-looks.looks c.len-inputs.result c.loop-looks-test.true c.len-inputs.ensures.value in
+    let below : c.loop-looks.looks < length c.args.self.now.row.items = looks-below c.args.self.now c.loop-looks.looks c.len-inputs.result c.loop-looks-test.true c.len-inputs.ensures in
     record {
       first = c.args.nodes.now;
       before = c.args.q.now;
@@ -315,7 +319,7 @@ drr::Deficits::turn-pass_over_idle-looks-requires g t c =
 
 pub drr::Deficits::turn-loop-looks-preserved-then-vain : goal.drr::Deficits::turn-loop-looks-preserved-then-vain
 drr::Deficits::turn-loop-looks-preserved-then-vain g t c =
-    let below : c.loop-looks.looks < length c.args.self.now.row.items = looks-below c.args.self.now c.loop-looks.looks c.len-inputs.result c.loop-looks-test.true c.len-inputs.ensures.value in
+    let below : c.loop-looks.looks < length c.args.self.now.row.items = looks-below c.args.self.now c.loop-looks.looks c.len-inputs.result c.loop-looks-test.true c.len-inputs.ensures in
     let few = c.pass_over_idle-looks.ensures.few in (
       c.pass_over_idle-looks.ensures.goes_on c.args.nodes.now c.args.q.now c.args.self.now c.loop-looks.looks c.loop-looks.invariant.0 (omega (arith, below, few)),
       omega (arith, below, few),
@@ -337,18 +341,10 @@ round_robin::Beginning::pull-ask_first-requires g t c =
     λ κs le. (omega arith, (search, (c.requires.can_pull, subst (λ o. IfSome o (λ input. slice_get c.args.nodes.now.states.items c.args.node ≡ Some (RoundRobin (record { input = input })))) c.in-Some.is c.first_input.ensures)))
 
 pub round_robin::Beginning::pull-ask_on-requires : goal.round_robin::Beginning::pull-ask_on-requires
-round_robin::Beginning::pull-ask_on-requires g t c =
-    let a = c.args.nodes.now in
-    let x = c.args.node in
-    let held = round-there a.states.items x (state-there a x _ c.requires.can_pull) c.requires.holds in
-    λ κs le. (omega arith, (search, (held.0, on-none g.Q.Ask.gives a c.args.q.now x (RoundRobin held.0) (held.0.input ∷ []) c.requires.can_pull held.1)))
+round_robin::Beginning::pull-ask_on-requires g t c = λ κs le. (omega arith, (search, round-none g.Q.Ask.gives c.args.nodes.now c.args.q.now c.args.node c.requires.can_pull c.requires.holds))
 
 pub round_robin::Beginning::pull-returns-in-None : goal.round_robin::Beginning::pull-returns-in-None
-round_robin::Beginning::pull-returns-in-None g t c =
-    let a = c.args.nodes.now in
-    let x = c.args.node in
-    let held = round-there a.states.items x (state-there a x _ c.requires.can_pull) c.requires.holds in
-    c.ask_on.ensures held.0 (on-none g.Q.Ask.gives a c.args.q.now x (RoundRobin held.0) (held.0.input ∷ []) c.requires.can_pull held.1)
+round_robin::Beginning::pull-returns-in-None g t c = let on = round-none g.Q.Ask.gives c.args.nodes.now c.args.q.now c.args.node c.requires.can_pull c.requires.holds in c.ask_on.ensures on.0 on.1
 
 -- what stands at a node, in words of the inputs it has
 round-begins : (a : Nodes) (x : ℕ) (b : Beginning) → CanPull a x (edges_of a.inputs.items x) → slice_get a.states.items x ≡ Some (RoundRobin b) → (p : Inputs) × Begins a.inputs.items x (vec_len p.each) b.input × (slice_get a.inputs.items x ≡ Some p)
@@ -398,84 +394,35 @@ round_robin::Beginning::ask_first-returns g t c =
     let b : Beginning = record { input = c.args.input } in
     let p = c.index.result.now in
     let h = begins a x c.len-inputs.result b p c.requires.can_pull (subst (λ l. p ≡ get_or l x p) c.look.ensures.keeps.inputs c.index.ensures) c.len-inputs.ensures c.requires.holds in
-    round.first-gave g.Q.Ask.gives a c.args.q.now x c.len-inputs.result b c.requires.can_pull c.requires.holds h c.look.new.self c.begin_at.new.nodes c.look.new.q c.input_after.result c.look.result c.in-Some.packet c.in-Some.is c.look.ensures c.input_after.ensures c.begin_at.ensures
+    pulled-got c.new.ensures
+    (round.first-gave g.Q.Ask.gives a c.args.q.now x c.len-inputs.result b c.requires.can_pull c.requires.holds h c.look.new.self c.begin_at.new.nodes c.look.new.q c.input_after.result c.look.result c.in-Some.packet c.in-Some.is c.look.ensures c.input_after.ensures c.begin_at.ensures)
 
 pub round_robin::Beginning::ask_on-overflow_add-first : goal.round_robin::Beginning::ask_on-overflow_add-first
 round_robin::Beginning::ask_on-overflow_add-first g t c =
-    let n = c.args.nodes.now in
-    let b = c.of-beginning.result in
-    let p = c.index.result.now in
-    let count = c.len-inputs.result in
-    let all = c.len-inputs.ensures in
-    let place = c.index.ensures in
-    let m = on-found g.Q.Ask.gives n c.args.q.now c.args.node c.args.asked b c.of-beginning.ensures c.requires in
-    let h = on-begins g.Q.Ask.gives n c.args.q.now c.args.node c.args.asked b m count p place all in
-    let low = h.low in
-    let few = h.few in
-    let most = m.within in
-    omega (arith, low, few, most)
+    let few = on-few g.Q.Ask.gives c.args.nodes.now c.args.q.now c.args.node c.args.asked c.of-beginning.result c.len-inputs.result c.index.result.now c.of-beginning.ensures c.requires c.index.ensures c.len-inputs.ensures in
+    omega (arith, few)
 
 pub round_robin::Beginning::ask_on-overflow_sub-inputs : goal.round_robin::Beginning::ask_on-overflow_sub-inputs
 round_robin::Beginning::ask_on-overflow_sub-inputs g t c =
-    let n = c.args.nodes.now in
-    let b = c.of-beginning.result in
-    let p = c.index.result.now in
-    let count = c.len-inputs.result in
-    let all = c.len-inputs.ensures in
-    let place = c.index.ensures in
-    let m = on-found g.Q.Ask.gives n c.args.q.now c.args.node c.args.asked b c.of-beginning.ensures c.requires in
-    let h = on-begins g.Q.Ask.gives n c.args.q.now c.args.node c.args.asked b m count p place all in
-    let low = h.low in
-    let few = h.few in
-    let most = m.within in
-    omega (arith, low, few, most)
+    let few = on-few g.Q.Ask.gives c.args.nodes.now c.args.q.now c.args.node c.args.asked c.of-beginning.result c.len-inputs.result c.index.result.now c.of-beginning.ensures c.requires c.index.ensures c.len-inputs.ensures in
+    omega (arith, few)
 
 pub round_robin::Beginning::ask_on-overflow_sub-inputs-2 : goal.round_robin::Beginning::ask_on-overflow_sub-inputs-2
 round_robin::Beginning::ask_on-overflow_sub-inputs-2 g t c =
-    let n = c.args.nodes.now in
-    let b = c.of-beginning.result in
-    let p = c.index.result.now in
-    let count = c.len-inputs.result in
-    let all = c.len-inputs.ensures in
-    let place = c.index.ensures in
-    let m = on-found g.Q.Ask.gives n c.args.q.now c.args.node c.args.asked b c.of-beginning.ensures c.requires in
-    let h = on-begins g.Q.Ask.gives n c.args.q.now c.args.node c.args.asked b m count p place all in
-    let low = h.low in
-    let few = h.few in
-    let most = m.within in
-    omega (arith, low, few, most)
+    let few = on-few g.Q.Ask.gives c.args.nodes.now c.args.q.now c.args.node c.args.asked c.of-beginning.result c.len-inputs.result c.index.result.now c.of-beginning.ensures c.requires c.index.ensures c.len-inputs.ensures in
+    omega (arith, few)
 
 pub round_robin::Beginning::ask_on-overflow_add-first-in-Some : goal.round_robin::Beginning::ask_on-overflow_add-first-in-Some
 round_robin::Beginning::ask_on-overflow_add-first-in-Some g t c =
-    let n = c.args.nodes.now in
-    let b = c.of-beginning.result in
-    let p = c.index.result.now in
-    let count = c.len-inputs.result in
-    let all = c.len-inputs.ensures in
-    let place = c.index.ensures in
-    let m = on-found g.Q.Ask.gives n c.args.q.now c.args.node c.args.asked b c.of-beginning.ensures c.requires in
-    let h = on-begins g.Q.Ask.gives n c.args.q.now c.args.node c.args.asked b m count p place all in
-    let low = h.low in
-    let few = h.few in
-    let most = m.within in
-    let within = subst (λ k. IfSome k (λ g. g.0 < count - b.input - c.args.asked)) c.in-Some.is c.ask_in_turn.ensures.place in
-    omega (arith, low, few, most, within)
+    let few = on-few g.Q.Ask.gives c.args.nodes.now c.args.q.now c.args.node c.args.asked c.of-beginning.result c.len-inputs.result c.index.result.now c.of-beginning.ensures c.requires c.index.ensures c.len-inputs.ensures in
+    let within = subst (λ k. IfSome k (λ g. g.0 < c.len-inputs.result - c.of-beginning.result.input - c.args.asked)) c.in-Some.is c.ask_in_turn.ensures.place in
+    omega (arith, few, within)
 
 pub round_robin::Beginning::ask_on-overflow_add-first-in-Some-2 : goal.round_robin::Beginning::ask_on-overflow_add-first-in-Some-2
 round_robin::Beginning::ask_on-overflow_add-first-in-Some-2 g t c =
-    let n = c.args.nodes.now in
-    let b = c.of-beginning.result in
-    let p = c.index.result.now in
-    let count = c.len-inputs.result in
-    let all = c.len-inputs.ensures in
-    let place = c.index.ensures in
-    let m = on-found g.Q.Ask.gives n c.args.q.now c.args.node c.args.asked b c.of-beginning.ensures c.requires in
-    let h = on-begins g.Q.Ask.gives n c.args.q.now c.args.node c.args.asked b m count p place all in
-    let low = h.low in
-    let few = h.few in
-    let most = m.within in
-    let within = subst (λ k. IfSome k (λ g. g.0 < count - b.input - c.args.asked)) c.in-Some.is c.ask_in_turn.ensures.place in
-    omega (arith, low, few, most, within)
+    let few = on-few g.Q.Ask.gives c.args.nodes.now c.args.q.now c.args.node c.args.asked c.of-beginning.result c.len-inputs.result c.index.result.now c.of-beginning.ensures c.requires c.index.ensures c.len-inputs.ensures in
+    let within = subst (λ k. IfSome k (λ g. g.0 < c.len-inputs.result - c.of-beginning.result.input - c.args.asked)) c.in-Some.is c.ask_in_turn.ensures.place in
+    omega (arith, few, within)
 
 pub round_robin::Beginning::ask_on-ask_in_turn-requires : goal.round_robin::Beginning::ask_on-ask_in_turn-requires
 round_robin::Beginning::ask_on-ask_in_turn-requires g t c =
@@ -497,10 +444,11 @@ round_robin::Beginning::ask_on-returns-in-Some g t c d k =
     let count = c.len-inputs.result in
     let all = c.len-inputs.ensures in
     let place = c.index.ensures in
-    on-same g.Q.Ask.gives n c.begin_at.new.nodes c.args.q.now c.ask_in_turn.new.q c.args.node c.args.asked b d (Some c.in-Some.packet) c.of-beginning.ensures
+    pulled-got c.new.ensures
+    (on-same g.Q.Ask.gives n c.begin_at.new.nodes c.args.q.now c.ask_in_turn.new.q c.args.node c.args.asked b d (Some c.in-Some.packet) c.of-beginning.ensures
     (λ m.
     on-first g.Q.Ask.gives n c.args.q.now c.args.node c.args.asked b m count p place all c.ask_in_turn.new.self c.begin_at.new.nodes c.ask_in_turn.new.q c.in-Some.place c.input_after-input.result c.in-Some.packet c.ask_in_turn.result c.in-Some.is c.ask_in_turn.ensures.place
-    c.ask_in_turn.ensures.asked c.input_after-input.ensures c.begin_at.ensures) k
+    c.ask_in_turn.ensures.asked c.input_after-input.ensures c.begin_at.ensures) k)
 
 pub round_robin::Beginning::ask_on-ask_in_turn-requires-2 : goal.round_robin::Beginning::ask_on-ask_in_turn-requires-2
 round_robin::Beginning::ask_on-ask_in_turn-requires-2 g t c =
@@ -523,10 +471,11 @@ round_robin::Beginning::ask_on-returns-in-Some-ask_in_turn g t c d k =
     let count = c.len-inputs.result in
     let all = c.len-inputs.ensures in
     let place = c.index.ensures in
-    on-same g.Q.Ask.gives n c.begin_at-in-Some-ask_in_turn.new.nodes c.args.q.now c.ask_in_turn-2.new.q c.args.node c.args.asked b d (Some c.in-Some-ask_in_turn.packet) c.of-beginning.ensures
+    pulled-got c.new-in-Some-ask_in_turn.ensures
+    (on-same g.Q.Ask.gives n c.begin_at-in-Some-ask_in_turn.new.nodes c.args.q.now c.ask_in_turn-2.new.q c.args.node c.args.asked b d (Some c.in-Some-ask_in_turn.packet) c.of-beginning.ensures
     (λ m.
     on-second g.Q.Ask.gives n c.args.q.now c.args.node c.args.asked b m count p place all c.ask_in_turn.new.self c.ask_in_turn-2.new.self c.begin_at-in-Some-ask_in_turn.new.nodes c.ask_in_turn.new.q c.ask_in_turn-2.new.q c.in-Some-ask_in_turn.place c.in-Some-ask_in_turn.packet c.ask_in_turn.result c.ask_in_turn-2.result
-    c.in_default.is c.ask_in_turn.ensures.asked c.in-Some-ask_in_turn.is c.ask_in_turn-2.ensures.place c.ask_in_turn-2.ensures.asked c.begin_at-in-Some-ask_in_turn.ensures) k
+    c.in_default.is c.ask_in_turn.ensures.asked c.in-Some-ask_in_turn.is c.ask_in_turn-2.ensures.place c.ask_in_turn-2.ensures.asked c.begin_at-in-Some-ask_in_turn.ensures) k)
 
 pub round_robin::Beginning::ask_on-returns-in-None : goal.round_robin::Beginning::ask_on-returns-in-None
 round_robin::Beginning::ask_on-returns-in-None g t c d k =
@@ -536,10 +485,11 @@ round_robin::Beginning::ask_on-returns-in-None g t c d k =
     let count = c.len-inputs.result in
     let all = c.len-inputs.ensures in
     let place = c.index.ensures in
-    on-same g.Q.Ask.gives n c.ask_in_turn-2.new.self c.args.q.now c.ask_in_turn-2.new.q c.args.node c.args.asked b d None c.of-beginning.ensures
+    pulled-got c.new-in-None.ensures
+    (on-same g.Q.Ask.gives n c.ask_in_turn-2.new.self c.args.q.now c.ask_in_turn-2.new.q c.args.node c.args.asked b d None c.of-beginning.ensures
     (λ m.
     on-neither g.Q.Ask.gives n c.args.q.now c.args.node c.args.asked b m count p place all c.ask_in_turn.new.self c.ask_in_turn-2.new.self c.ask_in_turn.new.q c.ask_in_turn-2.new.q c.ask_in_turn.result c.ask_in_turn-2.result c.in_default.is c.ask_in_turn.ensures.asked c.in-None.is
-    c.ask_in_turn-2.ensures.asked) k
+    c.ask_in_turn-2.ensures.asked) k)
 
 pub stride::Passes::turn-ask_in_order-requires : goal.stride::Passes::turn-ask_in_order-requires
 stride::Passes::turn-ask_in_order-requires g t c =
@@ -589,8 +539,9 @@ stride::Passes::ask_on-put-requires g t c =
 pub stride::Passes::ask_on-returns : goal.stride::Passes::ask_on-returns
 stride::Passes::ask_on-returns g t c held m =
     let passes = c.in-Stride.passes in
-    out-pulled g.Q.Ask.gives c.args.nodes.now c.take.new.self c.turn-got.new.nodes c.put.new.self c.args.q.now c.turn-got.new.q c.args.node c.args.asked passes _ c.deref_mut.result.now c.turn-got.result
-    (record { held = held; may = m; state = c.take.ensures.state ∙ ap Some c.in-Stride.is; out = c.take.ensures.taken; is = c.deref_mut.ensures.value }) c.turn-got.ensures c.put.ensures
+    pulled-got c.new.ensures
+    (out-pulled g.Q.Ask.gives c.args.nodes.now c.take.new.self c.turn-got.new.nodes c.put.new.self c.args.q.now c.turn-got.new.q c.args.node c.args.asked passes _ c.deref_mut.result.now c.turn-got.result
+    (record { held = held; may = m; state = c.take.ensures.state ∙ ap Some c.in-Stride.is; out = c.take.ensures.taken; is = c.deref_mut.ensures.value }) c.turn-got.ensures c.put.ensures)
 
 -- the input that is asked first
 first-is : (o : Option ℕ) (i : ℕ) (order : List ℕ) → o ≡ Some i → IfSome o (λ input. take 1 order ≡ input ∷ []) → take 1 order ≡ i ∷ []
@@ -610,18 +561,10 @@ stride::Passes::pull-ask_first-requires g t c =
     )
 
 pub stride::Passes::pull-ask_on-requires : goal.stride::Passes::pull-ask_on-requires
-stride::Passes::pull-ask_on-requires g t c =
-    let a = c.args.nodes.now in
-    let x = c.args.node in
-    let held = stride-there a.states.items x (state-there a x _ c.requires.can_pull) c.requires.holds in
-    λ κs le. (omega arith, (search, (held.0, on-none g.Q.Ask.gives a c.args.q.now x (Stride held.0) (inputs_in held.0.value.row.items) c.requires.can_pull held.1)))
+stride::Passes::pull-ask_on-requires g t c = λ κs le. (omega arith, (search, stride-none g.Q.Ask.gives c.args.nodes.now c.args.q.now c.args.node c.requires.can_pull c.requires.holds))
 
 pub stride::Passes::pull-returns-in-None : goal.stride::Passes::pull-returns-in-None
-stride::Passes::pull-returns-in-None g t c =
-    let a = c.args.nodes.now in
-    let x = c.args.node in
-    let held = stride-there a.states.items x (state-there a x _ c.requires.can_pull) c.requires.holds in
-    c.ask_on.ensures held.0 (on-none g.Q.Ask.gives a c.args.q.now x (Stride held.0) (inputs_in held.0.value.row.items) c.requires.can_pull held.1)
+stride::Passes::pull-returns-in-None g t c = let on = stride-none g.Q.Ask.gives c.args.nodes.now c.args.q.now c.args.node c.requires.can_pull c.requires.holds in c.ask_on.ensures on.0 on.1
 
 pub stride::Passes::ask_first-look-requires : goal.stride::Passes::ask_first-look-requires
 stride::Passes::ask_first-look-requires g t c =
@@ -660,8 +603,9 @@ stride::Passes::ask_first-returns g t c =
     let a = c.args.nodes.now in
     let x = c.args.node in
     let held = stride-there a.states.items x (state-there a x _ c.requires.can_pull) c.requires.holds in
-    first-won g.Q.Ask.gives a c.args.q.now x held.0 c.requires.can_pull held.1 c.look.new.self c.win_first_at.new.nodes c.look.new.q c.args.input c.look.result c.in-Some.packet (c.requires.first held.0 held.1) c.in-Some.is c.look.ensures
-    (c.win_first_at.ensures held.0 (c.look.ensures.keeps.ahead x (omega arith) ∙ held.1))
+    pulled-got c.new.ensures
+    (first-won g.Q.Ask.gives a c.args.q.now x held.0 c.requires.can_pull held.1 c.look.new.self c.win_first_at.new.nodes c.look.new.q c.args.input c.look.result c.in-Some.packet (c.requires.first held.0 held.1) c.in-Some.is c.look.ensures
+    (c.win_first_at.ensures held.0 (c.look.ensures.keeps.ahead x (omega arith) ∙ held.1)))
 
 pub drr::Deficits::pull-turn-got-requires : goal.drr::Deficits::pull-turn-got-requires
 drr::Deficits::pull-turn-got-requires g t c =
@@ -678,15 +622,16 @@ drr::Deficits::pull-put-requires g t c =
 
 pub drr::Deficits::pull-returns : goal.drr::Deficits::pull-returns
 drr::Deficits::pull-returns g t c =
-    pulled-back g.Q.Ask.gives c.args.nodes.now c.take.new.self c.turn-got.new.nodes c.put.new.self c.args.q.now c.turn-got.new.q c.args.node _ (Drr c.in-Drr.deficits) (Drr _) c.turn-got.result c.take.ensures.taken
-    (c.take.ensures.state ∙ ap Some c.in-Drr.is) c.requires.can_pull (c.turn-got.ensures c.in-Drr.deficits _ (sym c.deref_mut.ensures.value) refl) c.put.ensures
+    pulled-got c.new.ensures
+    (pulled-back g.Q.Ask.gives c.args.nodes.now c.take.new.self c.turn-got.new.nodes c.put.new.self c.args.q.now c.turn-got.new.q c.args.node _ (Drr c.in-Drr.deficits) (Drr _) c.turn-got.result c.take.ensures.taken
+    (c.take.ensures.state ∙ ap Some c.in-Drr.is) c.requires.can_pull (c.turn-got.ensures c.in-Drr.deficits _ (sym c.deref_mut.ensures.value) refl) c.put.ensures)
 
 pub shaper::Bucket::pull-answer_up-requires-clause-room : goal.shaper::Bucket::pull-answer_up-requires-clause-room
 shaper::Bucket::pull-answer_up-requires-clause-room g t c =
     let room = goes-room c.args.nodes.now c.take_down-last.new.nodes c.args.node c.take_down-last.result.0 _ c.requires.can_pull c.take_down-last.ensures in omega (arith, room)
 
 pub shaper::Bucket::pull-returns-then-not-token : goal.shaper::Bucket::pull-returns-then-not-token
-shaper::Bucket::pull-returns-then-not-token g t c = search (rules, whole-answered, goes-order, below-refused)
+shaper::Bucket::pull-returns-then-not-token g t c = pulled-got c.new.ensures (search (rules, whole-answered, goes-order, below-refused))
 
 pub shaper::Bucket::pull-ask-got-requires : goal.shaper::Bucket::pull-ask-got-requires
 shaper::Bucket::pull-ask-got-requires g t c =
@@ -722,7 +667,9 @@ shaper::Bucket::pull-returns g t c =
     let b = c.take_down-last.new.nodes in
     let last = c.take_down-last.result.0 in
     let down : GoesDown a b c.args.node last true = subst (GoesDown a b c.args.node last) c.if-not-token.false c.take_down-last.ensures in
-    whole-answered g.Q.Ask.gives a c.answer_at.new.nodes c.answer_up-2.new.nodes c.args.q.now c.ask-got.new.q c.args.node last c.ask-got.result (goes-order a b c.args.node last _ c.take_down-last.ensures)
+    pulled-got c.new-2.ensures
+    (whole-answered g.Q.Ask.gives a c.answer_at.new.nodes c.answer_up-2.new.nodes c.args.q.now c.ask-got.new.q c.args.node last c.ask-got.result (goes-order a b c.args.node last _ c.take_down-last.ensures)
     (below-answered g.Q.Ask.gives a b c.ask-got.new.self c.answer_at.new.nodes c.args.q.now c.ask-got.new.q c.args.node last c.ask-got.result down
     (record { keeps = c.ask-got.ensures.keeps; answers = c.ask-got.ensures.answers; asks = c.ask-got.ensures.asks }) c.answer_at.ensures)
     c.answer_up-2.ensures
+    )

@@ -6,6 +6,6 @@ use Rattle.clk_sched.proofs.session.drr.Deficits.add_heads.Goals as goal
 
 pub loop-served-preserved : goal.loop-served-preserved
 loop-served-preserved c =
-    let row : c.as_slice-served-items.result.now ≡ c.args.self.now.row.items = c.as_slice-served-items.ensures in
+    let row : c.as_slice-served-items.result.now ≡ c.args.self.now.row.items = c.as_slice-served-items.ensures.value in
     let more = rw row at (filter_map-more (λ (s : Served). s.head) c.as_slice-served-items.result.now c.loop-served.served-index c.served-item.result (omega arith) c.served-item.is) in
     grind (arith, common_steps, more)

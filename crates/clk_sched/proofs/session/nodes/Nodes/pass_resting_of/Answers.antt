@@ -58,14 +58,12 @@ loop-place-preserved g c =
 
 pub returns-then-not-skip-clause-asked : goal.returns-then-not-skip-clause-asked
 returns-then-not-skip-clause-asked g c =
-    let h = asking-still g.Q.Ask.gives c.args.self.now c.loop-place.self c.pass_idle_of-idle.new.self c.args.q.now c.args.q.now c.args.node c.loop-place.place c.pass_idle_of-idle.result c.args.order.now (omega arith) c.loop-place.invariant.1 c.pass_idle_of-idle.ensures.asked in
     subst (λ now. HasAskedAll g.Q.Ask.gives c.args.self.now now c.args.q.now c.args.q.now c.args.node (take c.loop-place.place (inputs_in c.args.order.now)) None) (sym (c.skip.ensures.stays c.if-not-skip.true))
-    (record { keeps = h.keeps; answers = h.answers; asks = h.asks })
+    (asking-still g.Q.Ask.gives c.args.self.now c.loop-place.self c.pass_idle_of-idle.new.self c.args.q.now c.args.q.now c.args.node c.loop-place.place c.pass_idle_of-idle.result c.args.order.now (omega arith) c.loop-place.invariant.1 c.pass_idle_of-idle.ensures.asked)
 
 pub returns-clause-asked : goal.returns-clause-asked
 returns-clause-asked g c =
-    let h = c.loop-place.invariant.1 in
     let most = c.loop-place.invariant.0 in
     let test = c.loop-place-test.false in
     let all : c.loop-place.place ≡ length c.args.order.now = omega (arith, most, test) in
-    subst (λ n. HasAskedAll g.Q.Ask.gives c.args.self.now c.loop-place.self c.args.q.now c.args.q.now c.args.node (take n (inputs_in c.args.order.now)) None) all (record { keeps = h.keeps; answers = h.answers; asks = h.asks })
+    subst (λ n. HasAskedAll g.Q.Ask.gives c.args.self.now c.loop-place.self c.args.q.now c.args.q.now c.args.node (take n (inputs_in c.args.order.now)) None) all c.loop-place.invariant.1
