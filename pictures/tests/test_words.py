@@ -137,10 +137,16 @@ def test_a_full_disk_is_told_in_one_line() -> None:
     assert (done.returncode, done.stderr) == (1, "draw: standard output: No space left on device\n")
 
 
+def heed_interrupts() -> None:
+    """Undoes what a shell does to a command in the background: SIGINT is ignored there, and by all that it starts."""
+    signal.signal(signal.SIGINT, signal.SIG_DFL)
+
+
 def test_control_c_ends_it_with_one_line(tmp_path: Path) -> None:
     pipe = tmp_path / "pipe"
     os.mkfifo(pipe)
-    running = subprocess.Popen([PICTURES / "draw", "tree", pipe], stdout=subprocess.PIPE, stderr=subprocess.PIPE, text=True)
+    words: list[str | Path] = [PICTURES / "draw", "tree", pipe]
+    running = subprocess.Popen(words, stdout=subprocess.PIPE, stderr=subprocess.PIPE, text=True, preexec_fn=heed_interrupts)
     # Opening waits until the command reads.
     with open(pipe, "w"):
         running.send_signal(signal.SIGINT)
