@@ -1,9 +1,9 @@
 //! Which files a task may have: standard input stands for one input, and no file is overwritten that is read, or written for something else.
 //! Visits may go to standard output.
 
-use crate::answer::{AMPLE, answer, input};
-use crate::command::assert_said;
-use crate::files::{assert_left, write, write_all};
+use clk_command_fixtures::{
+    AMPLE, answer, compare, compare_files, input, is_said, write, write_all,
+};
 use clk_packet::Fault;
 use std::fs;
 use std::os::unix::fs::symlink;
@@ -85,8 +85,12 @@ fn no_file_that_is_named_twice_is_overwritten(rt: HostRuntime) {
     fs::hard_link(&rt, "out/kept.click", "out/hard.click").expect(&rt, "a link");
     symlink(&rt, "kept.click", "out/soft.click").expect(&rt, "a link");
     for (words, path) in TWICE {
-        assert_said(&rt, words, 2, "error: what is read, or written", path);
-        assert_left(&rt, &LEFT);
+        let begin = "error: what is read, or written";
+        assert!(rt;
+            is_said(&rt, words, 2, begin, path).expect(&rt, "ample memory"),
+            "at {words}"
+        );
+        assert_eq!(rt; compare_files(&rt, &LEFT), None, "at {words}");
     }
 }
 
@@ -181,17 +185,8 @@ fn standard_input_stands_for_one_input(rt: HostRuntime) {
             "",
         ),
     ] {
-        let answered = answer(&rt, words, input.as_bytes(), AMPLE, AMPLE).expect(
-            &rt,
-            "ample memory",
-        );
-        assert_eq!(rt; answered.outcome, outcome, "at {words}");
-        assert_eq!(rt;
-            answered.written.as_slice(),
-            written.as_bytes(),
-            "at {words}"
-        );
-        assert!(rt; answered.told.is_empty(), "at {words}");
+        let found = compare(&rt, words, input.as_bytes(), outcome, written.as_bytes());
+        assert_eq!(rt; found.expect(&rt, "ample memory"), None, "at {words}");
     }
 }
 
@@ -203,12 +198,8 @@ fn standard_input_is_not_two_inputs(rt: HostRuntime) {
         "run - -",
         "live --record out/unmade.script - -",
     ] {
-        assert_said(
-            &rt,
-            words,
-            2,
-            "error: '-' stands for standard input",
-            "two inputs\n",
-        );
+        let begin = "error: '-' stands for standard input";
+        let is_so = is_said(&rt, words, 2, begin, "two inputs\n");
+        assert!(rt; is_so.expect(&rt, "ample memory"), "at {words}");
     }
 }

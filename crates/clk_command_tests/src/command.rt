@@ -1,14 +1,10 @@
 //! The program by its words.
 
-use crate::answer::{AMPLE, Row, answer, assert_rows, assert_writes, input};
 use crate::examples;
-use crate::files::{write, write_all};
+use clk_command_fixtures::{
+    AMPLE, Row, Said, answer, compare, compare_rows, input, is_said, write, write_all,
+};
 use clk_packet::Fault;
-use std::process::Abort;
-use std::rt::Files;
-use std::sync::Wait;
-use std::thread::Threads;
-use std::{fs, str};
 
 /// A tree of a sender and a queue.
 const ALONE: (&str, &str) = (
@@ -80,12 +76,14 @@ const ROWS: [Row; 9] = [
 
 #[test]
 fn words_are_answered(rt: HostRuntime) {
-    assert_rows(&rt, &ROWS);
+    let found = compare_rows(&rt, &ROWS).expect(&rt, "ample memory and files");
+    assert_eq!(rt; found, None);
 }
 
 #[test]
 fn examples_are_answered(rt: HostRuntime) {
-    assert_rows(&rt, &examples::ROWS);
+    let found = compare_rows(&rt, &examples::ROWS).expect(&rt, "ample memory and files");
+    assert_eq!(rt; found, None);
 }
 
 // Without its visits an example writes the same text.
@@ -94,13 +92,10 @@ fn examples_are_answered_without_visits(rt: HostRuntime) {
     for (files, words, outcome, written, _) in examples::ROWS {
         write_all(&rt, files).expect(&rt, "files");
         let words = words.trim_end_matches(" --visits out/example.csv");
-        assert_writes(&rt, words, outcome, written.as_bytes());
+        let found = compare(&rt, words, input(), outcome, written.as_bytes());
+        assert_eq!(rt; found.expect(&rt, "ample memory"), None, "at {words}");
     }
 }
-
-/// Words with the status that they return, how the text that they write begins, and a part of it. With status 2 they write it to standard
-/// error, and with 0 to standard output.
-pub type Said = (&'static str, u8, &'static str, &'static str);
 
 const SAID: [Said; 38] = [
     ("frob", 2, "error: ", "unrecognized subcommand 'frob'"),
@@ -218,35 +213,11 @@ const SAID: [Said; 38] = [
     ("help script", 0, "", "pull M D"),
 ];
 
-fn begins_and_has(text: &[u8], begin: &str, part: &str) -> bool {
-    match str::from_utf8(text) {
-        Ok(text) => text.starts_with(begin) && text.contains(part),
-        Err(_) => false,
-    }
-}
-
-// Fails unless these words have this answer.
-pub fn assert_said(
-    rt: &(impl Files + AllocGlobal + Threads + Wait + Sync + Abort),
-    words: &str,
-    status: u8,
-    begin: &str,
-    part: &str,
-) {
-    let answered = answer(rt, words, input(), AMPLE, AMPLE).expect(rt, "ample memory");
-    assert_eq!(rt; answered.outcome, Ok(status), "at {words}");
-    let (said, other) = match status {
-        0 => (answered.written, answered.told),
-        _ => (answered.told, answered.written),
-    };
-    assert!(rt; begins_and_has(&said, begin, part), "at {words}");
-    assert!(rt; other.is_empty(), "at {words}");
-}
-
 #[test]
 fn wrong_words_and_help_are_told(rt: HostRuntime) {
     for (words, status, begin, part) in SAID {
-        assert_said(&rt, words, status, begin, part);
+        let is_so = is_said(&rt, words, status, begin, part);
+        assert!(rt; is_so.expect(&rt, "ample memory"), "at {words}");
     }
 }
 
@@ -275,6 +246,11 @@ fn a_tree_text_has_at_most_1048576_bytes(rt: HostRuntime) {
     for (blanks, fault) in [(1_048_576, Fault::NoDevice), (1_048_577, Fault::TooLarge)] {
         let text = vec![in rt.alloc(); b' '; blanks].expect(&rt, "ample memory");
         write(&rt, "out/long.click", text).expect(&rt, "a file");
-        assert_writes(&rt, "check out/long.click", Err(fault), b"");
+        let found = compare(&rt, "check out/long.click", input(), Err(fault), b"");
+        assert_eq!(rt;
+            found.expect(&rt, "ample memory"),
+            None,
+            "check of {blanks} bytes"
+        );
     }
 }

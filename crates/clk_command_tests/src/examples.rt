@@ -1,6 +1,6 @@
 //! The examples: each script or trace over its tree is answered as it is said to be. `tests/examples` makes this file.
 
-use crate::answer::Row;
+use clk_command_fixtures::Row;
 
 /// Scripts, and then runs of traces.
 pub const ROWS: [Row; 8] = [

@@ -1,7 +1,7 @@
 //! Every front of each file of the examples: it is read, or fails with a fault that such a text can have.
 
-use crate::answer::AMPLE;
 use crate::examples::ROWS;
+use clk_command_fixtures::AMPLE;
 use clk_packet::{FailingSink, FailingSource, Fault, FromRead, Traces};
 use clk_script::run_script;
 use clk_tree::Plan;

@@ -1,8 +1,7 @@
-//! Tests of clk_command, by its public calls alone: the program by its words, and what it does for each.
+//! Tests of clk_command, by its public calls alone: words, the examples, and which files a task may have. The tests of runs are in
+//! `clk_command_run_tests`, and those of faults in `clk_command_fault_tests`.
 #![tactic(auto)]
 
-#[cfg(test)]
-mod answer;
 #[cfg(test)]
 mod apart;
 #[cfg(test)]
@@ -10,26 +9,8 @@ mod calling;
 #[cfg(test)]
 mod command;
 #[cfg(test)]
-mod cut_off;
-#[cfg(test)]
 mod examples;
-#[cfg(test)]
-mod explaining;
-#[cfg(test)]
-mod fault_lines;
-#[cfg(test)]
-mod files;
 #[cfg(test)]
 mod fronts;
 #[cfg(test)]
 mod linting;
-#[cfg(test)]
-mod living;
-#[cfg(test)]
-mod over;
-#[cfg(test)]
-mod rows;
-#[cfg(test)]
-mod running;
-#[cfg(test)]
-mod visits;

@@ -1,7 +1,6 @@
 //! Worked rows by the words of the program, over files.
 
-use crate::answer::assert_writes;
-use crate::files::write;
+use clk_command_fixtures::{compare, input, write};
 use clk_packet::Fault;
 use clk_rows::{
     CANONICAL_TEXT, EIGHT_SENDERS_ONE_QUEUE, EIGHT_SENDERS_TWO_DEVICES, EMPTY_TRACE_TWO_QUEUES,
@@ -15,6 +14,17 @@ use std::test::Fail;
 use std::thread::Threads;
 use std::{fs, str};
 
+// Fails unless words return this, write this to standard output, and write nothing else.
+fn assert_writes(
+    rt: &(impl Files + AllocGlobal + Threads + Wait + Sync + Abort),
+    words: &str,
+    outcome: Result<u8, Fault>,
+    written: &str,
+) {
+    let found = compare(rt, words, input(), outcome, written.as_bytes());
+    assert_eq!(rt; found.expect(rt, "ample memory"), None, "at {words}");
+}
+
 /// Fails unless words before the names of two files, with a tree and this input, return this and write this.
 pub fn assert_row<H: Files + AllocGlobal + Threads + Wait + Sync + Abort>(
     rt: &H,
@@ -27,13 +37,13 @@ pub fn assert_row<H: Files + AllocGlobal + Threads + Wait + Sync + Abort>(
     write(rt, "out/row.click", tree)?;
     write(rt, "out/row.input", input)?;
     let words = format!(in rt.alloc(); "{words} out/row.click out/row.input")?;
-    assert_writes(rt, &words, outcome, written.as_bytes());
+    assert_writes(rt, &words, outcome, written);
     Ok(())
 }
 
 #[test]
 fn scripts_are_answered(rt: HostRuntime) -> Result<(), Fail> {
-    assert_writes(&rt, "", Ok(0), PRIO_TWO_QUEUES.answer.as_bytes());
+    assert_writes(&rt, "", Ok(0), PRIO_TWO_QUEUES.answer);
     for row in SCRIPTS {
         assert_row(&rt, row.tree, "script", row.script, Ok(0), row.answer)?;
     }
@@ -52,7 +62,7 @@ fn scripts_are_answered(rt: HostRuntime) -> Result<(), Fail> {
 fn a_tree_is_written(rt: HostRuntime) -> Result<(), Fail> {
     let row = CANONICAL_TEXT;
     write(&rt, "out/row.click", row.tree)?;
-    assert_writes(&rt, "check out/row.click", Ok(0), row.canonical.as_bytes());
+    assert_writes(&rt, "check out/row.click", Ok(0), row.canonical);
     Ok(())
 }
 

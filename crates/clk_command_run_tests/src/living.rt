@@ -1,9 +1,9 @@
 //! Traces that run over trees through inlets, their records and their visits.
 
-use crate::answer::{AMPLE, Row, answer, assert_rows, input};
-use crate::command::{Said, assert_said};
-use crate::files::{write, write_all};
 use crate::rows::assert_row;
+use clk_command_fixtures::{
+    AMPLE, Row, Said, answer, compare_rows, input, is_said, write, write_all,
+};
 use clk_packet::Fault;
 use clk_rows::{
     EIGHT_SENDERS_ONE_QUEUE, EIGHT_SENDERS_TWO_DEVICES, EMPTY_TRACE_TWO_QUEUES, NO_SENDER,
@@ -127,7 +127,8 @@ const ROWS: [Row; 12] = [
 
 #[test]
 fn words_of_live_runs_are_answered(rt: HostRuntime) {
-    assert_rows(&rt, &ROWS);
+    let found = compare_rows(&rt, &ROWS).expect(&rt, "ample memory and files");
+    assert_eq!(rt; found, None);
 }
 
 const SAID: [Said; 10] = [
@@ -171,7 +172,8 @@ const SAID: [Said; 10] = [
 #[test]
 fn wrong_words_and_help_of_live_are_told(rt: HostRuntime) {
     for (words, status, begin, part) in SAID {
-        assert_said(&rt, words, status, begin, part);
+        let is_so = is_said(&rt, words, status, begin, part);
+        assert!(rt; is_so.expect(&rt, "ample memory"), "at {words}");
     }
 }
 

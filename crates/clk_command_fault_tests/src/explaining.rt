@@ -1,7 +1,6 @@
 //! Faults that are explained.
 
-use crate::answer::{AMPLE, answer};
-use crate::files::write_all;
+use clk_command_fixtures::{AMPLE, answer, write_all};
 use clk_packet::Fault;
 use std::alloc::{AllocError, Global};
 use std::fs;

@@ -1,10 +1,10 @@
 //! Tasks over sources and sinks that fail in mid-stream: what was written then, and what wasn't.
 
-use crate::answer::AMPLE;
 use clk_command::{
     Pace, check_tree, run_over, run_then_visits, run_with_visits, script_over, script_then_visits,
     script_with_visits,
 };
+use clk_command_fixtures::AMPLE;
 use clk_packet::{FailingSink, FailingSource, Fault, read_up_to};
 use clk_rows::PRIO_TWO_QUEUES;
 use std::alloc::{AllocError, Global};

@@ -1,7 +1,6 @@
 //! Standard output and standard error that fail in mid-stream: a front of the text was written.
 
-use crate::answer::{AMPLE, Answered, answer, input};
-use crate::files::write;
+use clk_command_fixtures::{AMPLE, Answered, answer, input, write};
 use clk_packet::Fault;
 use clk_rows::CANONICAL_TEXT;
 use std::process::Abort;
@@ -43,13 +42,11 @@ fn assert_written_so_far<H: Files + AllocGlobal + Threads + Wait + Sync + Abort>
 ) {
     for room in 0..text.len() {
         let cut = answered(rt, words, room, AMPLE);
-        assert_eq!(rt; cut.outcome, Err(Fault::Write), "{words}, {room} bytes");
-        assert_eq!(rt; cut.written.as_slice(), &text[..room], "{words}");
-        assert!(rt; cut.told.is_empty(), "{words}");
+        let difference = cut.difference_from(Err(Fault::Write), &text[..room]);
+        assert_eq!(rt; difference, None, "{words}, {room} bytes");
     }
     let whole = answered(rt, words, text.len(), AMPLE);
-    assert_eq!(rt; whole.outcome, Ok(0), "{words}");
-    assert_eq!(rt; whole.written.as_slice(), text, "{words}");
+    assert_eq!(rt; whole.difference_from(Ok(0), text), None, "{words}");
 }
 
 #[test]

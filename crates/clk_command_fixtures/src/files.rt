@@ -1,8 +1,8 @@
 //! Files of the tests, in a folder of built files, which isn't kept.
 
+use crate::answers::Difference;
 use std::fs;
 use std::io::{self, AsBytes};
-use std::process::Abort;
 use std::rt::Files;
 
 /// Writes a file below `out/`, a folder that doesn't exist where the gate runs the tests.
@@ -19,10 +19,16 @@ pub fn write_all(rt: &impl Files, files: &[(&str, &str)]) -> io::Result<()> {
     Ok(())
 }
 
-/// Fails unless each file has these contents, or doesn't exist.
-pub fn assert_left(rt: &(impl Files + AllocGlobal + Abort), files: &[(&str, Option<&str>)]) {
+/// Returns the first file that hasn't these contents, or that exists where it has `None`.
+pub fn compare_files(
+    rt: &(impl Files + AllocGlobal),
+    files: &[(&'static str, Option<&str>)],
+) -> Option<Difference> {
     for (path, text) in files {
         let found = fs::read(rt, path).ok();
-        assert_eq!(rt; found.as_deref(), text.map(str::as_bytes), "at {path}");
+        if found.as_deref() != text.map(str::as_bytes) {
+            return Some(Difference::Left(path));
+        }
     }
+    None
 }
