@@ -34,6 +34,9 @@ mod QueuesAt
 mod DeviceSteps
 mod Opened
 mod PlanDevices
+mod LossCounts
+mod LossAccounts
+mod LossLists
 mod Refused
 mod WholeRun
 mod WorkedMoments

@@ -1,5 +1,5 @@
 -- Why a run fails.
-use Rattle.std.proofs.Common.{◌≡◌, ℕ, ◌+◌, List, [], ◌∷◌, ◌++◌, length, map, suc, refl, ap, arith, Vec, rules}
+use Rattle.std.proofs.Common.{◌≡◌, ℕ, ◌+◌, true, ⊎_elim, List, [], ◌∷◌, ◌++◌, length, map, suc, refl, sym, ap, ◌∙◌, subst, arith, Vec, rules}
 use Rattle.std.proofs.lemmas.Grind.{common_steps}
 use Rattle.std.proofs.lemmas.Bool.Decides.{nat_tests}
 use Rattle.std.specs.declared.alloc.Global.{Global}
@@ -7,11 +7,12 @@ use Rattle.std.specs.List.{flat_map, AllByRecursion}
 use Rattle.std.proofs.lemmas.List.{map-append}
 use Rattle.clk_packet.specs.declared.packet.Packet.{Packet}
 use Rattle.clk_packet.specs.declared.fault.Fault.{Fault}
+use Rattle.clk_packet.specs.Lists.{are_distinct}
 use Rattle.clk_packet.specs.Trace.{sent_by}
 use Rattle.clk_ruled.specs.Queue.{SeatLists}
 use Rattle.clk_tree.specs.Plan.{Planned}
 use Rattle.clk_tree.specs.PlanTree.{device_count}
-use Rattle.clk_tree.specs.PlanParts.{queues_of}
+use Rattle.clk_tree.specs.PlanParts.{Queued, queues_of}
 use Rattle.clk_drain.specs.declared.running.opening.LeafQueue.{LeafQueue}
 use Rattle.clk_drain.specs.Line.{LineLists, seats_of, seats_in}
 use Rattle.clk_drain.specs.Outcome.{SharedQueue}
@@ -21,8 +22,10 @@ use Rattle.clk_drain.specs.inside.Threads.{Terms, EndLists, Feed}
 use Rattle.clk_drain.specs.inside.Handed.{seated_in, IsFaultOfClosing}
 use Rattle.clk_drain.specs.inside.Devices.{AreOpenFrom}
 use Rattle.clk_gate.specs.Known.{senders_in, AreKnown}
-use Rattle.clk_drain.specs.Run.{queues_in_order, HasOffered, IsFaultOfRun}
+use Rattle.clk_drain.specs.Laws.{queues_in_order, HasOffered}
+use Rattle.clk_drain.specs.Run.{IsFaultOfRun}
 use Rattle.clk_drain.proofs.Joining.{AreJoinedFeeds}
+use Rattle.clk_drain.proofs.LossCounts.{lost-early}
 use Rattle.clk_drain.proofs.PlanDevices.{queues_by_device}
 use Rattle.clk_drain.proofs.Settling.{all-join}
 use Rattle.clk_drain.proofs.Tallies.{all-split}
@@ -66,6 +69,17 @@ feeds-offered terms (shared ∷ all) (e ∷ ends) (f ∷ feeds) h = search (rule
 feeds-offered terms all ends feeds h = absurd h
 
 -- A device that isn't closed.
-pub unclosed : (plan : List Planned) (terms : Terms) (queues : List (Vec LeafQueue Global)) (seats : List (Vec (Vec SeatLists Global) Global)) (ends : List EndLists) (feeds : List Feed) (fault : Fault) → AreKnown (senders_in plan) terms.traces → AreOpenFrom plan terms.traces 0 (device_count plan) queues seats ends
+pub unclosed : (plan : List Planned) (terms : Terms) (queues : List (Vec LeafQueue Global)) (seats : List (Vec (Vec SeatLists Global) Global)) (ends : List EndLists) (feeds : List Feed) (fault : Fault) → AreKnown (senders_in plan) terms.traces
+    → are_distinct (flat_map (λ (q : Queued). q.senders) (queues_of plan)) ≡ true → AreOpenFrom plan terms.traces 0 (device_count plan) queues seats ends
     → AreJoinedFeeds terms (queues_by_device (queues_of plan) 0 (length ends)) ends feeds → IsFaultOfClosing feeds fault → IsFaultOfRun plan terms.traces fault
-unclosed plan terms queues seats ends feeds fault known opened joined o = search (rules, feeds-queues, plan-queues, feeds-offered)
+unclosed plan terms queues seats ends feeds fault known apart opened joined o =
+    ⊎_elim (λ memory. subst (IsFaultOfRun plan terms.traces) (sym memory) tt)
+    (λ names.
+    lost-early plan terms.traces fault apart known
+    (record {
+      queues = seated_in feeds;
+      are = feeds-queues terms (queues_by_device (queues_of plan) 0 (length ends)) ends feeds joined ∙ plan-queues plan terms.traces queues seats ends opened;
+      offered = feeds-offered terms (queues_by_device (queues_of plan) 0 (length ends)) ends feeds joined;
+      names = names;
+    }))
+    o

@@ -44,7 +44,7 @@ others s [] e = tt
 others s (c ∷ seats) e = grind (arith, common_steps, nat_tests, (others s seats))
 
 -- each seat's list is what is found under its sender
-own-list : (list : SeatLists → List Packet) (seats : List SeatLists) → are_distinct (senders_at seats) ≡ true → AllByRecursion (λ (c : SeatLists). of_seat list seats c.sender ≡ list c) seats
+pub own-list : (list : SeatLists → List Packet) (seats : List SeatLists) → are_distinct (senders_at seats) ≡ true → AllByRecursion (λ (c : SeatLists). of_seat list seats c.sender ≡ list c) seats
 own-list list [] apart = tt
 own-list list (c ∷ seats) apart = let parts = distinct-parts c.sender (senders_at seats) apart in (
   search rules,

@@ -74,4 +74,4 @@ answered-ok visits plan terms shared queues seats ends closed pulled feeds resul
 
 pub answered-err : (visits : Bool) (plan : List Planned) (terms : Terms) (queues : List (Vec LeafQueue Global)) (seats : List (Vec (Vec SeatLists Global) Global)) (ends : List EndLists) (closed : List (Vec (Vec ClosedLists Global) Global)) (pulled : List EndLists) (feeds : List Feed) (result : Result (Outcome PackedLog) Fault) → feeds ≡ joined_feeds queues pulled closed
     → HasEnded visits plan terms queues seats ends closed pulled → AreKnown (senders_in plan) terms.traces → IfErr result (IsFaultOfClosing feeds) → IfErr result (IsFaultOfRun plan terms.traces)
-answered-err visits plan terms queues seats ends closed pulled feeds result are h known o = search (rules, unclosed, (run-joined visits plan terms queues seats ends closed pulled h))
+answered-err visits plan terms queues seats ends closed pulled feeds result are h known o = search (rules, unclosed, (queues-apart plan h.rising), (run-joined visits plan terms queues seats ends closed pulled h))

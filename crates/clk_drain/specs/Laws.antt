@@ -1,12 +1,51 @@
--- What is proved of every pull over lines.
-use Rattle.std.specs.Prelude.{◌≡◌, List}
+-- What is proved of every pull over lines, and of every run that fails.
+use Rattle.std.specs.Prelude.{◌≡◌, ℕ, List, map}
+use Rattle.std.specs.List.{flat_map, range_with_len, AllByRecursion}
+use Rattle.atomic_table.specs.Seated.{TableId}
+use Rattle.clk_packet.specs.declared.packet.Packet.{Packet}
+use Rattle.clk_packet.specs.declared.fault.Fault.{Fault}
+use Rattle.clk_packet.specs.declared.fault.Fault.TheVariants.{Unsettled}
+use Rattle.clk_packet.specs.Trace.{sent_by}
+use Rattle.clk_ruled.specs.Queue.{AreNumbered}
 use Rattle.clk_sched.specs.declared.visit.Visit.{Visit}
 use Rattle.clk_sched.specs.Tree.{Tree}
 use Rattle.clk_sched.specs.Answers.{Answers, tree_queue}
 use Rattle.clk_sched.specs.Results.{leaf_packets}
-use Rattle.clk_drain.specs.Line.{LineLists, pulling_all, PullsAt}
+use Rattle.clk_tree.specs.Plan.{Planned}
+use Rattle.clk_tree.specs.PlanTree.{device_count}
+use Rattle.clk_tree.specs.PlanParts.{queues_of}
+use Rattle.clk_drain.specs.Closing.{HasSent}
+use Rattle.clk_drain.specs.Line.{LineLists, pulling_all, PullsAt, senders_at}
+use Rattle.clk_drain.specs.Lost.{SeatedQueue, NamesFirstLost}
+use Rattle.clk_drain.specs.Outcome.{SharedQueue}
+use Rattle.clk_drain.specs.Run.{queues_at, IsFaultOfRun}
 
 -- The tap of each line takes, in order, exactly what its leaf gave in the visits that asked the lines.
 abbrev pub TapsTakeWhatLeavesGive : Type 0
 TapsTakeWhatLeavesGive =
     (tree : Tree) (visits : List Visit) (old new : List LineLists) → Answers PullsAt (tree_queue tree) old visits new → new ≡ pulling_all (λ q. leaf_packets tree q visits) old
+
+-- the queues of a plan, by device and then by leaf
+abbrev pub queues_in_order : List Planned → List SharedQueue
+queues_in_order plan = flat_map (λ device. queues_at device 0 (queues_of plan)) (range_with_len 0 (device_count plan))
+
+-- Each sender of a queue has a seat there, in order, and offered all that it sends.
+pub record HasOffered (traces : List (List Packet)) (s : SeatedQueue) : Type 0 where
+  pub senders : senders_at s.seats ≡ s.queue.senders
+  pub sent : AllByRecursion (HasSent (sent_by traces)) s.seats
+
+-- Each sender offered all that it sends, and fault 21 names the first queue, by device and then by number, that lost packets below its
+-- capacity. A run that fails returns no lists. So this says that there are lists of what the queues did that agree with the fault; others
+-- may name another queue.
+pub record IsUnsettledRun (plan : List Planned) (traces : List (List Packet)) (fault : Fault) : Type 0 where
+  pub queues : List SeatedQueue
+  pub are : map (λ (s : SeatedQueue). s.queue) queues ≡ queues_in_order plan
+  pub offered : AllByRecursion (HasOffered traces) queues
+  pub names : NamesFirstLost queues fault
+
+-- Whatever counts fault 21 has, there are lists of what the queues did that agree with them, if each sender's packets are numbered from 0.
+-- (A seat is identified by the queue that it belongs to.)
+abbrev pub LossesHaveLists : List Planned → Type 0
+LossesHaveLists plan =
+    (traces : List (List Packet)) → ((s : ℕ) → AreNumbered s 0 (sent_by traces s)) → (leaf accepted capacity : ℕ) → IsFaultOfRun plan traces (Unsettled leaf accepted capacity)
+    → TableId → IsUnsettledRun plan traces (Unsettled leaf accepted capacity)

@@ -1,8 +1,9 @@
 -- What a run of producers on threads returns (this project's own definition).
-use Rattle.std.specs.Prelude.{◌≡◌, ℕ, ◌==◌, Bool, true, List, [], ◌∷◌, map, suc, ⊤, if◌then◌else◌, Vec}
-use Rattle.std.specs.List.{flat_map, range_with_len, AllByRecursion}
+use Rattle.std.specs.Prelude.{◌≡◌, ℕ, ◌+◌, ◌<◌, ◌==◌, Bool, true, List, [], ◌∷◌, length, map, suc, ⊤, MatchOption, slice_get, if◌then◌else◌, Vec}
+use Rattle.std.specs.List.{AllByRecursion}
 use Rattle.std.specs.declared.alloc.Global.{Global}
 use Rattle.clk_packet.specs.declared.packet.Packet.{Packet}
+use Rattle.clk_packet.specs.declared.packet.Kind.TheVariants.{TailDrop, FrontDrop}
 use Rattle.clk_packet.specs.declared.tally.Tally.{Tally}
 use Rattle.clk_packet.specs.declared.fault.Fault.{Fault}
 use Rattle.clk_packet.specs.declared.fault.Fault.TheVariants.{Memory, UnknownSender, Unsettled}
@@ -15,9 +16,6 @@ use Rattle.clk_tree.specs.PlanParts.{Queued, queues_of}
 use Rattle.clk_gate.specs.Known.{senders_in, AreKnown, IsFirstUnknown}
 use Rattle.clk_drain.specs.declared.outcome.Outcome.{Outcome}
 use Rattle.clk_sched.specs.declared.session.packed.PackedLog.{PackedLog}
-use Rattle.clk_drain.specs.Closing.{HasSent}
-use Rattle.clk_drain.specs.Line.{senders_at}
-use Rattle.clk_drain.specs.Lost.{SeatedQueue, NamesFirstLost}
 use Rattle.clk_drain.specs.Moments.{HasMoments}
 use Rattle.clk_drain.specs.Outcome.{SharedQueue, Device, IsSettledOutcome}
 use Rattle.clk_drain.specs.Opening.{shared_at}
@@ -59,28 +57,27 @@ pub record IsKeptRun (visits : Bool) (plan : List Planned) (traces : List (List 
   pub kept : visits ≡ true → map logged outcome.logs.items ≡ logs
   pub is : IsRunWith plan traces step limit logs (map (λ packets. packets.items) outcome.emitted.items) outcome.tallies.items
 
--- the queues of a plan, by device and then by leaf
-abbrev pub queues_in_order : List Planned → List SharedQueue
-queues_in_order plan = flat_map (λ device. queues_at device 0 (queues_of plan)) (range_with_len 0 (device_count plan))
+-- how many packets these senders send in all
+abbrev pub sent_in_all : (ℕ → List Packet) → List ℕ → ℕ
+sent_in_all sent [] = 0
+sent_in_all sent (s ∷ senders) = length (sent s) + sent_in_all sent senders
 
--- Each sender of a queue has a seat there, in order, and offered all that it sends.
-pub record HasOffered (traces : List (List Packet)) (s : SeatedQueue) : Type 0 where
-  pub senders : senders_at s.seats ≡ s.queue.senders
-  pub sent : AllByRecursion (HasSent (sent_by traces)) s.seats
-
--- Each sender offered all that it sends, and fault 21 names the first queue, by device and then by number, that lost packets below its
--- capacity. A run that fails returns no lists. So this says that there are lists of what the queues did that agree with the fault; others
--- may name another queue.
-pub record IsUnsettledRun (plan : List Planned) (traces : List (List Packet)) (fault : Fault) : Type 0 where
-  pub queues : List SeatedQueue
-  pub are : map (λ (s : SeatedQueue). s.queue) queues ≡ queues_in_order plan
-  pub offered : AllByRecursion (HasOffered traces) queues
-  pub names : NamesFirstLost queues fault
+-- By these counts a queue lost packets although it accepted fewer than it may hold: its senders sent it so many, and it accepted so many.
+pub record HasLostEarly (q : Queued) (sent accepted capacity : ℕ) : Type 0 where
+  pub capacity_is : capacity ≡ q.capacity
+  pub below : accepted < capacity
+  -- a Queue refused at least one packet
+  pub refused : q.kind ≡ TailDrop → accepted < sent
+  -- a FrontDropQueue accepted all packets, and evicted at least one
+  pub evicted : q.kind ≡ FrontDrop → (0 < accepted) × (accepted ≡ sent)
 
 -- Why a run fails: an allocation or the start of a thread failed (fault 1), the plan lacks a sender of the trace (15), or a queue lost
--- packets below its capacity (21). It has no other fault, since a drain never stops short.
+-- packets below its capacity (21). Fault 21 has the queue's number, how many packets it accepted, and its capacity. A run has no other
+-- fault, since a drain never stops short.
 abbrev pub IsFaultOfRun : List Planned → List (List Packet) → Fault → Type 0
 IsFaultOfRun plan traces Memory = ⊤
 IsFaultOfRun plan traces (UnknownSender s) = IsFirstUnknown (senders_in plan) traces s
-IsFaultOfRun plan traces (Unsettled leaf accepted capacity) = AreKnown (senders_in plan) traces × IsUnsettledRun plan traces (Unsettled leaf accepted capacity)
+IsFaultOfRun plan traces (Unsettled leaf accepted capacity) =
+    AreKnown (senders_in plan) traces
+    × MatchOption (slice_get (queues_of plan) leaf) ⊥ (λ q. HasLostEarly q (sent_in_all (sent_by traces) q.senders) accepted capacity)
 IsFaultOfRun plan traces fault = ⊥

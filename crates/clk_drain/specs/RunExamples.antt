@@ -2,8 +2,8 @@
 use Rattle.std.specs.Prelude.{◌≡◌, ℕ, List, [], ◌∷◌, map, Some, None, codes, Vec}
 use Rattle.std.specs.declared.alloc.Global.{Global}
 use Rattle.clk_packet.specs.declared.packet.Packet.{Packet}
-use Rattle.clk_packet.specs.declared.packet.Kind.TheVariants.{TailDrop}
-use Rattle.atomic_table.specs.Seated.{TableId}
+use Rattle.clk_packet.specs.declared.packet.Kind.{Kind}
+use Rattle.clk_packet.specs.declared.packet.Kind.TheVariants.{TailDrop, FrontDrop}
 use Rattle.clk_packet.specs.declared.fault.Fault.{Fault}
 use Rattle.clk_packet.specs.declared.tally.Tally.{Tally}
 use Rattle.clk_sched.specs.declared.visit.Visit.{Visit}
@@ -20,25 +20,29 @@ use Rattle.clk_drain.specs.Run.{IsRunOutcome, IsFaultOfRun}
 abbrev planned : List ℕ → Class → List ℕ → Planned
 planned name class sources = record { name = name; class = class; sources = sources }
 
--- Two senders, each with a Queue and a device of its own. The first Queue holds `capacity` packets, the second two. The first device's
--- input comes from the element at place `top`, and the elements `more` are the last.
-abbrev plan_with : ℕ → ℕ → List Planned → List Planned
-plan_with capacity top more =
+-- Two senders, each with a queue and a device of its own. The first queue is of this kind and holds `capacity` packets, the second is a
+-- Queue that holds two. The first device's input comes from the element at place `top`, and the elements `more` are the last.
+abbrev plan_with : Kind → ℕ → ℕ → List Planned → List Planned
+plan_with kind capacity top more =
     planned (codes "s") (sender 0) [] ∷ planned (codes "t") (sender 1) [] ∷
-    planned (codes "p") (queue TailDrop capacity) (0 ∷ []) ∷ planned (codes "q") (queue TailDrop 2) (1 ∷ []) ∷
+    planned (codes "p") (queue kind capacity) (0 ∷ []) ∷ planned (codes "q") (queue TailDrop 2) (1 ∷ []) ∷
     planned (codes "a") (device (codes "x")) (top ∷ []) ∷ planned (codes "b") (device (codes "x")) (3 ∷ []) ∷ more
 
 -- the plan whose first Queue holds one packet
 abbrev pub plan : List Planned
-plan = plan_with 1 2 []
+plan = plan_with TailDrop 1 2 []
 
 -- the plan whose first Queue holds three packets
 abbrev pub wider_plan : List Planned
-wider_plan = plan_with 3 2 []
+wider_plan = plan_with TailDrop 3 2 []
+
+-- the plan with a FrontDropQueue that holds three packets in place of the first Queue
+abbrev pub evicting_plan : List Planned
+evicting_plan = plan_with FrontDrop 3 2 []
 
 -- the plan with a PrioSched between the first Queue and its device
 abbrev pub scheduled_plan : List Planned
-scheduled_plan = plan_with 1 6 (planned (codes "o") (scheduler prio) (2 ∷ []) ∷ [])
+scheduled_plan = plan_with TailDrop 1 6 (planned (codes "o") (scheduler prio) (2 ∷ []) ∷ [])
 
 -- the first sender sends two packets, and the second one
 abbrev pub traces : List (List Packet)
@@ -160,9 +164,9 @@ with_closing_late = came_to ((p0_0 ∷ []) ∷ (p1_0 ∷ []) ∷ []) (log_a ∷ 
 abbrev pub with_closing_goes_on : Lists
 with_closing_goes_on = came_to ((p0_0 ∷ []) ∷ (p1_0 ∷ []) ∷ []) (log_a ∷ closing_goes_on ∷ []) (tally_0 ∷ tally_1 ∷ [])
 
--- A run of a plan over the trace may fail with this fault. (A seat is identified by the queue that it belongs to.)
+-- A run of a plan over the trace may fail with this fault.
 abbrev pub MayFailWith : List Planned → Fault → Type 0
-MayFailWith plan fault = TableId → IsFaultOfRun plan traces fault
+MayFailWith plan fault = IsFaultOfRun plan traces fault
 
 -- A run of a plan over the trace never fails with this fault.
 abbrev pub NeverFailsWith : List Planned → Fault → Type 0

@@ -10,7 +10,7 @@ ghost use Rattle.clk_sched.specs.Examples.Priority.{p0_0};
 ghost use Rattle.clk_drain.specs.DrainExamples.{MayDrainTo, NeverDrainsTo};
 ghost use Rattle.clk_drain.specs.LostExamples.{MayName, NeverNames, refusing, evicting, none_lost, evicting_another};
 ghost use Rattle.clk_drain.specs.Moments.{HasMoments};
-ghost use Rattle.clk_drain.specs.RunExamples.{plan, wider_plan, scheduled_plan, MayComeTo, NeverComesTo, log_a, log_b, only_closing, pull_too_many, step_skipped, closing_late, closing_pauses, closing_goes_on, closing_waits, run_lists, device_missing, device_too_many, log_missing, emitted_missing, logs_swapped, devices_swapped, in_other_list, tally_left_out, with_pull_too_many, with_closing_late, with_closing_goes_on, MayFailWith, NeverFailsWith};
+ghost use Rattle.clk_drain.specs.RunExamples.{plan, wider_plan, evicting_plan, scheduled_plan, MayComeTo, NeverComesTo, log_a, log_b, only_closing, pull_too_many, step_skipped, closing_late, closing_pauses, closing_goes_on, closing_waits, run_lists, device_missing, device_too_many, log_missing, emitted_missing, logs_swapped, devices_swapped, in_other_list, tally_left_out, with_pull_too_many, with_closing_late, with_closing_goes_on, MayFailWith, NeverFailsWith};
 
 /// Which outcomes of worked examples are settled.
 pub fn outcome_examples()
@@ -94,12 +94,16 @@ pub fn run_examples()
     ensures not_closing_goes_on { NeverComesTo plan with_closing_goes_on }
 {}
 
-/// With which faults a run of worked plans may fail. The first Queue of `plan` holds one packet, and that of `wider_plan` three.
+/// With which faults a run of worked plans may fail. The first Queue of `plan` holds one packet, and that of `wider_plan` three, as does
+/// the FrontDropQueue of `evicting_plan`. Two packets are sent to it.
 pub fn fault_examples()
     ensures is_memory { MayFailWith plan Memory }
     ensures is_refused_early { MayFailWith wider_plan (Unsettled 0 1 3) }
+    ensures is_evicted_early { MayFailWith evicting_plan (Unsettled 0 2 3) }
     ensures not_full { NeverFailsWith plan (Unsettled 0 1 1) }
     ensures not_none_lost { NeverFailsWith wider_plan (Unsettled 0 2 3) }
+    ensures not_refused_by_evicting { NeverFailsWith evicting_plan (Unsettled 0 1 3) }
+    ensures not_none_accepted { NeverFailsWith evicting_plan (Unsettled 0 0 3) }
     ensures not_other_leaf { NeverFailsWith wider_plan (Unsettled 9 1 3) }
     ensures not_other_capacity { NeverFailsWith wider_plan (Unsettled 0 1 4) }
     ensures not_stopped_short { NeverFailsWith plan (TooManyPulls 1) }
