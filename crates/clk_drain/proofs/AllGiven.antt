@@ -48,7 +48,7 @@ sum-same f [] (y ∷ ys) c d same = search rules
 sum-same f (x ∷ xs) ys c d same = grind (arith, common_steps, nat_tests, has-here, distinct-dropped, stands-behind, stands-dropped, sum-dropped, (sum-same f xs (drop_one x ys)))
 
 -- what all queues gave is such a sum
-given-sum : (tree : Tree) (log : List Visit) (qs : List ℕ) → given_in_all tree qs log ≡ held_in_all (λ q. length (leaf_packets tree q log)) qs
+pub given-sum : (tree : Tree) (log : List Visit) (qs : List ℕ) → given_in_all tree qs log ≡ held_in_all (λ q. length (leaf_packets tree q log)) qs
 given-sum tree log [] = refl
 given-sum tree log (q ∷ qs) = search (rules, (given-sum tree log qs))
 

@@ -57,7 +57,7 @@ drained-over session new lines gathered after moment left out tallies conserves 
     let some = some-sent after apart h.settled in
     let seats : seats_in after ≡ seats_in lines = still-seats lines after still in
     let settled : (packets : ℕ → List Packet) → AllByRecursion (HasSent packets) (seats_in lines) → IsSettledOutcome packets (record { tree = new.tree; queues = map queue_of_line after; log = new.log; emitted = emitted new.log } ∷ []) tallies =
-    λ packets offered. settled-outcome packets new after tallies (emitted new.log) run refl given.0 h.drained.own apart (subst (AllByRecursion (HasSent packets)) (sym seats) offered) h.settled given.1 emits known in_order in
+    λ packets offered. settled-outcome packets new after tallies (emitted new.log) run refl h.drained.own apart (subst (AllByRecursion (HasSent packets)) (sym seats) offered) h.settled given.1 emits known in_order in
     let is_device : record { tree = new.tree; queues = map queue_of_line after; log = new.log; emitted = emitted new.log } ≡ device_of session lines new.log out =
     search (rules, still-queues) in record {
       sent = some.0;

@@ -21,8 +21,9 @@ use Rattle.clk_drain.specs.inside.Closing.{IsDrainedAs}
 use Rattle.clk_drain.specs.inside.Threads.{Terms, Feed}
 use Rattle.clk_drain.specs.inside.Handed.{IsReadyToClose, AreApartDevices, IsClosedDevice, AreClosedDevices, AreKeptLogs, AreSettledTogether, seated_in, IsFaultOfClosing}
 use Rattle.clk_drain.proofs.ManyDevices.{Part, devices_of, tallies_in_all, AreSettled, devices-settled}
-use Rattle.clk_drain.proofs.Settling.{all-join, senders-same}
+use Rattle.clk_drain.proofs.Settling.{senders-same}
 use Rattle.clk_drain.proofs.Pulling.{steps-count}
+use Rattle.clk_packet.proofs.Callers.Lists.{all-append}
 
 -- Some of the devices are closed, this is what they came to, and the others are to come.
 pub record AreClosing (terms : Terms) (all done left : List Feed) (outcome : Outcome PackedLog) : Type 0 where
@@ -73,12 +74,12 @@ closing-more terms all done left before f drained old new next ready over reache
     let p : Part = record { device = device_of f.session f.lines over.log drained.emitted.items; tallies = drained.tallies.items } in record {
       parts = h.parts ++ p ∷ [];
       closed = search (rules, closed-more, closed-device);
-      settled = all-join _ h.parts (p ∷ []) h.settled (over.is.outcome (sent_by terms.traces) ready.sent, tt);
+      settled = all-append _ h.parts (p ∷ []) h.settled (over.is.outcome (sent_by terms.traces) ready.sent, tt);
       logs =
           search (rules, map-append, kept-more);
       emitted = search (rules, map-append, devices-more);
       tallies = search (rules, append-nil, flat_map-append);
-      reached = search (rules, seated-more, all-join);
+      reached = search (rules, seated-more, all-append);
       all_are = search (rules, append_assoc);
     }
 
@@ -101,7 +102,7 @@ lost-behind earlier own later fault reached names = record {
       ap (λ queues. earlier ++ (queues ++ later)) names.all
       ∙ ap (λ queues. earlier ++ queues) (append_assoc names.earlier (names.first ∷ names.later) later)
       ∙ sym (append_assoc earlier names.earlier (names.first ∷ (names.later ++ later)));
-  reached = all-join HasReached earlier names.earlier reached names.reached;
+  reached = all-append HasReached earlier names.earlier reached names.reached;
   taken = names.taken;
   below = names.below;
   fault_is = names.fault_is;

@@ -7,7 +7,7 @@ use Rattle.clk_ruled.specs.Queue.{SeatLists}
 use Rattle.clk_drain.specs.declared.running.opening.LeafQueue.{LeafQueue}
 use Rattle.clk_drain.specs.inside.Threads.{Terms, IsUnused, EndLists, Feed, IsPulled}
 use Rattle.clk_drain.specs.inside.Handed.{FitPlaces, AreUnused, AreAllUnused, AreLeft, feed_from, pulled_of, IsUnpulledOver, IsPulledOver, HavePulled}
-use Rattle.clk_drain.proofs.Tallies.{all-split}
+use Rattle.clk_sched.proofs.Callers.Lists.{all-split}
 
 -- One pair more.
 pairs-more : {X Y : Type 0} (Holds : X → Y → Type 0) (xs : List X) (x : X) (ys : List Y) (y : Y) → AllZip Holds xs ys → Holds x y → AllZip Holds (xs ++ x ∷ []) (ys ++ y ∷ [])

@@ -23,10 +23,11 @@ use Rattle.clk_drain.specs.inside.Handed.{lines_from, feed_from, HasDeviceSent, 
 use Rattle.clk_drain.specs.inside.Devices.{KeepVisits}
 use Rattle.clk_drain.specs.inside.Opening.{rooms_for, setup_for, IsOpenAs, AreOpenAs}
 use Rattle.clk_drain.proofs.Apart.{apart-parts}
-use Rattle.clk_drain.proofs.Settling.{all-join, senders-same}
+use Rattle.clk_drain.proofs.Settling.{senders-same}
 use Rattle.clk_drain.proofs.Still.{same-lines}
 use Rattle.clk_gate.proofs.Callers.TraceSums.{within-trace}
 use Rattle.clk_drain.proofs.TraceSums.{accepted-over-within}
+use Rattle.clk_packet.proofs.Callers.Lists.{all-append}
 
 -- Closed seats have the senders and the rooms of the seats that they were, and sent all that is sent.
 abbrev room_of : SeatLists → ℕ × ℕ
@@ -108,7 +109,7 @@ pub device-joined : (terms : Terms) (gave : ℕ → List Packet) (shared : List 
     → AreOpenAs terms.traces shared queues taps seats → AllZip (HaveSentAll terms) seats closed → AreJoined terms shared queues (taps_of (pulling_all gave (lines_from queues taps))) closed (pulling_all gave (lines_from queues taps))
 device-joined terms gave [] [] [] [] (c ∷ closed) are h = absurd h
 device-joined terms gave shared queues taps seats [] are h = search rules
-device-joined terms gave (q ∷ shared) (at ∷ queues) (t ∷ taps) (s ∷ seats) (c ∷ closed) are h = search (rules, (line-joined terms q at t s.items (gave at.leaf) c.items are.0 h.0), all-join, (device-joined terms gave shared queues taps seats closed are.1 h.1))
+device-joined terms gave (q ∷ shared) (at ∷ queues) (t ∷ taps) (s ∷ seats) (c ∷ closed) are h = search (rules, (line-joined terms q at t s.items (gave at.leaf) c.items are.0 h.0), all-append, (device-joined terms gave shared queues taps seats closed are.1 h.1))
 device-joined terms gave shared queues taps seats closed are h = absurd are
 
 -- A device, joined after its pulls: it has the queues of its plan, and its seats sent all that is sent.

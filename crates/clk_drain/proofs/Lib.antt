@@ -1,4 +1,5 @@
 -- Lemmas on lines, on what is left to them, and on what became of it all.
+mod Lists
 mod Growing
 mod AtLeaf
 mod Placing
@@ -39,5 +40,6 @@ mod LossAccounts
 mod LossLists
 mod Refused
 mod WholeRun
+mod NoHeads
 mod WorkedMoments
 mod WorkedLost

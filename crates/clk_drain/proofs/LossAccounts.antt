@@ -1,28 +1,24 @@
 -- Accounts of queues that hold all that they accepted, or evicted all of it.
-use Rattle.std.proofs.Common.{◌≡◌, ℕ, zero, suc, ◌+◌, ◌-◌, ◌<◌, ◌≤◌, ◌==◌, inl, inr, ◌⊎◌, ⊎_elim, Bool, true, false, true≢false, List, [], ◌∷◌, ◌++◌, length, map, take, drop, filter, Option, Some, None, MatchOption, slice_get, refl, sym, ap, ◌∙◌, subst, arith, if◌then◌else◌, append-nil, rules}
+use Rattle.std.proofs.Common.{◌≡◌, ℕ, zero, suc, ◌+◌, ◌<◌, ◌≤◌, ◌==◌, inl, inr, ⊎_elim, Bool, true, false, true≢false, List, [], ◌∷◌, ◌++◌, length, take, drop, refl, sym, ap, ◌∙◌, subst, arith, if◌then◌else◌, append-nil, rules}
 use Rattle.std.proofs.lemmas.Grind.{common_steps}
 use Rattle.std.proofs.lemmas.Bool.Decides.{nat_tests}
 use Rattle.std.proofs.lemmas.Bool.{eqb-true, or_right}
-use Rattle.std.proofs.lemmas.List.{map-append, length-append, length-take, length-drop}
-use Rattle.std.specs.List.{flat_map, range_with_len, AllByRecursion}
-use Rattle.atomic_table.specs.Seated.{TableId}
+use Rattle.std.proofs.lemmas.List.{length-append}
+use Rattle.std.specs.List.{flat_map, AllByRecursion}
 use Rattle.clk_packet.specs.declared.packet.Packet.{Packet}
 use Rattle.clk_packet.specs.declared.packet.Kind.{Kind}
-use Rattle.clk_packet.specs.declared.packet.Kind.TheVariants.{TailDrop, FrontDrop}
+use Rattle.clk_packet.specs.declared.packet.Kind.TheVariants.{FrontDrop}
 use Rattle.clk_packet.specs.Lists.{In, of_sender, stands_in, are_distinct, AreRising}
-use Rattle.clk_packet.proofs.Callers.Lists.{all-append, distinct-parts, stands-right}
-use Rattle.clk_ruled.specs.declared.view.QueueSetup.{QueueSetup}
+use Rattle.clk_packet.proofs.Callers.Lists.{all-append, distinct-parts}
 use Rattle.clk_ruled.specs.Account.{IsAccount}
 use Rattle.clk_ruled.specs.PacketLists.{packet_numbers, is_packet, has_packet, without, IsOnceEach}
-use Rattle.clk_ruled.specs.Queue.{SeatLists, IsDealt, AreNumbered, IsSharedOut, setup_of}
-use Rattle.clk_ruled.specs.Settle.{accepted_of, evicted_of, accepted_count, lost_count, HasLostBelow}
-use Rattle.clk_drain.specs.Closing.{HasSent}
+use Rattle.clk_ruled.specs.Queue.{SeatLists, IsDealt, AreNumbered}
+use Rattle.clk_ruled.specs.Settle.{accepted_of, evicted_of, accepted_count}
 use Rattle.clk_drain.specs.Line.{senders_at}
-use Rattle.clk_drain.specs.Run.{sent_in_all}
 use Rattle.clk_drain.proofs.Apart.{has-here}
 use Rattle.clk_drain.proofs.Settling.{own-list}
-use Rattle.clk_drain.proofs.Tallies.{all-weaker}
-use Rattle.clk_drain.proofs.LossCounts.{counts-tail}
+use Rattle.clk_sched.proofs.Callers.Lists.{of-all, all-weaker}
+use Rattle.clk_drain.proofs.Lists.{in-left, in-right, in-either}
 
 -- Numbered packets are of their sender, and their numbers rise.
 numbered-of : (s n : ℕ) (packets : List Packet) → AreNumbered s n packets → AllByRecursion (λ (p : Packet). p.sender ≡ s) packets
@@ -56,12 +52,6 @@ pub accepted-all : (packets : List Packet) → IsDealt packets packets []
 accepted-all [] = (refl, refl)
 accepted-all (p ∷ packets) = inl (packets, refl, accepted-all packets)
 
--- what holds of all members holds of each
-all-in : {X : Type 0} (P : X → Type 0) (xs : List X) → AllByRecursion P xs → (x : X) → In x xs → P x
-all-in P [] h x among = absurd among
-all-in P (y ∷ xs) h x (inl is) = subst P is h.0
-all-in P (y ∷ xs) h x (inr later) = all-in P xs h.1 x later
-
 of-own : (s : ℕ) (packets : List Packet) → AllByRecursion (λ (p : Packet). p.sender ≡ s) packets → of_sender s packets ≡ packets
 of-own s [] h = refl
 of-own s (p ∷ packets) h = search (rules, (of-own s packets h.1))
@@ -86,9 +76,9 @@ none-of : (seats : List SeatLists) (s : ℕ) → stands_in s (senders_at seats) 
 none-of [] s none = refl
 none-of (l ∷ seats) s none = grind (arith, common_steps, nat_tests, (none-of seats s))
 
-of-all : (seats : List SeatLists) (s : ℕ) → AreOwn seats → are_distinct (senders_at seats) ≡ true → of_sender s (all_accepted seats) ≡ accepted_of seats s
-of-all [] s own apart = refl
-of-all (l ∷ seats) s own apart = of-joined s l.accepted (all_accepted seats) ∙ ap (λ rest. of_sender s l.accepted ++ rest) (of-all seats s own.1 parts.1) ∙ by_test (l.sender == s) refl
+from-all : (seats : List SeatLists) (s : ℕ) → AreOwn seats → are_distinct (senders_at seats) ≡ true → of_sender s (all_accepted seats) ≡ accepted_of seats s
+from-all [] s own apart = refl
+from-all (l ∷ seats) s own apart = of-joined s l.accepted (all_accepted seats) ∙ ap (λ rest. of_sender s l.accepted ++ rest) (from-all seats s own.1 parts.1) ∙ by_test (l.sender == s) refl
   where
     parts : (stands_in l.sender (senders_at seats) ≡ false) × (are_distinct (senders_at seats) ≡ true)
     parts = distinct-parts l.sender (senders_at seats) apart
@@ -97,7 +87,7 @@ of-all (l ∷ seats) s own apart = of-joined s l.accepted (all_accepted seats) �
     by_test true same =
         let is : l.sender ≡ s = eqb-true l.sender s same in
         ap (λ first. first ++ accepted_of seats s) (of-own s l.accepted (subst (λ t. AllByRecursion (λ (p : Packet). p.sender ≡ t) l.accepted) is (numbered-of l.sender 0 l.accepted own.0)))
-            ∙ ap (λ rest. l.accepted ++ rest) (none-of seats s (subst (λ t. stands_in t (senders_at seats) ≡ false) is parts.0)) ∙ append-nil l.accepted
+        ∙ ap (λ rest. l.accepted ++ rest) (none-of seats s (subst (λ t. stands_in t (senders_at seats) ≡ false) is parts.0)) ∙ append-nil l.accepted
     by_test false other = ap (λ first. first ++ accepted_of seats s) (of-other s l.sender l.accepted other (numbered-of l.sender 0 l.accepted own.0))
 
 all-known : (seats : List SeatLists) → AreOwn seats → AllByRecursion (λ (p : Packet). stands_in p.sender (senders_at seats) ≡ true) (all_accepted seats)
@@ -132,13 +122,13 @@ pub tail-account : (kind : Kind) (capacity : ℕ) (seats : List SeatLists) → A
     → IsAccount kind capacity (senders_at seats) (accepted_of seats) (evicted_of seats) [] (all_accepted seats)
 tail-account kind capacity seats own apart none fits =
     let out : flat_map (evicted_of seats) (senders_at seats) ≡ [] = none-evicted-in seats (senders_at seats) none in record {
-      balances = λ s. ap (without (accepted_of seats s)) out ∙ without-none (accepted_of seats s) ∙ sym (of-all seats s own apart);
-      is_last = λ s. ([], sym (of-all seats s own apart));
+      balances = λ s. ap (without (accepted_of seats s)) out ∙ without-none (accepted_of seats s) ∙ sym (from-all seats s own apart);
+      is_last = λ s. ([], sym (from-all seats s own apart));
       rises = λ s. all-rise seats s own;
       was_taken = λ p among. absurd (subst (In p) out among);
       once = subst IsOnceEach (sym out) tt;
       gives_known = λ p among. absurd among;
-      holds_known = all-in (λ (p : Packet). stands_in p.sender (senders_at seats) ≡ true) (all_accepted seats) (all-known seats own);
+      holds_known = λ p. of-all (λ (p : Packet). stands_in p.sender (senders_at seats) ≡ true) p (all_accepted seats) (all-known seats own);
       fits = subst (λ n. n ≤ capacity) (sym (count-all seats)) fits;
       tail_drop = λ _ s. none-evicted seats s none;
     }
@@ -170,20 +160,6 @@ without-all : (packets away : List Packet) → ((p : Packet) → In p packets �
 without-all [] away h = refl
 without-all (p ∷ packets) away h = search (rules, (h p (inl refl)), (without-all packets away (λ q among. h q (inr among))))
 
-pub in-left : {X : Type 0} (x : X) (a b : List X) → In x a → In x (a ++ b)
-in-left x [] b among = absurd among
-in-left x (y ∷ a) b (inl is) = inl is
-in-left x (y ∷ a) b (inr later) = inr (in-left x a b later)
-
-pub in-right : {X : Type 0} (x : X) (a b : List X) → In x b → In x (a ++ b)
-in-right x [] b among = among
-in-right x (y ∷ a) b among = inr (in-right x a b among)
-
-in-either : {X : Type 0} (x : X) (a b : List X) → In x (a ++ b) → In x a ⊎ In x b
-in-either x [] b among = inr among
-in-either x (y ∷ a) b (inl is) = inl (inl is)
-in-either x (y ∷ a) b (inr later) = ⊎_elim (λ h. inl (inr h)) (λ h. inr h) (in-either x a b later)
-
 in-all : (seats : List SeatLists) (s : ℕ) (p : Packet) → In p (accepted_of seats s) → In p (all_accepted seats)
 in-all [] s p among = absurd among
 in-all (l ∷ seats) s p among = by_test (in-all seats s p) (l.sender == s) among
@@ -198,7 +174,7 @@ in-own [] p own apart among = absurd among
 in-own (l ∷ seats) p own apart among = ⊎_elim here (later (in-own seats p own.1 (distinct-parts l.sender (senders_at seats) apart).1)) (in-either p l.accepted (all_accepted seats) among)
   where
     here : In p l.accepted → In p (if l.sender == p.sender then l.accepted else accepted_of seats p.sender)
-    here h = let is = all-in (λ (p : Packet). p.sender ≡ l.sender) l.accepted (numbered-of l.sender 0 l.accepted own.0) p h in search rules
+    here h = let is = of-all (λ (p : Packet). p.sender ≡ l.sender) p l.accepted (numbered-of l.sender 0 l.accepted own.0) h in search rules
 
     later : (In p (all_accepted seats) → In p (accepted_of seats p.sender)) → In p (all_accepted seats) → In p (if l.sender == p.sender then l.accepted else accepted_of seats p.sender)
     later rest h = by_test (l.sender == p.sender) refl
@@ -206,7 +182,7 @@ in-own (l ∷ seats) p own apart among = ⊎_elim here (later (in-own seats p ow
         by_test : (b : Bool) → (l.sender == p.sender) ≡ b → In p (if b then l.accepted else accepted_of seats p.sender)
         by_test true same =
             let none = (distinct-parts l.sender (senders_at seats) apart).0 in
-            let known = all-in (λ (p : Packet). stands_in p.sender (senders_at seats) ≡ true) (all_accepted seats) (all-known seats own.1) p h in
+            let known = of-all (λ (p : Packet). stands_in p.sender (senders_at seats) ≡ true) p (all_accepted seats) (all-known seats own.1) h in
             absurd (true≢false (sym known ∙ subst (λ s. stands_in s (senders_at seats) ≡ false) (eqb-true l.sender p.sender same) none))
         by_test false other = rest h
 

@@ -1,16 +1,12 @@
 -- What the lists of a run that failed with fault 21 come to, in counts.
-use Rattle.std.proofs.Common.{◌≡◌, ℕ, zero, suc, ◌+◌, ◌<◌, ◌==◌, Bool, true, false, List, [], ◌∷◌, ◌++◌, length, map, Option, Some, None, MatchOption, slice_get, refl, sym, ap, ◌∙◌, subst, inl, inr, arith, if◌then◌else◌, rules}
-use Rattle.std.proofs.lemmas.Grind.{common_steps}
-use Rattle.std.proofs.lemmas.Bool.Decides.{nat_tests}
+use Rattle.std.proofs.Common.{◌≡◌, ℕ, zero, suc, ◌+◌, ◌<◌, ◌==◌, Bool, true, false, List, [], ◌∷◌, ◌++◌, length, map, Option, Some, None, MatchOption, slice_get, refl, sym, ap, ◌∙◌, subst, inl, arith, if◌then◌else◌, rules}
 use Rattle.std.proofs.lemmas.List.{map-append}
 use Rattle.std.specs.List.{flat_map, range_with_len, AllByRecursion}
 use Rattle.clk_packet.specs.declared.packet.Packet.{Packet}
-use Rattle.clk_packet.specs.declared.packet.Kind.TheVariants.{TailDrop, FrontDrop}
 use Rattle.clk_packet.specs.declared.fault.Fault.{Fault}
 use Rattle.clk_packet.specs.Lists.{In, are_distinct}
 use Rattle.clk_packet.specs.Trace.{sent_by}
 use Rattle.clk_packet.proofs.Callers.Dealt.{dealt-length}
-use Rattle.clk_packet.proofs.Callers.Lists.{all-append}
 use Rattle.clk_ruled.specs.Queue.{SeatLists, IsSharedOut}
 use Rattle.clk_ruled.specs.Settle.{accepted_of, evicted_of, accepted_count, lost_count}
 use Rattle.clk_tree.specs.Plan.{Planned}
@@ -18,20 +14,17 @@ use Rattle.clk_tree.specs.PlanTree.{device_count}
 use Rattle.clk_tree.specs.PlanParts.{Queued, queues_of}
 use Rattle.clk_gate.specs.Known.{senders_in, AreKnown}
 use Rattle.clk_drain.specs.Closing.{HasSent}
-use Rattle.clk_drain.specs.Laws.{queues_in_order, HasOffered, IsUnsettledRun}
+use Rattle.clk_drain.specs.Laws.{HasOffered, IsUnsettledRun}
 use Rattle.clk_drain.specs.Line.{senders_at}
 use Rattle.clk_drain.specs.Lost.{SeatedQueue}
 use Rattle.clk_drain.specs.Opening.{shared_at}
 use Rattle.clk_drain.specs.Outcome.{SharedQueue}
 use Rattle.clk_drain.specs.Run.{queues_at, sent_in_all, HasLostEarly, IsFaultOfRun}
 use Rattle.clk_drain.proofs.Apart.{apart-parts}
-use Rattle.clk_drain.proofs.Settling.{all-both, own-list}
-use Rattle.clk_drain.proofs.Tallies.{all-weaker}
-
--- what holds of all members holds of one
-found : {X : Type 0} (P : X → Type 0) (earlier later : List X) (x : X) → AllByRecursion P (earlier ++ x ∷ later) → P x
-found P [] later x all = all.0
-found P (y ∷ earlier) later x all = found P earlier later x all.1
+use Rattle.clk_drain.proofs.Settling.{own-list}
+use Rattle.clk_packet.proofs.Callers.Lists.{all-append}
+use Rattle.clk_sched.proofs.Callers.Lists.{all-split, all-weaker}
+use Rattle.clk_drain.proofs.Lists.{all-both}
 
 -- The queues of devices are those of the plan, by their numbers.
 abbrev StandsIn : List Queued → SharedQueue → Type 0
@@ -51,8 +44,8 @@ queue_in s = s.queue
 -- So is the queue that is named.
 named : (plan : List Planned) (traces : List (List Packet)) (fault : Fault) (u : IsUnsettledRun plan traces fault) → StandsIn (queues_of plan) u.names.first.queue
 named plan traces fault u =
-    found (StandsIn (queues_of plan)) (map queue_in u.names.earlier) (map queue_in u.names.later) u.names.first.queue
-    (subst (AllByRecursion (StandsIn (queues_of plan))) (sym u.are ∙ ap (map queue_in) u.names.all ∙ map-append queue_in u.names.earlier (u.names.first ∷ u.names.later)) (by-devices (queues_of plan) 0 (device_count plan)))
+    (all-split (StandsIn (queues_of plan)) (map queue_in u.names.earlier) (map queue_in (u.names.first ∷ u.names.later))
+    (subst (AllByRecursion (StandsIn (queues_of plan))) (sym u.are ∙ ap (map queue_in) u.names.all ∙ map-append queue_in u.names.earlier (u.names.first ∷ u.names.later)) (by-devices (queues_of plan) 0 (device_count plan)))).1.0
 
 -- No sender stands twice among those of one queue.
 pub one-apart : (queues : List Queued) (n : ℕ) (q : Queued) → are_distinct (flat_map (λ (k : Queued). k.senders) queues) ≡ true → slice_get queues n ≡ Some q → are_distinct q.senders ≡ true
@@ -106,7 +99,7 @@ lost-early plan traces fault apart known u = subst (IsFaultOfRun plan traces) (s
     seats = u.names.first.seats
 
     offered : HasOffered traces u.names.first
-    offered = found (HasOffered traces) u.names.earlier u.names.later u.names.first (subst (AllByRecursion (HasOffered traces)) u.names.all u.offered)
+    offered = (all-split (HasOffered traces) u.names.earlier (u.names.first ∷ u.names.later) (subst (AllByRecursion (HasOffered traces)) u.names.all u.offered)).1.0
 
     -- the counts of the queue, once it is known which of the plan's it is
     counts : (k : Queued) → are_distinct k.senders ≡ true → shared_at queue.leaf k ≡ queue → HasLostEarly k (sent_in_all (sent_by traces) k.senders) (accepted_count seats) queue.capacity

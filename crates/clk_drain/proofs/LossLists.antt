@@ -1,8 +1,6 @@
 -- Lists of what the queues of a plan did that agree with the counts of a fault 21.
 use Rattle.std.proofs.Common.{◌≡◌, ℕ, zero, suc, ◌+◌, ◌-◌, ◌<◌, ◌≤◌, ◌==◌, inl, inr, ◌⊎◌, ⊎_elim, Bool, true, false, List, [], ◌∷◌, ◌++◌, length, map, take, drop, Option, Some, None, MatchOption, slice_get, refl, sym, ap, ◌∙◌, subst, arith, if◌then◌else◌, rules}
-use Rattle.std.proofs.lemmas.Grind.{common_steps}
-use Rattle.std.proofs.lemmas.Bool.Decides.{nat_tests}
-use Rattle.std.proofs.lemmas.List.{map-append, length-take, length-drop}
+use Rattle.std.proofs.lemmas.List.{map-append, length-take}
 use Rattle.std.specs.List.{flat_map, range_with_len, AllByRecursion}
 use Rattle.atomic_table.specs.Seated.{TableId}
 use Rattle.clk_packet.specs.declared.packet.Packet.{Packet}
@@ -24,10 +22,11 @@ use Rattle.clk_drain.specs.Line.{senders_at}
 use Rattle.clk_drain.specs.Lost.{SeatedQueue, HasReached}
 use Rattle.clk_drain.specs.Opening.{shared_at}
 use Rattle.clk_drain.specs.Outcome.{SharedQueue}
-use Rattle.clk_drain.specs.Run.{queues_at, sent_in_all, HasLostEarly, IsFaultOfRun}
-use Rattle.clk_drain.proofs.Settling.{all-join}
+use Rattle.clk_drain.specs.Run.{queues_at, sent_in_all, HasLostEarly}
 use Rattle.clk_drain.proofs.LossCounts.{queue_in, one-apart, counts-tail, counts-front}
-use Rattle.clk_drain.proofs.LossAccounts.{all_accepted, AreOwn, AreAllOut, numbered-take, dealt-at, accepted-all, tail-account, front-account, in-left, in-right}
+use Rattle.clk_drain.proofs.LossAccounts.{all_accepted, AreOwn, AreAllOut, numbered-take, dealt-at, accepted-all, tail-account, front-account}
+use Rattle.clk_packet.proofs.Callers.Lists.{all-append}
+use Rattle.clk_drain.proofs.Lists.{all-there, in-left, in-right}
 
 -- the seat of a sender, of whose packets these were accepted, refused and evicted
 abbrev seat_with : TableId → QueueSetup → List Packet → ℕ → List Packet → List Packet → List Packet → SeatLists
@@ -130,10 +129,10 @@ module _ (id : TableId) (sent : ℕ → List Packet) (numbered : (s : ℕ) → A
   reached-all [] = tt
   reached-all (q ∷ queues) = (
     (λ lost.
-    let n = sent_in_all sent q.senders in
-    let count = up-to-count (setup_for q) n q.senders (omega arith) in
-    let sum = subst (λ ns. sent_in_all sent ns ≡ accepted_count (accepting_all q).seats + lost_count (accepting_all q).seats) (up-to-senders (setup_for q) n q.senders) (counts-tail sent (accepting_all q).seats (up-to-sent (setup_for q) n q.senders) (up-to-none (setup_for q) n q.senders)) in
-    absurd (omega (arith, lost, count, sum))),
+        let n = sent_in_all sent q.senders in
+        let count = up-to-count (setup_for q) n q.senders (omega arith) in
+        let sum = subst (λ ns. sent_in_all sent ns ≡ accepted_count (accepting_all q).seats + lost_count (accepting_all q).seats) (up-to-senders (setup_for q) n q.senders) (counts-tail sent (accepting_all q).seats (up-to-sent (setup_for q) n q.senders) (up-to-none (setup_for q) n q.senders)) in
+        absurd (omega (arith, lost, count, sum))),
     reached-all queues,
   )
 
@@ -240,16 +239,11 @@ split x (y ∷ xs) (inr later) = let rest = split x xs later in record { earlier
 pub losses-have-lists : (plan : List Planned) → are_distinct (flat_map (λ (k : Queued). k.senders) (queues_of plan)) ≡ true → AllByRecursion (λ (k : Queued). k.device < device_count plan) (queues_of plan) → LossesHaveLists plan
 losses-have-lists plan apart within traces numbered leaf accepted capacity fault id = by_queue (slice_get (queues_of plan) leaf) refl fault.1
   where
-    device-within : (queues : List Queued) (n : ℕ) (k : Queued) → AllByRecursion (λ (k : Queued). k.device < device_count plan) queues → slice_get queues n ≡ Some k → k.device < device_count plan
-    device-within [] n k h at = absurd (cc)
-    device-within (q ∷ queues) zero k h at = search rules
-    device-within (q ∷ queues) (suc n) k h at = device-within queues n k h.1 at
-
     by_queue : (o : Option Queued) → slice_get (queues_of plan) leaf ≡ o → MatchOption o ⊥ (λ k. HasLostEarly k (sent_in_all (sent_by traces) k.senders) accepted capacity) → IsUnsettledRun plan traces (Unsettled leaf accepted capacity)
     by_queue None at h = absurd h
     by_queue (Some k) at h =
         let queue : SharedQueue = shared_at leaf k in
-        let among = in-range (λ device. queues_at device 0 (queues_of plan)) queue 0 (device_count plan) k.device (subst (λ n. In (shared_at n k) (queues_at k.device 0 (queues_of plan))) (omega arith) (in-device k.device 0 leaf (queues_of plan) k at refl)) (omega arith) (let lt = device-within (queues_of plan) leaf k within at in omega (arith, lt)) in
+        let among = in-range (λ device. queues_at device 0 (queues_of plan)) queue 0 (device_count plan) k.device (subst (λ n. In (shared_at n k) (queues_at k.device 0 (queues_of plan))) (omega arith) (in-device k.device 0 leaf (queues_of plan) k at refl)) (omega arith) (let lt = all-there (λ (q : Queued). q.device < device_count plan) (queues_of plan) leaf k within at in omega (arith, lt)) in
         let parts = split queue (queues_in_order plan) among in
         let lost = early id (sent_by traces) numbered queue accepted (one-apart (queues_of plan) leaf k apart at) (subst (λ n. accepted < n) h.capacity_is h.below) h.refused h.evicted in
         let first : SeatedQueue = record { queue = queue; seats = lost.seats } in
@@ -257,7 +251,7 @@ losses-have-lists plan apart within traces numbered leaf accepted capacity fault
         let behind = map (accepting_all id (sent_by traces) numbered) parts.later in record {
           queues = before ++ first ∷ behind;
           are = map-append queue_in before (first ∷ behind) ∙ (λ i. queues-all id (sent_by traces) numbered parts.earlier i ++ queue ∷ queues-all id (sent_by traces) numbered parts.later i) ∙ sym parts.is;
-          offered = all-join (HasOffered traces) before (first ∷ behind) (offered-all id (sent_by traces) numbered traces refl parts.earlier)
+          offered = all-append (HasOffered traces) before (first ∷ behind) (offered-all id (sent_by traces) numbered traces refl parts.earlier)
               (record { senders = lost.senders; sent = lost.has_sent }, offered-all id (sent_by traces) numbered traces refl parts.later);
           names = record {
             earlier = before;

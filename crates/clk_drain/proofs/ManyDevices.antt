@@ -9,10 +9,11 @@ use Rattle.clk_packet.specs.declared.tally.Tally.{Tally}
 use Rattle.clk_packet.specs.Lists.{stands_in, are_distinct}
 use Rattle.clk_drain.specs.Outcome.{SharedQueue, Device, senders_to, tally_for, in_all, IsQueueSettled, IsDeviceSettled, IsSettledOutcome}
 use Rattle.clk_drain.specs.Closing.{AreInOrder}
-use Rattle.clk_packet.proofs.Callers.Lists.{stands-left, stands-right, rising-distinct}
+use Rattle.clk_packet.proofs.Callers.Lists.{all-append, stands-left, stands-right, rising-distinct}
 use Rattle.clk_drain.proofs.Apart.{not-both, apart-parts, apart-joined}
-use Rattle.clk_drain.proofs.Tallies.{tellers, in-order-rise, in-order-found, in-order-all, all-split, all-weaker}
-use Rattle.clk_drain.proofs.Settling.{all-join, all-both}
+use Rattle.clk_drain.proofs.Tallies.{tellers, in-order-rise, in-order-found, in-order-all}
+use Rattle.clk_sched.proofs.Callers.Lists.{all-split, all-weaker}
+use Rattle.clk_drain.proofs.Lists.{all-both}
 
 -- a device with its tallies
 pub record Part : Type 0 where
@@ -62,7 +63,7 @@ part-known sent p h = subst (λ names. AreOf names p.tallies) (append-nil (sende
 
 all-known : (sent : ℕ → List Packet) (parts : List Part) → AreSettled sent parts → AreOf (flat_map senders_to (devices_of parts)) (tallies_in_all parts)
 all-known sent [] h = tt
-all-known sent (p ∷ parts) h = search (rules, all-join, all-weaker, stands-left, stands-right, (all-known sent parts h.1))
+all-known sent (p ∷ parts) h = search (rules, all-append, all-weaker, stands-left, stands-right, (all-known sent parts h.1))
 
 -- who has a tally is one of those that all the tallies are of
 teller-known : (names : List ℕ) (tallies : List Tally) (s : ℕ) → AreOf names tallies → stands_in s (tellers tallies) ≡ true → stands_in s names ≡ true

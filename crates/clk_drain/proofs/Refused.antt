@@ -27,8 +27,8 @@ use Rattle.clk_drain.specs.Run.{IsFaultOfRun}
 use Rattle.clk_drain.proofs.Joining.{AreJoinedFeeds}
 use Rattle.clk_drain.proofs.LossCounts.{lost-early}
 use Rattle.clk_drain.proofs.PlanDevices.{queues_by_device}
-use Rattle.clk_drain.proofs.Settling.{all-join}
-use Rattle.clk_drain.proofs.Tallies.{all-split}
+use Rattle.clk_packet.proofs.Callers.Lists.{all-append}
+use Rattle.clk_sched.proofs.Callers.Lists.{all-split}
 
 abbrev queue_in : SeatedQueue → SharedQueue
 queue_in s = s.queue
@@ -65,7 +65,7 @@ lines-offered traces (l ∷ lines) sent = grind (arith, common_steps, nat_tests,
 
 feeds-offered : (terms : Terms) (all : List (List SharedQueue)) (ends : List EndLists) (feeds : List Feed) → AreJoinedFeeds terms all ends feeds → AllByRecursion (HasOffered terms.traces) (seated_in feeds)
 feeds-offered terms [] [] [] h = tt
-feeds-offered terms (shared ∷ all) (e ∷ ends) (f ∷ feeds) h = search (rules, all-join, lines-offered, (feeds-offered terms all ends feeds h.1))
+feeds-offered terms (shared ∷ all) (e ∷ ends) (f ∷ feeds) h = search (rules, all-append, lines-offered, (feeds-offered terms all ends feeds h.1))
 feeds-offered terms all ends feeds h = absurd h
 
 -- A device that isn't closed.

@@ -3,16 +3,16 @@ use Rattle.std.proofs.Common.{◌≡◌, ℕ, ◌==◌, inl, inr, Bool, true, fa
 use Rattle.std.proofs.lemmas.Grind.{common_steps}
 use Rattle.std.proofs.lemmas.Bool.Decides.{nat_tests}
 use Rattle.std.specs.List.{flat_map, AllByRecursion}
-use Rattle.std.proofs.lemmas.Bool.{or_right}
+use Rattle.std.proofs.lemmas.Bool.{eqb-true}
 use Rattle.clk_packet.specs.declared.packet.Kind.TheVariants.{TailDrop, FrontDrop}
 use Rattle.clk_packet.specs.declared.packet.Packet.{Packet}
 use Rattle.clk_packet.specs.declared.tally.Tally.{Tally}
 use Rattle.clk_packet.specs.Lists.{of_sender, stands_in, are_distinct}
-use Rattle.clk_packet.proofs.Callers.Lists.{distinct-parts}
+use Rattle.clk_packet.proofs.Callers.Lists.{all-append, distinct-parts}
 use Rattle.clk_ruled.specs.PacketLists.{has_packet, without}
 use Rattle.clk_ruled.specs.Queue.{SeatLists, TapLists, ClosedLists, IsDealt, IsSharedOut}
 use Rattle.clk_ruled.specs.Settle.{lists_of, of_seat, accepted_of, evicted_of, all_evicted, AreOfTap, tally_of}
-use Rattle.clk_sched.specs.Results.{emitted, heads, leaf_packets}
+use Rattle.clk_sched.specs.Results.{emitted, leaf_packets}
 use Rattle.clk_sched.specs.Run.{IsRun}
 use Rattle.clk_sched.specs.Session.{Progress}
 use Rattle.clk_drain.specs.Line.{LineLists, seats_of, seats_in, senders_at, AreLinesOf, HaveOwnSenders}
@@ -22,21 +22,9 @@ use Rattle.clk_drain.specs.Parts.{HasAllTaken}
 use Rattle.clk_drain.specs.inside.Parts.{IsSettledLine}
 use Rattle.clk_drain.proofs.Apart.{apart-parts}
 use Rattle.clk_drain.proofs.Seated.{joined}
-use Rattle.clk_drain.proofs.Tallies.{tellers, in-order-rise, in-order-found, in-order-all, all-split, all-weaker, tellers-in, AreFound, each-found, none-filtered, no-evicted, accepted-same, lost-some}
-
--- What holds of all members of lists.
-pub all-join : {X : Type 0} (P : X → Type 0) (xs ys : List X) → AllByRecursion P xs → AllByRecursion P ys → AllByRecursion P (xs ++ ys)
-all-join P [] ys h k = k
-all-join P (x ∷ xs) ys h k = (h.0, all-join P xs ys h.1 k)
-
-pub all-both : {X : Type 0} (P Q R : X → Type 0) (xs : List X) → ((x : X) → P x → Q x → R x) → AllByRecursion P xs → AllByRecursion Q xs → AllByRecursion R xs
-all-both P Q R [] f h k = tt
-all-both P Q R (x ∷ xs) f h k = (f x h.0 k.0, all-both P Q R xs f h.1 k.1)
-
--- each member's name is among all names
-all-named : {X : Type 0} (name : X → ℕ) (xs : List X) → AllByRecursion (λ x. stands_in (name x) (map name xs) ≡ true) xs
-all-named name [] = tt
-all-named {X} name (x ∷ xs) = search (rules, all-weaker, or_right, (all-named name xs))
+use Rattle.clk_drain.proofs.Tallies.{tellers, in-order-rise, in-order-found, in-order-all, tellers-in, AreFound, each-found, none-filtered, no-evicted, accepted-same, lost-some}
+use Rattle.clk_sched.proofs.Callers.Lists.{all-split, all-weaker}
+use Rattle.clk_drain.proofs.Lists.{all-both, all-named}
 
 -- a sender that no seat has is another than each seat's
 others : (s : ℕ) (seats : List SeatLists) → stands_in s (senders_at seats) ≡ false → AllByRecursion (λ (c : SeatLists). (s == c.sender) ≡ false) seats
@@ -72,7 +60,7 @@ each-line P (l ∷ lines) h = let both = all-split P (seats_of l) (seats_in line
 
 all-shared : (lines : List LineLists) → AllByRecursion IsSettledLine lines → AllByRecursion IsSharedOut (seats_in lines)
 all-shared [] h = tt
-all-shared (l ∷ lines) h = search (rules, all-join, (all-shared lines h.1))
+all-shared (l ∷ lines) h = search (rules, all-append, (all-shared lines h.1))
 
 -- where all senders stand apart each line's do
 each-apart : (lines : List LineLists) → HaveOwnSenders lines → AllByRecursion (λ (l : LineLists). are_distinct (senders_at (seats_of l)) ≡ true) lines
@@ -110,7 +98,7 @@ record IsReady (sent : ℕ → List Packet) (d : Device) (tallies : List Tally) 
   apart : are_distinct (senders_at (seats_of l)) ≡ true
   shared : AllByRecursion (λ (c : SeatLists). AreOffered (sent c.sender) c) (seats_of l)
   found : AreFound tallies (all_evicted (seats_of l)) (seats_of l)
-  emitted : (s : ℕ) → stands_in s (senders_at (seats_of l)) ≡ true → of_sender s d.emitted ≡ of_sender s l.tap.taken
+  emitted : filter (λ (p : Packet). stands_in p.sender (senders_at (seats_of l))) d.emitted ≡ l.tap.taken
   given : l.tap.taken ≡ leaf_packets d.tree l.leaf d.log
 
 -- What a seat tells besides.
@@ -118,6 +106,11 @@ record IsOwn (l : LineLists) (c : SeatLists) : Type 0 where
   accepted : accepted_of (seats_of l) c.sender ≡ c.accepted
   named : stands_in c.sender (senders_at (seats_of l)) ≡ true
   front_drop : l.tap.setup.kind ≡ FrontDrop → c.refused ≡ []
+
+-- What is of a sender among the packets of some senders is all that is of this one.
+of-one : (s : ℕ) (senders : List ℕ) (packets : List Packet) → stands_in s senders ≡ true → of_sender s (filter (λ (p : Packet). stands_in p.sender senders) packets) ≡ of_sender s packets
+of-one s senders [] has = refl
+of-one s senders (p ∷ packets) has = search (rules, eqb-true, (of-one s senders packets has))
 
 -- a Queue puts nothing out
 none-put_out : (l : LineLists) → IsSettledLine l → are_distinct (senders_at (seats_of l)) ≡ true → l.tap.setup.kind ≡ TailDrop → all_evicted (seats_of l) ≡ []
@@ -130,15 +123,12 @@ tallied : (sent : ℕ → List Packet) (d : Device) (tallies : List Tally) (l : 
     → IsTallied sent d (queue_of_line l) (tally_of (all_evicted (seats_of l)) c)
 tallied sent d tallies l ready c shared own =
     let out : List Packet = all_evicted (seats_of l) in
-    let came = ready.emitted c.sender own.named in
+    let came : of_sender c.sender d.emitted ≡ of_sender c.sender l.tap.taken = sym (of-one c.sender (senders_at (seats_of l)) d.emitted own.named) ∙ ap (of_sender c.sender) ready.emitted in
     let left : without c.accepted out ≡ of_sender c.sender d.emitted = search rules in record {
-      tally = record {
-        offered_are = shared.2;
-        accepted_are = subst (IsDealt c.accepted (filter (has_packet out) c.accepted)) left (dealt (has_packet out) c.accepted);
-        tail_drop = λ k. none-filtered out c.accepted (none-put_out l ready.settled ready.apart k);
-        front_drop = own.front_drop;
-      };
-      given = ap (of_sender c.sender) (sym ready.given) ∙ sym came;
+      offered_are = shared.2;
+      accepted_are = subst (IsDealt c.accepted (filter (has_packet out) c.accepted)) left (dealt (has_packet out) c.accepted);
+      tail_drop = λ k. none-filtered out c.accepted (none-put_out l ready.settled ready.apart k);
+      front_drop = own.front_drop;
     }
 
 each-tallied : (sent : ℕ → List Packet) (d : Device) (tallies : List Tally) (l : LineLists) → IsReady sent d tallies l → (seats : List SeatLists) → AreFound tallies (all_evicted (seats_of l)) seats
@@ -158,6 +148,7 @@ all-own l h apart =
 queue-settled : (sent : ℕ → List Packet) (d : Device) (tallies : List Tally) (l : LineLists) → IsReady sent d tallies l → IsQueueSettled sent tallies d (queue_of_line l)
 queue-settled sent d tallies l ready = record {
   each = each-tallied sent d tallies l ready (seats_of l) ready.found ready.shared (all-own l ready.settled ready.apart);
+  given = sym ready.given ∙ sym ready.emitted;
   reached = search (rules, lost-some, accepted-same);
 }
 
@@ -172,7 +163,7 @@ all-ready : (sent : ℕ → List Packet) (d : Device) (tallies : List Tally) (li
     → AllByRecursion (λ (l : LineLists). are_distinct (senders_at (seats_of l)) ≡ true) lines
     → AllByRecursion (λ (l : LineLists). AllByRecursion (λ (c : SeatLists). AreOffered (sent c.sender) c) (seats_of l)) lines
     → AllByRecursion (λ (l : LineLists). AreFound tallies (all_evicted (seats_of l)) (seats_of l)) lines
-    → AllByRecursion (λ (l : LineLists). (s : ℕ) → stands_in s (senders_at (seats_of l)) ≡ true → of_sender s d.emitted ≡ of_sender s l.tap.taken) lines
+    → AllByRecursion (λ (l : LineLists). filter (λ (p : Packet). stands_in p.sender (senders_at (seats_of l))) d.emitted ≡ l.tap.taken) lines
     → AllByRecursion (λ (l : LineLists). l.tap.taken ≡ leaf_packets d.tree l.leaf d.log) lines → AllByRecursion (IsReady sent d tallies) lines
 all-ready sent d tallies [] settled taken apart shared found came given = tt
 all-ready sent d tallies (l ∷ lines) settled taken apart shared found came given = search (rules, (all-ready sent d tallies lines settled.1 taken.1 apart.1 shared.1 found.1 came.1 given.1))
@@ -183,13 +174,13 @@ some-sent lines own settled = let shared = all-shared lines settled in (sent_of 
 
 -- What the seats offered is settled, where every packet that came out is a line's and each line's came out.
 pub settled-outcome : (sent : ℕ → List Packet) (session : Progress) (lines : List LineLists) (tallies : List Tally) (emits : List Packet)
-    → IsRun session.tree session.log → emits ≡ emitted session.log → heads session.tree session.log ≡ []
+    → IsRun session.tree session.log → emits ≡ emitted session.log
     → AreLinesOf session lines → HaveOwnSenders lines → AllByRecursion (HasSent sent) (seats_in lines) → AllByRecursion IsSettledLine lines → AllByRecursion HasAllTaken lines
-    → AllByRecursion (λ (l : LineLists). (s : ℕ) → stands_in s (senders_at (seats_of l)) ≡ true → of_sender s emits ≡ of_sender s l.tap.taken) lines
+    → AllByRecursion (λ (l : LineLists). filter (λ (p : Packet). stands_in p.sender (senders_at (seats_of l))) emits ≡ l.tap.taken) lines
     → AllByRecursion (λ (p : Packet). stands_in p.sender (senders_at (seats_in lines)) ≡ true) emits
     → AreInOrder (tallies_in lines) tallies
     → IsSettledOutcome sent (record { tree = session.tree; queues = map queue_of_line lines; log = session.log; emitted = emits } ∷ []) tallies
-settled-outcome sent session lines tallies emits run out none own_lines own offered settled taken came known order =
+settled-outcome sent session lines tallies emits run out own_lines own offered settled taken came known order =
     let d : Device = record { tree = session.tree; queues = map queue_of_line lines; log = session.log; emitted = emits } in
     let apart : are_distinct (tellers (tallies_in lines)) ≡ true = subst (λ ns. are_distinct ns ≡ true) (sym (tellers-in lines)) own in
     let found = each-found tallies lines (in-order-found (tallies_in lines) tallies apart order) in

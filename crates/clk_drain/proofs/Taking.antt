@@ -1,5 +1,5 @@
 -- What a gathered line's queue holds, as its tap pulls.
-use Rattle.std.proofs.Common.{◌≡◌, ◌≢◌, ℕ, ◌<◌, ◌≤◌, ◌==◌, ◌||◌, Bool, true, false, nat_lt, zero, suc, List, [], ◌∷◌, length, get_or, set, slice_get, Option, Some, None, refl, arith, rules}
+use Rattle.std.proofs.Common.{◌≡◌, ◌≢◌, ℕ, ◌<◌, false, zero, suc, List, [], ◌∷◌, length, get_or, set, slice_get, Option, Some, None, refl, arith, rules}
 use Rattle.std.proofs.lemmas.Grind.{common_steps}
 use Rattle.std.specs.List.{AllByRecursion}
 use Rattle.std.proofs.lemmas.Bool.Decides.{nat_tests}

@@ -1,5 +1,5 @@
 -- Tallies in order: they rise by their senders, each is found, and they count what their seats count.
-use Rattle.std.proofs.Common.{◌≡◌, ℕ, ◌+◌, ◌≤◌, ◌<◌, ◌==◌, ⊎_elim, Bool, true, false, List, [], ◌∷◌, ◌++◌, map, filter, Some, refl, ap, arith, if◌then◌else◌, eq-eqb, eq-zero-or-pos, suc, sum_by, rules}
+use Rattle.std.proofs.Common.{◌≡◌, ℕ, ◌+◌, ◌≤◌, ◌<◌, ◌==◌, ⊎_elim, Bool, true, false, List, [], ◌∷◌, map, filter, Some, refl, ap, arith, if◌then◌else◌, eq-eqb, eq-zero-or-pos, suc, sum_by, rules}
 use Rattle.std.proofs.lemmas.Grind.{common_steps}
 use Rattle.std.proofs.lemmas.Bool.Decides.{nat_tests}
 use Rattle.std.specs.List.{AllByRecursion}
@@ -18,6 +18,8 @@ use Rattle.clk_ruled.specs.Settle.{all_evicted, accepted_count, lost_count, tall
 use Rattle.clk_drain.specs.Line.{LineLists, seats_of, seats_in, senders_at}
 use Rattle.clk_drain.specs.Outcome.{tally_for, accepted_by, lost_by, in_all}
 use Rattle.clk_drain.specs.Closing.{tallies_of, tallies_in, AreInOrder}
+use Rattle.clk_sched.proofs.Callers.Lists.{all-split, all-weaker}
+use Rattle.clk_drain.proofs.Lists.{all-unmap}
 
 -- the senders of tallies
 abbrev pub tellers : List Tally → List ℕ
@@ -78,19 +80,6 @@ in-order-found tallies sorted apart h = let P : Tally → Type 0 = λ (t : Tally
 -- what holds of each tally holds of each of those in order
 pub in-order-all : (P : Tally → Type 0) (tallies sorted : List Tally) → AreInOrder tallies sorted → AllByRecursion P tallies → AllByRecursion P sorted
 in-order-all P tallies sorted h all = recursion_from_All P sorted (All-permutation P tallies sorted h.same (All-from_recursion P tallies all))
-
--- What holds of all members of lists.
-pub all-split : {X : Type 0} (P : X → Type 0) (xs ys : List X) → AllByRecursion P (xs ++ ys) → AllByRecursion P xs × AllByRecursion P ys
-all-split P [] ys h = (tt, h)
-all-split P (x ∷ xs) ys h = search (rules, (all-split P xs ys h.1))
-
-pub all-unmap : {X Y : Type 0} (P : Y → Type 0) (f : X → Y) (xs : List X) → AllByRecursion P (map f xs) → AllByRecursion (λ x. P (f x)) xs
-all-unmap P f [] h = tt
-all-unmap P f (x ∷ xs) h = (h.0, all-unmap P f xs h.1)
-
-pub all-weaker : {X : Type 0} (P Q : X → Type 0) (xs : List X) → ((x : X) → P x → Q x) → AllByRecursion P xs → AllByRecursion Q xs
-all-weaker P Q [] f h = tt
-all-weaker P Q (x ∷ xs) f h = (f x h.0, all-weaker P Q xs f h.1)
 
 -- The tallies of lines have the senders of their seats.
 tellers-line : (out : List Packet) (seats : List SeatLists) → tellers (map (tally_of out) seats) ≡ senders_at seats

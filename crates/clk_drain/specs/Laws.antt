@@ -1,24 +1,26 @@
 -- What is proved of every pull over lines, and of every run that fails.
-use Rattle.std.specs.Prelude.{◌≡◌, ℕ, List, map}
+use Rattle.std.specs.Prelude.{◌≡◌, ℕ, true, List, [], map}
 use Rattle.std.specs.List.{flat_map, range_with_len, AllByRecursion}
 use Rattle.atomic_table.specs.Seated.{TableId}
 use Rattle.clk_packet.specs.declared.packet.Packet.{Packet}
 use Rattle.clk_packet.specs.declared.fault.Fault.{Fault}
 use Rattle.clk_packet.specs.declared.fault.Fault.TheVariants.{Unsettled}
+use Rattle.clk_packet.specs.declared.tally.Tally.{Tally}
+use Rattle.clk_packet.specs.Lists.{stands_in, are_distinct, AreRising}
 use Rattle.clk_packet.specs.Trace.{sent_by}
 use Rattle.clk_ruled.specs.Queue.{AreNumbered}
 use Rattle.clk_sched.specs.declared.visit.Visit.{Visit}
-use Rattle.clk_sched.specs.Tree.{Tree}
+use Rattle.clk_sched.specs.Tree.{Tree, root, leaves, leaves_distinct}
 use Rattle.clk_sched.specs.Answers.{Answers, tree_queue}
-use Rattle.clk_sched.specs.Results.{leaf_packets}
+use Rattle.clk_sched.specs.Results.{heads, leaf_packets}
 use Rattle.clk_tree.specs.Plan.{Planned}
 use Rattle.clk_tree.specs.PlanTree.{device_count}
 use Rattle.clk_tree.specs.PlanParts.{queues_of}
 use Rattle.clk_drain.specs.Closing.{HasSent}
 use Rattle.clk_drain.specs.Line.{LineLists, pulling_all, PullsAt, senders_at}
 use Rattle.clk_drain.specs.Lost.{SeatedQueue, NamesFirstLost}
-use Rattle.clk_drain.specs.Outcome.{SharedQueue}
-use Rattle.clk_drain.specs.Run.{queues_at, IsFaultOfRun}
+use Rattle.clk_drain.specs.Outcome.{SharedQueue, Device, senders_to, IsDeviceSettled}
+use Rattle.clk_drain.specs.Run.{queues_at, IsRunWith, IsFaultOfRun}
 
 -- The tap of each line takes, in order, exactly what its leaf gave in the visits that asked the lines.
 abbrev pub TapsTakeWhatLeavesGive : Type 0
@@ -49,3 +51,20 @@ abbrev pub LossesHaveLists : List Planned → Type 0
 LossesHaveLists plan =
     (traces : List (List Packet)) → ((s : ℕ) → AreNumbered s 0 (sent_by traces s)) → (leaf accepted capacity : ℕ) → IsFaultOfRun plan traces (Unsettled leaf accepted capacity)
     → TableId → IsUnsettledRun plan traces (Unsettled leaf accepted capacity)
+
+-- No tree of these devices holds a packet back.
+abbrev pub HoldNothing : List Device → Type 0
+HoldNothing devices = AllByRecursion (λ (d : Device). heads d.tree d.log ≡ []) devices
+
+-- A settled device holds no packet back, if its queues stand at the leaves of its tree, each at one of its own, and no sender sends to two.
+abbrev pub SettledHoldNothing : Type 0
+SettledHoldNothing =
+    (sent : ℕ → List Packet) (tallies : List Tally) (d : Device) → AreRising (map (λ (q : SharedQueue). q.leaf) d.queues) → leaves_distinct d.tree ≡ true
+    → ((q : ℕ) → stands_in q (map (λ (q : SharedQueue). q.leaf) d.queues) ≡ stands_in q (leaves (root d.tree))) → are_distinct (senders_to d) ≡ true
+    → IsDeviceSettled sent tallies d → heads d.tree d.log ≡ []
+
+-- After a run of a plan no tree of its devices holds a packet back.
+abbrev pub RunsHoldNothing : List Planned → Type 0
+RunsHoldNothing plan =
+    (traces : List (List Packet)) (step limit : ℕ) (logs : List (List Visit)) (packets : List (List Packet)) (tallies : List Tally)
+    (run : IsRunWith plan traces step limit logs packets tallies) → HoldNothing run.devices

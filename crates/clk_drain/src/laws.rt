@@ -1,13 +1,34 @@
 //! What holds of every pull over lines, and of every run that fails. A law is a function that does nothing and whose contract is the law.
 
-ghost use Rattle.clk_drain.specs.Laws.{TapsTakeWhatLeavesGive, LossesHaveLists};
+ghost use Rattle.clk_drain.specs.Laws.{TapsTakeWhatLeavesGive, SettledHoldNothing, RunsHoldNothing, LossesHaveLists};
 
+use clk_sched::runs_conserve_packets;
 use clk_tree::Plan;
 
 /// The tap of each line takes what the visits of a tree got from its leaf, in order, and nothing else changes.
 pub fn taps_take_what_leaves_give()
     ensures { TapsTakeWhatLeavesGive }
 {}
+
+/// A settled device holds no packet back. So each packet that one of its queues gave was emitted.
+pub fn settled_devices_hold_nothing()
+    ensures { SettledHoldNothing }
+{
+    // This call does nothing: its contract is a law.
+    runs_conserve_packets();
+}
+
+/// After a run of the plan no tree of its devices holds a packet back.
+pub fn runs_hold_nothing(plan: &Plan)
+    ensures { RunsHoldNothing plan.now }
+{
+    // These two calls do nothing: their contracts are laws.
+    runs_conserve_packets();
+    plan.trees_share_queues();
+    // Reading senders brings into scope that no sender sends to two queues.
+    let _ = plan.senders();
+    let _ = plan.queues();
+}
 
 /// Whatever counts a run's fault 21 has, there are lists of what the queues of the plan did that agree with them. Each sender offered all
 /// that it sends, and the fault names the first queue, by device and then by number, that lost packets below its capacity.

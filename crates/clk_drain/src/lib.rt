@@ -16,7 +16,9 @@ pub use clk_gate::{Free, Gate, MAX_LIMIT, MAX_STEP};
 pub use closing::close_and_drain;
 pub use drained::Drained;
 pub use examples::{moment_examples, outcome_examples, run_examples};
-pub use laws::{losses_have_lists, taps_take_what_leaves_give};
+pub use laws::{
+    losses_have_lists, runs_hold_nothing, settled_devices_hold_nothing, taps_take_what_leaves_give,
+};
 pub use line::Line;
 pub use lines::Lines;
 pub use outcome::Outcome;

@@ -23,10 +23,10 @@ returns-clause-is_drained c =
               below = tt;
             };
             emitted = refl;
-            heads = refl;
             queues = (
               record {
-                each = (record { tally = record { offered_are = offered.0.2; accepted_are = inr ([], refl, (refl, refl)); tail_drop = λ _. refl; front_drop = λ e. absurd (cc) }; given = refl }, tt);
+                each = (record { offered_are = offered.0.2; accepted_are = inr ([], refl, (refl, refl)); tail_drop = λ _. refl; front_drop = λ e. absurd (cc) }, tt);
+                given = refl;
                 reached = λ _. lit≤ tt;
               },
               tt,

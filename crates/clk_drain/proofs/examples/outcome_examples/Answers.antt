@@ -10,7 +10,7 @@ returns-clause-not_swapped_by_device c = λ o. let numbers = ap (map (λ (p : Pa
 
 pub returns-clause-not_swapped_by_queue : goal.returns-clause-not_swapped_by_queue
 returns-clause-not_swapped_by_queue c =
-    λ o. let numbers = ap (map (λ (p : Packet). p.number)) (dealt-none (p0_0 ∷ p0_1 ∷ []) (p0_1 ∷ p0_0 ∷ []) o.settled.0.queues.0.each.0.tally.accepted_are) in absurd (cc)
+    λ o. let numbers = ap (map (λ (p : Packet). p.number)) (dealt-none (p0_0 ∷ p0_1 ∷ []) (p0_1 ∷ p0_0 ∷ []) o.settled.0.queues.0.each.0.accepted_are) in absurd (cc)
 
 pub returns-clause-not_senders_swapped : goal.returns-clause-not_senders_swapped
 returns-clause-not_senders_swapped c = λ o. let senders = ap (map (λ (p : Packet). p.sender)) o.settled.1.0.emitted in absurd (cc)

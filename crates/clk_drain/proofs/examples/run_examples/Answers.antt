@@ -97,10 +97,10 @@ run-settled =
             below = tt;
           };
           emitted = refl;
-          heads = refl;
           queues = (
             record {
-              each = (record { tally = record { offered_are = inl ([], refl, inr ([], refl, (refl, refl))); accepted_are = inr ([], refl, (refl, refl)); tail_drop = λ _. refl; front_drop = λ e. absurd (cc) }; given = refl }, tt);
+              each = (record { offered_are = inl ([], refl, inr ([], refl, (refl, refl))); accepted_are = inr ([], refl, (refl, refl)); tail_drop = λ _. refl; front_drop = λ e. absurd (cc) }, tt);
+              given = refl;
               reached = λ _. lit≤ tt;
             },
             tt,
@@ -115,10 +115,10 @@ run-settled =
               below = tt;
             };
             emitted = refl;
-            heads = refl;
             queues = (
               record {
-                each = (record { tally = record { offered_are = inl ([], refl, (refl, refl)); accepted_are = inr ([], refl, (refl, refl)); tail_drop = λ _. refl; front_drop = λ e. absurd (cc) }; given = refl }, tt);
+                each = (record { offered_are = inl ([], refl, (refl, refl)); accepted_are = inr ([], refl, (refl, refl)); tail_drop = λ _. refl; front_drop = λ e. absurd (cc) }, tt);
+                given = refl;
                 reached = λ lost. absurd (omega (arith, lost));
               },
               tt,

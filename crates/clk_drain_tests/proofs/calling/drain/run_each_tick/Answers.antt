@@ -20,7 +20,7 @@ DealsAllOut tallies d = AllByRecursion (λ (q : SharedQueue). AllByRecursion (λ
 
 dealt : (sent : ℕ → List Packet) (d : Device) (q : SharedQueue) (found : Option Tally) → MatchOption found ⊥ (IsTallied sent d q) → MatchOption found ⊥ (DealsOut d)
 dealt sent d q None h = h
-dealt sent d q (Some t) h = h.tally.accepted_are
+dealt sent d q (Some t) h = h.accepted_are
 
 all-dealt : (sent : ℕ → List Packet) (tallies : List Tally) (d : Device) → IsDeviceSettled sent tallies d → DealsAllOut tallies d
 all-dealt sent tallies d settled =

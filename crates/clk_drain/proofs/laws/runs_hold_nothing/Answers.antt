@@ -1,0 +1,11 @@
+use Rattle.std.proofs.Common.{map, subst}
+use Rattle.clk_packet.specs.Lists.{AreRising}
+use Rattle.clk_tree.specs.PlanParts.{number_of}
+use Rattle.clk_drain.proofs.PlanSenders.{queues-apart}
+use Rattle.clk_drain.proofs.NoHeads.{runs-none}
+use Rattle.clk_drain.proofs.laws.runs_hold_nothing.Goals as goal
+
+pub returns : goal.returns
+returns c =
+    runs-none c.args.plan.now c.runs_conserve_packets.ensures.counts c.trees_share_queues.ensures c.queues.ensures.devices
+    (queues-apart c.args.plan.now (subst (λ senders. AreRising (map number_of senders)) c.senders.ensures.senders c.senders.ensures.rising))
