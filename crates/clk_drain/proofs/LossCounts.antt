@@ -3,6 +3,7 @@ use Rattle.std.proofs.Common.{◌≡◌, ℕ, zero, suc, ◌+◌, ◌<◌, ◌==
 use Rattle.std.proofs.lemmas.List.{map-append}
 use Rattle.std.specs.List.{flat_map, range_with_len, AllByRecursion}
 use Rattle.clk_packet.specs.declared.packet.Packet.{Packet}
+use Rattle.clk_packet.specs.declared.packet.Kind.TheVariants.{TailDrop, FrontDrop}
 use Rattle.clk_packet.specs.declared.fault.Fault.{Fault}
 use Rattle.clk_packet.specs.Lists.{In, are_distinct}
 use Rattle.clk_packet.specs.Trace.{sent_by}
@@ -103,24 +104,30 @@ lost-early plan traces fault apart known u = subst (IsFaultOfRun plan traces) (s
 
     -- the counts of the queue, once it is known which of the plan's it is
     counts : (k : Queued) → are_distinct k.senders ≡ true → shared_at queue.leaf k ≡ queue → HasLostEarly k (sent_in_all (sent_by traces) k.senders) (accepted_count seats) queue.capacity
-    counts k alone is =
-        let senders : senders_at seats ≡ k.senders = offered.senders ∙ sym (ap (λ (q : SharedQueue). q.senders) is) in
-        let kind : k.kind ≡ queue.kind = ap (λ (q : SharedQueue). q.kind) is in
-        let apart_seats : are_distinct (senders_at seats) ≡ true = subst (λ ns. are_distinct ns ≡ true) (sym senders) alone in
-        let own = own-list (λ c. c.evicted) seats apart_seats in record {
-          capacity_is = sym (ap (λ (q : SharedQueue). q.capacity) is);
-          below = u.names.below.below;
-          refused = λ tail.
-              let none = all-weaker (λ (c : SeatLists). evicted_of seats c.sender ≡ c.evicted) (λ (c : SeatLists). c.evicted ≡ []) seats (λ c e. sym e ∙ u.names.below.account.tail_drop (sym kind ∙ tail) c.sender) own in
-              let lost = u.names.below.lost in
-              let sum = subst (λ ns. sent_in_all (sent_by traces) ns ≡ accepted_count seats + lost_count seats) senders (counts-tail (sent_by traces) seats offered.sent none) in omega (arith, lost, sum);
-          evicted = λ front.
-              let none = all-both (λ (c : SeatLists). c.setup.kind ≡ queue.kind) IsSharedOut (λ (c : SeatLists). c.refused ≡ []) seats (λ c e shared. shared.front_drop (e ∙ sym kind ∙ front)) u.names.below.kinds u.names.below.shared in
-              let out = some-evicted seats seats none own u.names.below.lost in (
-                some-accepted seats out.0.sender out.0 (u.names.below.account.was_taken out.0 (subst (λ ns. In out.0 (flat_map (evicted_of seats) ns)) offered.senders out.1)),
-                subst (λ ns. accepted_count seats ≡ sent_in_all (sent_by traces) ns) senders (counts-front (sent_by traces) seats offered.sent none),
-              );
-        }
+    counts k alone is = record { capacity_is = sym (ap (λ (q : SharedQueue). q.capacity) is); below = u.names.below.below; refused = refuses; evicted = evicts }
+      where
+        senders : senders_at seats ≡ k.senders
+        senders = offered.senders ∙ sym (ap (λ (q : SharedQueue). q.senders) is)
+
+        kind : queue.kind ≡ k.kind
+        kind = sym (ap (λ (q : SharedQueue). q.kind) is)
+
+        own : AllByRecursion (λ (c : SeatLists). evicted_of seats c.sender ≡ c.evicted) seats
+        own = own-list (λ c. c.evicted) seats (subst (λ ns. are_distinct ns ≡ true) (sym senders) alone)
+
+        refuses : k.kind ≡ TailDrop → accepted_count seats < sent_in_all (sent_by traces) k.senders
+        refuses tail =
+            let none = all-weaker (λ (c : SeatLists). evicted_of seats c.sender ≡ c.evicted) (λ (c : SeatLists). c.evicted ≡ []) seats (λ c e. sym e ∙ u.names.below.account.tail_drop (kind ∙ tail) c.sender) own in
+            let lost = u.names.below.lost in
+            let sum = subst (λ ns. sent_in_all (sent_by traces) ns ≡ accepted_count seats + lost_count seats) senders (counts-tail (sent_by traces) seats offered.sent none) in omega (arith, lost, sum)
+
+        evicts : k.kind ≡ FrontDrop → (0 < accepted_count seats) × (accepted_count seats ≡ sent_in_all (sent_by traces) k.senders)
+        evicts front =
+            let none = all-both (λ (c : SeatLists). c.setup.kind ≡ queue.kind) IsSharedOut (λ (c : SeatLists). c.refused ≡ []) seats (λ c e shared. shared.front_drop (e ∙ kind ∙ front)) u.names.below.kinds u.names.below.shared in
+            let out = some-evicted seats seats none own u.names.below.lost in (
+              some-accepted seats out.0.sender out.0 (u.names.below.account.was_taken out.0 (subst (λ ns. In out.0 (flat_map (evicted_of seats) ns)) offered.senders out.1)),
+              subst (λ ns. accepted_count seats ≡ sent_in_all (sent_by traces) ns) senders (counts-front (sent_by traces) seats offered.sent none),
+            )
 
     by_queue : (o : Option Queued) → slice_get (queues_of plan) queue.leaf ≡ o → MatchOption o ⊥ (λ k. shared_at queue.leaf k ≡ queue) → MatchOption o ⊥ (λ k. HasLostEarly k (sent_in_all (sent_by traces) k.senders) (accepted_count seats) queue.capacity)
     by_queue None at none = none
