@@ -218,3 +218,11 @@ other_gave =
     (asking 0 1 1 0 None ∷ asking 0 1 1 1 (Some p0_0) ∷ asking 0 1 0 0 (Some p0_0) ∷
     asking 1 2 1 0 None ∷ asking 1 2 1 1 (Some p2_0) ∷ asking 1 2 0 0 (Some p2_0) ∷ [])
     (p0_0 ∷ p2_0 ∷ [])
+
+-- One device over both queues, each of which gave a packet that the other had accepted.
+abbrev pub exchanged : Device
+exchanged =
+    device both_queues (queue_a ∷ queue_b ∷ [])
+    (asking 0 1 1 0 (Some p2_0) ∷ asking 0 1 0 0 (Some p2_0) ∷
+    asking 1 2 1 0 None ∷ asking 1 2 1 1 (Some p0_0) ∷ asking 1 2 0 0 (Some p0_0) ∷ [])
+    (p2_0 ∷ p0_0 ∷ [])

@@ -3,7 +3,7 @@
 
 ghost use Rattle.std.specs.Prelude.{[], ◌∷◌};
 ghost use Rattle.clk_drain.specs.Outcome.{IsSettledOutcome};
-ghost use Rattle.clk_drain.specs.Examples.{p0_1, sent, device_a, device_b, tallies, emitted_twice, given_twice, refused_emitted, emitted_none, asks_beside, moment_falls, below_capacity, head_held, other_held, other_emitted, packet_lost, other_evicted, packet_forgotten, tally_missing, tallies_turned, tally_twice, sender_unknown, never_sent, with_never_sent, queue_evicts, with_first_evicted, front_drop_refuses, with_last_refused, both_out, with_both, swapped_by_device, swapped_by_queue, senders_swapped, with_none_evicted, device_ab, other_gave};
+ghost use Rattle.clk_drain.specs.Examples.{p0_1, sent, device_a, device_b, tallies, emitted_twice, given_twice, refused_emitted, emitted_none, asks_beside, moment_falls, below_capacity, head_held, other_held, other_emitted, packet_lost, other_evicted, packet_forgotten, tally_missing, tallies_turned, tally_twice, sender_unknown, never_sent, with_never_sent, queue_evicts, with_first_evicted, front_drop_refuses, with_last_refused, both_out, with_both, swapped_by_device, swapped_by_queue, senders_swapped, with_none_evicted, device_ab, other_gave, exchanged};
 ghost use Rattle.clk_packet.specs.declared.fault.Fault.TheVariants.{Memory, TooManyPulls, Unsettled};
 ghost use Rattle.clk_sched.specs.Tree.{queue};
 ghost use Rattle.clk_sched.specs.Examples.Priority.{p0_0};
@@ -41,6 +41,7 @@ pub fn outcome_examples()
     ensures not_swapped_by_queue { ¬ (IsSettledOutcome sent (swapped_by_queue ∷ device_b ∷ []) with_both) }
     ensures not_senders_swapped { ¬ (IsSettledOutcome sent (device_a ∷ senders_swapped ∷ []) with_none_evicted) }
     ensures not_other_gave { ¬ (IsSettledOutcome sent (other_gave ∷ []) tallies) }
+    ensures not_exchanged { ¬ (IsSettledOutcome sent (exchanged ∷ []) tallies) }
 {}
 
 /// What a drain of a queue may return that accepted the first packet of its sender and refused the second: these outcomes, and not the

@@ -10,7 +10,8 @@ pub fn taps_take_what_leaves_give()
     ensures { TapsTakeWhatLeavesGive }
 {}
 
-/// A settled device holds no packet back. So each packet that one of its queues gave was emitted.
+/// A settled device holds no packet back, if its queues stand at the leaves of its tree, each at one of its own, and no sender sends to two
+/// of them.
 pub fn settled_devices_hold_nothing()
     ensures { SettledHoldNothing }
 {
@@ -25,13 +26,14 @@ pub fn runs_hold_nothing(plan: &Plan)
     // These two calls do nothing: their contracts are laws.
     runs_conserve_packets();
     plan.trees_share_queues();
-    // Reading senders brings into scope that no sender sends to two queues.
+    // Reading senders and queues brings into scope that no sender sends to two queues, and that each queue has a device.
     let _ = plan.senders();
     let _ = plan.queues();
 }
 
-/// Whatever counts a run's fault 21 has, there are lists of what the queues of the plan did that agree with them. Each sender offered all
-/// that it sends, and the fault names the first queue, by device and then by number, that lost packets below its capacity.
+/// Whatever counts a run's fault 21 has, there are lists of what the queues of the plan did that agree with them, if each sender's packets
+/// are numbered from 0. By these lists each sender offered all that it sends, and the fault names the first queue, by device and then by
+/// number, that lost packets below its capacity.
 pub fn losses_have_lists(plan: &Plan)
     ensures { LossesHaveLists plan.now }
 {

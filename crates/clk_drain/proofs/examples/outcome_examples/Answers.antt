@@ -14,3 +14,6 @@ returns-clause-not_swapped_by_queue c =
 
 pub returns-clause-not_senders_swapped : goal.returns-clause-not_senders_swapped
 returns-clause-not_senders_swapped c = λ o. let senders = ap (map (λ (p : Packet). p.sender)) o.settled.1.0.emitted in absurd (cc)
+
+pub returns-clause-not_exchanged : goal.returns-clause-not_exchanged
+returns-clause-not_exchanged c = λ o. let senders = ap (map (λ (p : Packet). p.sender)) o.settled.0.queues.0.given in absurd (cc)
