@@ -63,7 +63,7 @@ fn standard_output_may_fail_after_any_byte(rt: HostRuntime) -> Result<(), Fail> 
         "script out/cut.alone.click out/cut.script --visits -",
         FOLLOWED.as_bytes(),
     );
-    for words in ["--help", "script --help"] {
+    for &words in &["--help", "script --help"] {
         let help = answered(&rt, words, AMPLE, AMPLE).written;
         assert!(rt; !help.is_empty());
         assert_written_so_far(&rt, words, &help);

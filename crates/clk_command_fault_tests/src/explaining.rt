@@ -14,7 +14,7 @@ const TREE: &str = "s :: Sender(0); q :: Queue(2); d :: ToDevice(link); s -> q -
 /// Words, what stands on standard input, their fault, and how it is explained.
 type Explained = (&'static str, &'static str, Fault, &'static str);
 
-const OF_TREES: [Explained; 6] = [
+const OF_TREES: &[Explained] = &[
     (
         "check --explain out/unnamed.click",
         "",
@@ -69,7 +69,7 @@ expected a name
 ];
 
 /// Scripts over a tree with one device, their wrong lines, and how these are explained.
-const OF_SCRIPTS: [(&str, u32, &str); 22] = [
+const OF_SCRIPTS: &[(&str, u32, &str)] = &[
     (
         "send 0 10\n sned 0 10",
         2,
@@ -172,7 +172,7 @@ const OF_SCRIPTS: [(&str, u32, &str); 22] = [
 ];
 
 /// Traces, their wrong records, and how these are explained.
-const OF_TRACES: [(&str, u32, &str); 12] = [
+const OF_TRACES: &[(&str, u32, &str)] = &[
     (
         "0,10\nx,10\n",
         2,
@@ -217,7 +217,7 @@ const OF_TRACES: [(&str, u32, &str); 12] = [
 ];
 
 /// Faults of files, of senders and of what is too large. What the system says of a file is left out.
-const OF_THE_REST: [Explained; 12] = [
+const OF_THE_REST: &[Explained] = &[
     (
         "check --explain none.click",
         "",
@@ -297,7 +297,7 @@ expected the number of a Sender of the tree
 ];
 
 /// The files of the tests.
-const FILES: [(&str, &str); 3] = [
+const FILES: &[(&str, &str)] = &[
     ("out/told.click", TREE),
     (
         "out/unnamed.click",
@@ -308,17 +308,17 @@ const FILES: [(&str, &str); 3] = [
 
 #[test]
 fn faults_of_trees_are_explained(rt: HostRuntime) {
-    write_all(&rt, &FILES).expect(&rt, "files");
-    for (words, given, fault, told) in OF_TREES {
+    write_all(&rt, FILES).expect(&rt, "files");
+    for &(words, given, fault, told) in OF_TREES {
         assert_explained(&rt, words, given, fault, told);
     }
 }
 
 #[test]
 fn wrong_lines_are_explained(rt: HostRuntime) {
-    write_all(&rt, &FILES).expect(&rt, "files");
+    write_all(&rt, FILES).expect(&rt, "files");
     let words = "script --explain out/told.click -";
-    for (script, line, told) in OF_SCRIPTS {
+    for &(script, line, told) in OF_SCRIPTS {
         assert_located(&rt, words, script, Fault::BadScript { line }, told);
     }
     // The built-in tree too has a script.
@@ -328,9 +328,9 @@ fn wrong_lines_are_explained(rt: HostRuntime) {
 
 #[test]
 fn wrong_records_are_explained(rt: HostRuntime) {
-    write_all(&rt, &FILES).expect(&rt, "files");
-    for (trace, row, told) in OF_TRACES {
-        for words in [
+    write_all(&rt, FILES).expect(&rt, "files");
+    for &(trace, row, told) in OF_TRACES {
+        for &words in &[
             "run --explain out/told.click -",
             "lint out/told.click - --explain",
         ] {
@@ -342,8 +342,8 @@ fn wrong_records_are_explained(rt: HostRuntime) {
 #[test]
 fn other_faults_are_explained(rt: HostRuntime) {
     fs::create_dir_all(&rt, "out/folder").expect(&rt, "a folder");
-    write_all(&rt, &FILES).expect(&rt, "files");
-    for (words, given, fault, told) in OF_THE_REST {
+    write_all(&rt, FILES).expect(&rt, "files");
+    for &(words, given, fault, told) in OF_THE_REST {
         let answered = answer(&rt, words, given.as_bytes(), AMPLE, AMPLE).expect(
             &rt,
             "ample memory",
@@ -359,7 +359,7 @@ fn large_trees_are_explained(rt: HostRuntime) {
     let told =
         "standard input: the text has more than 1048576 bytes\nexpected at most 1048576 bytes\n";
     let text = many(rt.alloc(), " ", 1_048_577).expect(&rt, "memory");
-    for words in ["check --explain -", "script --explain - none.script"] {
+    for &words in &["check --explain -", "script --explain - none.script"] {
         assert_explained(&rt, words, &text, Fault::TooLarge, told);
     }
 }
@@ -374,7 +374,7 @@ fn large_scripts_are_explained(rt: HostRuntime) {
 
 #[test]
 fn large_traces_are_explained(rt: HostRuntime) {
-    write_all(&rt, &FILES).expect(&rt, "files");
+    write_all(&rt, FILES).expect(&rt, "files");
     let told = "standard input: the trace has more than 1000000 records\n";
     let text = many(rt.alloc(), "0,1\n", 1_000_001).expect(&rt, "memory");
     let words = "live --explain out/told.click - --visits -";
@@ -393,7 +393,7 @@ fn many(alloc: Global, text: &str, times: usize) -> Result<String, AllocError> {
 // Standard output that fails is told by its name.
 #[test]
 fn failed_writes_are_explained(rt: HostRuntime) {
-    write_all(&rt, &FILES).expect(&rt, "files");
+    write_all(&rt, FILES).expect(&rt, "files");
     let words = "check --explain out/told.click";
     let answered = answer(&rt, words, b"", 0, AMPLE).expect(&rt, "ample memory");
     assert_eq!(rt; answered.outcome, Err(Fault::Write));
@@ -409,7 +409,7 @@ fn failed_writes_are_explained(rt: HostRuntime) {
 // What the explanation goes to may fail anywhere. The fault stays, and nothing else is written.
 #[test]
 fn an_explanation_may_be_cut_off(rt: HostRuntime) {
-    write_all(&rt, &FILES).expect(&rt, "files");
+    write_all(&rt, FILES).expect(&rt, "files");
     let words = "check --explain out/unclassed.click";
     for room in 0..100 {
         let answered = answer(&rt, words, b"", AMPLE, room).expect(&rt, "ample memory");

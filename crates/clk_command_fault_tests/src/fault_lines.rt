@@ -6,7 +6,7 @@ use std::alloc::Global;
 use std::process::Abort;
 
 /// A fault of each variant, and its line.
-const FAULTS: [(Fault, &str); 21] = [
+const FAULTS: &[(Fault, &str)] = &[
     (Fault::Memory, "fault 1: Memory\n"),
     (Fault::BadText { offset: 18 }, "fault 2: BadText 18\n"),
     (
@@ -61,7 +61,7 @@ fn line_of(rt: &impl Abort, alloc: Global, fault: Fault) -> Vec<u8> {
 // The derive that shows a fault has no contract. This test shows that it says what `fault_line` writes.
 #[test]
 fn a_fault_has_a_line(rt: HostRuntime) {
-    for (fault, text) in FAULTS {
+    for &(fault, text) in FAULTS {
         let shown = format!(in rt.alloc(); "{fault}\n").expect(&rt, "ample memory");
         assert_eq!(rt; shown.as_str(), text);
         assert_eq!(rt; line_of(&rt, rt.alloc(), fault).as_slice(), text.as_bytes());

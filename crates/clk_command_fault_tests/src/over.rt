@@ -152,7 +152,7 @@ fn assert_not_read<H: Threads + Wait + Sync + AllocGlobal + Abort>(
 
 #[test]
 fn either_source_may_fail_after_any_byte(rt: HostRuntime) {
-    for task in [
+    for &task in &[
         Task::Script,
         Task::ScriptWithVisits,
         Task::ScriptThenVisits,

@@ -1,5 +1,5 @@
 //! What the tests of `clk_command` share: the program over memory and over files of the tests, and how what it does differs from what it is
-//! meant to do.
+//! meant to do. A library can't assert: its functions return what differs, and the tests assert that nothing does.
 #![tactic(auto)]
 
 mod answers;

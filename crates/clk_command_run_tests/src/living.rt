@@ -30,10 +30,10 @@ const REPORT: &str = "sender 0: sent 2 30, accepted 2 30, refused 0 0, evicted 0
 const WRONG: &str =
     "live out/live.click out/unlive.trace --record out/unlive.script --visits out/unlive.csv";
 
-const UNMADE: [(&str, Option<&str>); 2] = [("out/unlive.script", None), ("out/unlive.csv", None)];
+const UNMADE: &[(&str, Option<&str>)] = &[("out/unlive.script", None), ("out/unlive.csv", None)];
 
 /// Runs of traces, and words that run none.
-const ROWS: [Row; 12] = [
+const ROWS: &[Row] = &[
     (
         &[TREE, SENT],
         "live --step 1 --limit 1 out/live.click out/live.trace",
@@ -77,14 +77,14 @@ const ROWS: [Row; 12] = [
         WRONG,
         Err(Fault::UnknownSender { sender: 7 }),
         "",
-        &UNMADE,
+        UNMADE,
     ),
     (
         &[TREE, ("out/unlive.trace", "3,10\n3,0\n")],
         WRONG,
         Err(Fault::BadTrace { row: 2 }),
         "",
-        &UNMADE,
+        UNMADE,
     ),
     // A tree is read and checked before the trace is opened.
     (
@@ -127,11 +127,11 @@ const ROWS: [Row; 12] = [
 
 #[test]
 fn words_of_live_runs_are_answered(rt: HostRuntime) {
-    let found = compare_rows(&rt, &ROWS).expect(&rt, "ample memory and files");
+    let found = compare_rows(&rt, ROWS).expect(&rt, "ample memory and files");
     assert_eq!(rt; found, None);
 }
 
-const SAID: [Said; 10] = [
+const SAID: &[Said] = &[
     (
         "run a b --record c",
         2,
@@ -171,7 +171,7 @@ const SAID: [Said; 10] = [
 
 #[test]
 fn wrong_words_and_help_of_live_are_told(rt: HostRuntime) {
-    for (words, status, begin, part) in SAID {
+    for &(words, status, begin, part) in SAID {
         let is_so = is_said(&rt, words, status, begin, part);
         assert!(rt; is_so.expect(&rt, "ample memory"), "at {words}");
     }
@@ -219,7 +219,7 @@ fn a_record_tells_the_run(rt: HostRuntime) -> Result<(), Fail> {
         "out/small.trace",
         "0,10\n1,20\n1,30\n".repeat(rt.alloc(), 500)?,
     )?;
-    for name in ["told", "small"] {
+    for &name in &["told", "small"] {
         assert_told(&rt, name)?;
     }
     Ok(())
@@ -230,7 +230,7 @@ fn assert_told<H: Files + AllocGlobal + Threads + Wait + Sync + Abort>(
     rt: &H,
     name: &str,
 ) -> Result<(), Fail> {
-    for (options, replayed) in [
+    for &(options, replayed) in &[
         ("--record out/told.script", false),
         ("--record out/told.script --visits out/told.csv", true),
     ] {

@@ -32,7 +32,7 @@ const WRONG: &str = "run out/sound.click out/wrong.trace --visits out/wrong.csv"
 const UNMADE: (&str, Option<&str>) = ("out/wrong.csv", None);
 
 /// Runs of traces, and words that run none.
-const ROWS: [Row; 13] = [
+const ROWS: &[Row] = &[
     // A run may go at any pace.
     (
         &[TREE, SENT],
@@ -132,7 +132,7 @@ const ROWS: [Row; 13] = [
 
 #[test]
 fn words_of_runs_are_answered(rt: HostRuntime) {
-    let found = compare_rows(&rt, &ROWS).expect(&rt, "ample memory and files");
+    let found = compare_rows(&rt, ROWS).expect(&rt, "ample memory and files");
     assert_eq!(rt; found, None);
 }
 
@@ -233,7 +233,7 @@ fn visits_go_at_the_pace_of_the_run(rt: HostRuntime) {
 #[test]
 fn visits_follow_the_report(rt: HostRuntime) {
     write_all(&rt, &[TREE, SENT]).expect(&rt, "files");
-    for words in [
+    for &words in &[
         "run --visits -",
         "live --visits -",
         "live --visits - --record out/followed.script",

@@ -42,7 +42,7 @@ const LONG: &str =
     "xxxxxxxxxxxxxxxxxxxxxxxxxxxxxxxxxxxxxxxxxxxxxxxxxxxxxxxxxxxxxxxxxxxxxxxxxxxxxxxxxxxxxxxxxxxxxxxxxxxxxxxxxxxxxxxxxxxxxxxxxxxxxxxx";
 
 /// Scripts with visits.
-const ROWS: [Row; 6] = [
+const ROWS: &[Row] = &[
     // Visits don't change the answer.
     (
         &[ALONE, SAME],
@@ -101,7 +101,7 @@ const ROWS: [Row; 6] = [
 
 #[test]
 fn words_with_visits_are_answered(rt: HostRuntime) {
-    let found = compare_rows(&rt, &ROWS).expect(&rt, "ample memory and files");
+    let found = compare_rows(&rt, ROWS).expect(&rt, "ample memory and files");
     assert_eq!(rt; found, None);
 }
 
@@ -178,12 +178,12 @@ pub fn assert_shown(rt: &(impl Files + AllocGlobal + Abort), path: &str, visits:
 fn log_of_script(rt: &impl Abort, alloc: Global) -> Result<Vec<Visit>, Fault> {
     let plan = Plan::read(alloc, TREE.as_bytes())?;
     let mut router = Router::open(alloc, &plan, Keeps::ALL)?;
-    for (place, length) in [(0, 600), (1, 65_535), (0, 20)] {
+    for &(place, length) in &[(0, 600), (1, 65_535), (0, 20)] {
         assert!(rt; router.can_offer(place));
         router.offer(place, length);
     }
     // The latest moment is 3, and the drain begins after moment 7.
-    for moment in [0, 0, 3, 2] {
+    for &moment in &[0, 0, 3, 2] {
         assert!(rt; router.can_pull(0, moment));
         router.pull(0, moment)?;
     }
@@ -199,11 +199,11 @@ fn log_of_script(rt: &impl Abort, alloc: Global) -> Result<Vec<Visit>, Fault> {
 
 #[test]
 fn visits_are_read_back(rt: HostRuntime) {
-    let files = [
+    let files = &[
         ("out/read_back.click", TREE),
         ("out/read_back.script", SCRIPT),
     ];
-    write_all(&rt, &files).expect(&rt, "files");
+    write_all(&rt, files).expect(&rt, "files");
     let words = "script out/read_back.click out/read_back.script --visits out/read_back.csv";
     let answered = answer(&rt, words, b"", AMPLE, AMPLE).expect(&rt, "ample memory");
     assert_eq!(rt; answered.outcome, Ok(0));

@@ -15,13 +15,13 @@ const SCRIPT: &str = "send 0 10\npull 0\n";
 const TRACE: &str = "0,10\n";
 
 /// What the files have before, and after.
-const FILES: [(&str, &str); 3] = [
+const FILES: &[(&str, &str)] = &[
     ("out/kept.click", TREE),
     ("out/kept.script", SCRIPT),
     ("out/kept.trace", TRACE),
 ];
 
-const LEFT: [(&str, Option<&str>); 5] = [
+const LEFT: &[(&str, Option<&str>)] = &[
     ("out/kept.click", Some(TREE)),
     ("out/kept.script", Some(SCRIPT)),
     ("out/kept.trace", Some(TRACE)),
@@ -30,7 +30,7 @@ const LEFT: [(&str, Option<&str>); 5] = [
 ];
 
 /// Words that name one file twice, and how they name it where it would be written. The links lead to the tree.
-const TWICE: [(&str, &str); 11] = [
+const TWICE: &[(&str, &str)] = &[
     (
         "script out/kept.click out/kept.script --visits out/kept.click",
         "out/kept.click",
@@ -79,26 +79,26 @@ const TWICE: [(&str, &str); 11] = [
 
 #[test]
 fn no_file_that_is_named_twice_is_overwritten(rt: HostRuntime) {
-    write_all(&rt, &FILES).expect(&rt, "files");
+    write_all(&rt, FILES).expect(&rt, "files");
     let _ = fs::remove_file(&rt, "out/hard.click");
     let _ = fs::remove_file(&rt, "out/soft.click");
     fs::hard_link(&rt, "out/kept.click", "out/hard.click").expect(&rt, "a link");
     symlink(&rt, "kept.click", "out/soft.click").expect(&rt, "a link");
-    for (words, path) in TWICE {
+    for &(words, path) in TWICE {
         let begin = "error: what is read, or written";
         assert!(rt;
             is_said(&rt, words, 2, begin, path).expect(&rt, "ample memory"),
             "at {words}"
         );
-        assert_eq!(rt; compare_files(&rt, &LEFT), None, "at {words}");
+        assert_eq!(rt; compare_files(&rt, LEFT), None, "at {words}");
     }
 }
 
 // Another file is overwritten, and a device loses nothing.
 #[test]
 fn other_files_are_overwritten(rt: HostRuntime) {
-    write_all(&rt, &FILES).expect(&rt, "files");
-    for words in [
+    write_all(&rt, FILES).expect(&rt, "files");
+    for &words in &[
         "script out/kept.click out/kept.script --visits out/other.csv",
         "live out/kept.click out/kept.trace --record out/other.csv --visits /dev/null",
         "live out/kept.click out/kept.trace --record /dev/null --visits out/other.csv",
@@ -115,7 +115,7 @@ fn other_files_are_overwritten(rt: HostRuntime) {
 #[test]
 fn what_takes_the_message_may_fail(rt: HostRuntime) {
     let words = "script abc d --visits abc";
-    for room in [0, 7, 73, 76] {
+    for &room in &[0, 7, 73, 76] {
         let answered = answer(&rt, words, input(), AMPLE, room).expect(&rt, "ample memory");
         assert_eq!(rt; answered.outcome, Err(Fault::Write), "at {room}");
         assert_eq!(rt; answered.told.len(), room);
@@ -152,8 +152,8 @@ q [0] -> [0] d;
 // Words, what stands on standard input, and what they return and write. A path that leads to a file named `-` is no standard input.
 #[test]
 fn standard_input_stands_for_one_input(rt: HostRuntime) {
-    write_all(&rt, &FILES).expect(&rt, "files");
-    for (words, input, outcome, written) in [
+    write_all(&rt, FILES).expect(&rt, "files");
+    for &(words, input, outcome, written) in &[
         ("check -", TREE, Ok(0), CANONICAL),
         ("lint -", HALTING, Ok(0), WARNINGS),
         ("lint - out/kept.trace", HALTING, Ok(0), WARNINGS),
@@ -192,7 +192,7 @@ fn standard_input_stands_for_one_input(rt: HostRuntime) {
 
 #[test]
 fn standard_input_is_not_two_inputs(rt: HostRuntime) {
-    for words in [
+    for &words in &[
         "lint - -",
         "script - -",
         "run - -",

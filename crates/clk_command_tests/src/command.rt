@@ -18,7 +18,7 @@ const BAD: (&str, &str) = ("out/bad.click", "q :: Que;");
 const BAD_FAULT: Fault = Fault::UnknownClass { offset: 5 };
 
 /// Trees that are checked, and scripts.
-const ROWS: [Row; 9] = [
+const ROWS: &[Row] = &[
     (
         &[
             (
@@ -76,7 +76,7 @@ const ROWS: [Row; 9] = [
 
 #[test]
 fn words_are_answered(rt: HostRuntime) {
-    let found = compare_rows(&rt, &ROWS).expect(&rt, "ample memory and files");
+    let found = compare_rows(&rt, ROWS).expect(&rt, "ample memory and files");
     assert_eq!(rt; found, None);
 }
 
@@ -97,7 +97,7 @@ fn examples_are_answered_without_visits(rt: HostRuntime) {
     }
 }
 
-const SAID: [Said; 38] = [
+const SAID: &[Said] = &[
     ("frob", 2, "error: ", "unrecognized subcommand 'frob'"),
     ("check", 2, "error: ", "<TREE>"),
     ("check a b", 2, "error: ", "unexpected argument 'b' found"),
@@ -215,7 +215,7 @@ const SAID: [Said; 38] = [
 
 #[test]
 fn wrong_words_and_help_are_told(rt: HostRuntime) {
-    for (words, status, begin, part) in SAID {
+    for &(words, status, begin, part) in SAID {
         let is_so = is_said(&rt, words, status, begin, part);
         assert!(rt; is_so.expect(&rt, "ample memory"), "at {words}");
     }
@@ -243,7 +243,7 @@ fn what_takes_the_text_may_fail(rt: HostRuntime) {
 
 #[test]
 fn a_tree_text_has_at_most_1048576_bytes(rt: HostRuntime) {
-    for (blanks, fault) in [(1_048_576, Fault::NoDevice), (1_048_577, Fault::TooLarge)] {
+    for &(blanks, fault) in &[(1_048_576, Fault::NoDevice), (1_048_577, Fault::TooLarge)] {
         let text = vec![in rt.alloc(); b' '; blanks].expect(&rt, "ample memory");
         write(&rt, "out/long.click", text).expect(&rt, "a file");
         let found = compare(&rt, "check out/long.click", input(), Err(fault), b"");

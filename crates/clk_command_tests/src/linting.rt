@@ -11,7 +11,7 @@ const TREE: (&str, &str) = (
 const TRACE: (&str, &str) = ("out/lint.trace", "0,10\n0,20\n");
 
 /// Trees and traces with and without warnings, and with faults.
-const ROWS: [Row; 10] = [
+const ROWS: &[Row] = &[
     (
         &[TREE],
         "lint out/lint.click",
@@ -88,6 +88,6 @@ warning: q: capacity 1 is below the packets of sender 0, 2
 
 #[test]
 fn warnings_are_told(rt: HostRuntime) {
-    let found = compare_rows(&rt, &ROWS).expect(&rt, "ample memory and files");
+    let found = compare_rows(&rt, ROWS).expect(&rt, "ample memory and files");
     assert_eq!(rt; found, None);
 }
