@@ -9,6 +9,7 @@ use Rattle.clk_packet.specs.declared.packet.Packet.{Packet}
 use Rattle.clk_packet.specs.declared.packet.Kind.{Kind}
 use Rattle.clk_packet.specs.declared.packet.Kind.TheVariants.{FrontDrop}
 use Rattle.clk_packet.specs.Lists.{In, of_sender, stands_in, are_distinct, AreRising}
+use Rattle.clk_packet.proofs.Callers.Dealt.{numbered-rise}
 use Rattle.clk_packet.proofs.Callers.Lists.{all-append, distinct-parts}
 use Rattle.clk_ruled.specs.Account.{IsAccount}
 use Rattle.clk_ruled.specs.PacketLists.{packet_numbers, is_packet, has_packet, without, IsOnceEach}
@@ -20,18 +21,10 @@ use Rattle.clk_drain.proofs.Settling.{own-list}
 use Rattle.clk_sched.proofs.Callers.Lists.{of-all, all-weaker}
 use Rattle.clk_drain.proofs.Lists.{in-left, in-right, in-either}
 
--- Numbered packets are of their sender, and their numbers rise.
+-- Numbered packets are of their sender.
 numbered-of : (s n : ℕ) (packets : List Packet) → AreNumbered s n packets → AllByRecursion (λ (p : Packet). p.sender ≡ s) packets
 numbered-of s n [] h = tt
 numbered-of s n (p ∷ packets) h = (h.0, numbered-of s (suc n) packets h.2)
-
-numbered-above : (s m n : ℕ) (packets : List Packet) → m < n → AreNumbered s n packets → AllByRecursion (λ k. m < k) (packet_numbers packets)
-numbered-above s m n [] lt h = tt
-numbered-above s m n (p ∷ packets) lt h = (subst (λ k. m < k) (sym h.1) lt, numbered-above s m (suc n) packets (omega (arith, lt)) h.2)
-
-numbered-rise : (s n : ℕ) (packets : List Packet) → AreNumbered s n packets → AreRising (packet_numbers packets)
-numbered-rise s n [] h = tt
-numbered-rise s n (p ∷ packets) h = (numbered-above s p.number (suc n) packets (let is = h.1 in omega (arith, is)) h.2, numbered-rise s (suc n) packets h.2)
 
 pub numbered-take : (s n k : ℕ) (packets : List Packet) → AreNumbered s n packets → AreNumbered s n (take k packets)
 numbered-take s n zero packets h = tt
@@ -187,9 +180,9 @@ in-own (l ∷ seats) p own apart among = ⊎_elim here (later (in-own seats p ow
         by_test false other = rest h
 
 -- No packet was accepted twice.
-once-own : (s n : ℕ) (packets : List Packet) → AreNumbered s n packets → IsOnceEach packets
-once-own s n [] h = tt
-once-own s n (p ∷ packets) h = (none-here packets (numbered-above s p.number (suc n) packets (let is = h.1 in omega (arith, is)) h.2), once-own s (suc n) packets h.2)
+once-rising : (packets : List Packet) → AreRising (packet_numbers packets) → IsOnceEach packets
+once-rising [] h = tt
+once-rising (p ∷ packets) h = (none-here packets h.0, once-rising packets h.1)
   where
     none-here : (others : List Packet) → AllByRecursion (λ k. p.number < k) (packet_numbers others) → has_packet others p ≡ false
     none-here [] above = refl
@@ -210,7 +203,7 @@ once-joined (p ∷ a) b h k none = (has-joined p a b h.0 none.0, once-joined a b
 once-all : (seats : List SeatLists) → AreOwn seats → are_distinct (senders_at seats) ≡ true → IsOnceEach (all_accepted seats)
 once-all [] own apart = tt
 once-all (l ∷ seats) own apart =
-    once-joined l.accepted (all_accepted seats) (once-own l.sender 0 l.accepted own.0) (once-all seats own.1 parts.1)
+    once-joined l.accepted (all_accepted seats) (once-rising l.accepted (numbered-rise l.sender 0 l.accepted own.0)) (once-all seats own.1 parts.1)
     (all-weaker (λ (p : Packet). p.sender ≡ l.sender) (λ (p : Packet). has_packet (all_accepted seats) p ≡ false) l.accepted (λ p is. none-other p (all_accepted seats) (others p is)) (numbered-of l.sender 0 l.accepted own.0))
   where
     parts : (stands_in l.sender (senders_at seats) ≡ false) × (are_distinct (senders_at seats) ≡ true)

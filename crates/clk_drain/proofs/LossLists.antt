@@ -236,8 +236,8 @@ split x (y ∷ xs) (inl here) = record { earlier = []; later = xs; is = ap (λ z
 split x (y ∷ xs) (inr later) = let rest = split x xs later in record { earlier = y ∷ rest.earlier; later = rest.later; is = ap (λ zs. y ∷ zs) rest.is }
 
 -- Whatever counts fault 21 has, there are lists.
-pub losses-have-lists : (plan : List Planned) → are_distinct (flat_map (λ (k : Queued). k.senders) (queues_of plan)) ≡ true → AllByRecursion (λ (k : Queued). k.device < device_count plan) (queues_of plan) → LossesHaveLists plan
-losses-have-lists plan apart within traces numbered leaf accepted capacity fault id = by_queue (slice_get (queues_of plan) leaf) refl fault.1
+pub losses-have-lists : (plan : List Planned) (traces : List (List Packet)) → ((s : ℕ) → AreNumbered s 0 (sent_by traces s)) → are_distinct (flat_map (λ (k : Queued). k.senders) (queues_of plan)) ≡ true → AllByRecursion (λ (k : Queued). k.device < device_count plan) (queues_of plan) → LossesHaveLists plan traces
+losses-have-lists plan traces numbered apart within leaf accepted capacity fault id = by_queue (slice_get (queues_of plan) leaf) refl fault.1
   where
     by_queue : (o : Option Queued) → slice_get (queues_of plan) leaf ≡ o → MatchOption o ⊥ (λ k. HasLostEarly k (sent_in_all (sent_by traces) k.senders) accepted capacity) → IsUnsettledRun plan traces (Unsettled leaf accepted capacity)
     by_queue None at h = absurd h

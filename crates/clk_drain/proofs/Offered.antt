@@ -5,34 +5,16 @@ use Rattle.std.proofs.lemmas.List.{length-append}
 use Rattle.std.proofs.lemmas.Option.{slice_get_within, slice_get_cases, get_or_from_slice_get}
 use Rattle.clk_packet.specs.declared.packet.Packet.{Packet}
 use Rattle.clk_packet.specs.declared.packet.Offered.{Offered}
-use Rattle.clk_ruled.specs.Queue.{SeatLists, AreNumbered, IsDealt, IsOffered}
+use Rattle.clk_packet.proofs.Callers.Dealt.{dealt-first, dealt-second, numbered-more}
+use Rattle.clk_ruled.specs.Queue.{SeatLists, IsOffered}
 use Rattle.clk_drain.specs.Closing.{AreOffered}
-
--- One packet more is accepted, or refused.
-dealt-accepted : (packets accepted refused : List Packet) (p : Packet) → IsDealt packets accepted refused → IsDealt (packets ++ p ∷ []) (accepted ++ p ∷ []) refused
-dealt-accepted [] accepted refused p h = search rules
-dealt-accepted (q ∷ packets) accepted refused p h = ⊎_elim
-    (λ (x : (rest : List Packet) × (accepted ≡ q ∷ rest) × IsDealt packets rest refused). inl (x.0 ++ p ∷ [], ap (λ l. l ++ p ∷ []) x.1, dealt-accepted packets x.0 refused p x.2))
-    (λ (x : (rest : List Packet) × (refused ≡ q ∷ rest) × IsDealt packets accepted rest). inr (x.0, x.1, dealt-accepted packets accepted x.0 p x.2))
-    h
-
-dealt-refused : (packets accepted refused : List Packet) (p : Packet) → IsDealt packets accepted refused → IsDealt (packets ++ p ∷ []) accepted (refused ++ p ∷ [])
-dealt-refused [] accepted refused p h = search rules
-dealt-refused (q ∷ packets) accepted refused p h = ⊎_elim
-    (λ (x : (rest : List Packet) × (accepted ≡ q ∷ rest) × IsDealt packets rest refused). inl (x.0, x.1, dealt-refused packets x.0 refused p x.2))
-    (λ (x : (rest : List Packet) × (refused ≡ q ∷ rest) × IsDealt packets accepted rest). inr (x.0 ++ p ∷ [], ap (λ l. l ++ p ∷ []) x.1, dealt-refused packets accepted x.0 p x.2))
-    h
-
-numbered-more : (s n : ℕ) (packets : List Packet) (p : Packet) → p.sender ≡ s → p.number ≡ n + length packets → AreNumbered s n packets → AreNumbered s n (packets ++ p ∷ [])
-numbered-more s n [] p own e h = (own, omega (arith, e), tt)
-numbered-more s n (q ∷ packets) p own e h = (h.0, h.1, numbered-more s (suc n) packets p own (omega (arith, e)) h.2)
 
 count-more : (packets : List Packet) (p : Packet) (n : ℕ) → length packets ≡ n → length (packets ++ p ∷ []) ≡ n + 1
 count-more packets p n e = omega (arith, length-append packets (p ∷ []), e)
 
 -- A packet more was offered, whatever became of it.
 pub offered-more : (packets : List Packet) (old new : SeatLists) (p : Packet) (got : Offered) → p.sender ≡ old.sender → p.number ≡ old.next → AreOffered packets old → IsOffered old p got new → AreOffered (packets ++ p ∷ []) new
-offered-more packets old new p got own number h is = search (rules, count-more, numbered-more, dealt-accepted, dealt-refused)
+offered-more packets old new p got own number h is = search (rules, count-more, numbered-more, dealt-first, dealt-second)
 
 take-next : (packets : List Packet) (n : ℕ) (p : Packet) → slice_get packets n ≡ Some p → take (n + 1) packets ≡ take n packets ++ p ∷ []
 take-next packets n p e = search (rules, (take-suc packets n p (slice_get_within packets n p e)), (slice_get_within packets n p e), (get_or_from_slice_get packets n p p e))

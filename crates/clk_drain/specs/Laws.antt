@@ -8,7 +8,6 @@ use Rattle.clk_packet.specs.declared.fault.Fault.TheVariants.{Unsettled}
 use Rattle.clk_packet.specs.declared.tally.Tally.{Tally}
 use Rattle.clk_packet.specs.Lists.{stands_in, are_distinct, AreRising}
 use Rattle.clk_packet.specs.Trace.{sent_by}
-use Rattle.clk_ruled.specs.Queue.{AreNumbered}
 use Rattle.clk_sched.specs.declared.visit.Visit.{Visit}
 use Rattle.clk_sched.specs.Tree.{Tree, root, leaves, leaves_distinct}
 use Rattle.clk_sched.specs.Answers.{Answers, tree_queue}
@@ -45,12 +44,11 @@ pub record IsUnsettledRun (plan : List Planned) (traces : List (List Packet)) (f
   pub offered : AllByRecursion (HasOffered traces) queues
   pub names : NamesFirstLost queues fault
 
--- Whatever counts fault 21 has, there are lists of what the queues did that agree with them, if each sender's packets are numbered from 0.
--- (A seat is identified by the queue that it belongs to.)
-abbrev pub LossesHaveLists : List Planned → Type 0
-LossesHaveLists plan =
-    (traces : List (List Packet)) → ((s : ℕ) → AreNumbered s 0 (sent_by traces s)) → (leaf accepted capacity : ℕ) → IsFaultOfRun plan traces (Unsettled leaf accepted capacity)
-    → TableId → IsUnsettledRun plan traces (Unsettled leaf accepted capacity)
+-- Whatever counts fault 21 has, there are lists of what the queues did that agree with them. (A seat is identified by the queue that it
+-- belongs to.)
+abbrev pub LossesHaveLists : List Planned → List (List Packet) → Type 0
+LossesHaveLists plan traces =
+    (leaf accepted capacity : ℕ) → IsFaultOfRun plan traces (Unsettled leaf accepted capacity) → TableId → IsUnsettledRun plan traces (Unsettled leaf accepted capacity)
 
 -- No tree of these devices holds a packet back.
 abbrev pub HoldNothing : List Device → Type 0

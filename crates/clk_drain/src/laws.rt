@@ -2,6 +2,7 @@
 
 ghost use Rattle.clk_drain.specs.Laws.{TapsTakeWhatLeavesGive, SettledHoldNothing, RunsHoldNothing, LossesHaveLists};
 
+use clk_packet::Traces;
 use clk_sched::runs_conserve_packets;
 use clk_tree::Plan;
 
@@ -31,12 +32,13 @@ pub fn runs_hold_nothing(plan: &Plan)
     let _ = plan.queues();
 }
 
-/// Whatever counts a run's fault 21 has, there are lists of what the queues of the plan did that agree with them, if each sender's packets
-/// are numbered from 0. By these lists each sender offered all that it sends, and the fault names the first queue, by device and then by
-/// number, that lost packets below its capacity.
-pub fn losses_have_lists(plan: &Plan)
-    ensures { LossesHaveLists plan.now }
+/// Whatever counts a run's fault 21 has, there are lists of what the queues of the plan did that agree with them. By these lists each sender
+/// offered all that it sends, and the fault names the first queue, by device and then by number, that lost packets below its capacity.
+pub fn losses_have_lists(plan: &Plan, traces: &Traces)
+    ensures { LossesHaveLists plan.now traces.now }
 {
+    // This call does nothing: its contract is a law.
+    traces.are_numbered();
     // Reading senders and queues brings into scope that no sender sends to two queues, and that each queue has a device.
     let _ = plan.senders();
     let _ = plan.queues();

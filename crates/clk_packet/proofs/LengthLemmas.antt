@@ -1,5 +1,5 @@
 -- Tables of lengths, and the packets that they stand for.
-use Rattle.std.proofs.Common.{◌≡◌, ◌≢◌, ℕ, zero, suc, ◌+◌, ◌<◌, ◌≤◌, ◌==◌, Bool, true, false, List, [], ◌∷◌, ◌++◌, length, get_or, set, slice_get, option_map, Some, Result, Ok, Err, OnOk, OnErr, refl, sym, ap, ◌∙◌, arith}
+use Rattle.std.proofs.Common.{◌≡◌, ◌≢◌, ℕ, zero, suc, ◌+◌, ◌<◌, ◌≤◌, ◌==◌, Bool, true, false, List, [], ◌∷◌, ◌++◌, length, get_or, set, slice_get, option_map, Some, Result, Ok, Err, OnOk, OnErr, refl, sym, ap, ◌∙◌, subst, arith}
 use Rattle.std.proofs.lemmas.Bool.{false≢true}
 use Rattle.std.proofs.lemmas.Bool.Decides.{nat_tests}
 use Rattle.std.proofs.lemmas.List.{append-nil, length-append, get_or-set_same, get_or-set_other}
@@ -8,6 +8,7 @@ use Rattle.clk_packet.specs.Limits.{most_length}
 use Rattle.clk_packet.specs.declared.fault.Fault.{Fault}
 use Rattle.clk_packet.specs.declared.lengths.Length.{Length}
 use Rattle.clk_packet.specs.declared.packet.Packet.{Packet}
+use Rattle.clk_packet.specs.Dealt.{AreNumbered}
 use Rattle.clk_packet.specs.Trace.{most_records, packets_in, sent_by, sent_from, shown}
 use Rattle.clk_packet.specs.inside.Lengths.{IsAdded, IsWider, lengths_in, packet_of, packets_by, packets_from}
 
@@ -40,6 +41,14 @@ row-is table rows traces s place lengths same view at is =
 
 pub row-count : (traces : List (List Packet)) (s : ℕ) (lengths : List Length) → sent_by traces s ≡ packets_from s 0 lengths → length lengths ≡ length (sent_by traces s)
 row-count traces s lengths is = sym (ap length is ∙ length-packets_from s 0 lengths)
+
+-- the packets of a sender are its own, and numbered
+numbered-from : (s n : ℕ) (lengths : List Length) → AreNumbered s n (packets_from s n lengths)
+numbered-from s n [] = tt
+numbered-from s n (l ∷ more) = (refl, refl, subst (λ i. AreNumbered s i (packets_from s (n + 1) more)) (let e : n + 1 ≡ suc n = omega arith in e) (numbered-from s (n + 1) more))
+
+pub numbered-by : (table : List (List Length)) (s : ℕ) → AreNumbered s 0 (sent_by (packets_by 0 table) s)
+numbered-by table s = subst (AreNumbered s 0) (sym (sent_by-of table s)) (numbered-from s 0 (get_or table s []))
 
 -- the packet of a number
 slice_get-packets_from : (s n : ℕ) (lengths : List Length) (i : ℕ) → slice_get (packets_from s n lengths) i ≡ option_map (packet_of s (n + i)) (slice_get lengths i)

@@ -1,5 +1,5 @@
 -- Lists of packets: their numbers, how they are dealt to two lists, and the tally of a sender.
-use Rattle.std.specs.Prelude.{◌≡◌, ◌⊎◌, ℕ, List, [], ◌∷◌, map}
+use Rattle.std.specs.Prelude.{◌≡◌, ◌⊎◌, ⊤, ℕ, suc, List, [], ◌∷◌, map}
 use Rattle.clk_packet.specs.declared.packet.Packet.{Packet}
 use Rattle.clk_packet.specs.declared.packet.Kind.{Kind}
 use Rattle.clk_packet.specs.declared.packet.Kind.TheVariants.{TailDrop, FrontDrop}
@@ -8,6 +8,11 @@ use Rattle.clk_packet.specs.declared.tally.Tally.{Tally}
 -- the numbers of these packets, in order
 abbrev pub packet_numbers : List Packet → List ℕ
 packet_numbers packets = map (λ (p : Packet). p.number) packets
+
+-- the packets are this sender's, and have these numbers, one after another, from this one on
+abbrev pub AreNumbered : ℕ → ℕ → List Packet → Type 0
+AreNumbered s n [] = ⊤
+AreNumbered s n (p ∷ packets) = (p.sender ≡ s) × (p.number ≡ n) × AreNumbered s (suc n) packets
 
 -- A list is split into two: each of its packets is in one of them, and both keep the order.
 abbrev pub IsDealt : List Packet → List Packet → List Packet → Type 0

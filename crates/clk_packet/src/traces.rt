@@ -34,8 +34,9 @@ impl Model for Traces {
 }
 
 impl Traces {
-    ghost use Rattle.std.specs.Prelude.{◌≡◌, ◌≤◌, ◌<◌, ◌+◌, [], length, slice_get, None, IfSome, IfOk, IfErr, OnOk, IsOkUnless};
+    ghost use Rattle.std.specs.Prelude.{ℕ, ◌≡◌, ◌≤◌, ◌<◌, ◌+◌, [], length, slice_get, None, IfSome, IfOk, IfErr, OnOk, IsOkUnless};
     ghost use Rattle.clk_packet.specs.Bytes.{Takes, read_failures};
+    ghost use Rattle.clk_packet.specs.Dealt.{AreNumbered};
     ghost use Rattle.clk_packet.specs.inside.Lengths.{IsAdded};
     ghost use Rattle.clk_packet.specs.Trace.{ExplainsTrace, most_records, most_trace_bytes, packets_in, pairs_of, sent, sent_by, shown, trace_fault};
 
@@ -90,6 +91,14 @@ impl Traces {
             sender,
             length: length.bytes,
         })
+    }
+
+    /// Each sender's packets are its own, and numbered from 0 on in the order in which it sends them. Does nothing: its contract is a law.
+    pub fn are_numbered(&self)
+        ensures { (s : ℕ) → AreNumbered s 0 (sent_by self.now s) }
+    {
+        // Reading the table brings into scope that each packet is made from its sender and its place there.
+        let _ = self.senders.len();
     }
 
     /// Nothing is sent. Does not allocate.

@@ -6,7 +6,7 @@ use Rattle.clk_packet.specs.declared.packet.Kind.{Kind}
 use Rattle.clk_packet.specs.declared.packet.Kind.TheVariants.{TailDrop, FrontDrop}
 use Rattle.clk_packet.specs.declared.packet.Offered.{Offered}
 use Rattle.clk_packet.specs.declared.packet.Offered.TheVariants.{Accepted, Refused, Evicted}
-pub use Rattle.clk_packet.specs.Dealt.{IsDealt}
+pub use Rattle.clk_packet.specs.Dealt.{AreNumbered, IsDealt}
 use Rattle.clk_ruled.specs.declared.view.QueueSetup.{QueueSetup}
 use Rattle.clk_ruled.specs.declared.view.Gathered.{Gathered}
 use Rattle.clk_packet.specs.Lists.{In, stands_in}
@@ -48,11 +48,6 @@ pub record TapLists : Type 0 where
   pub keeps : Bool
   pub taken : List Packet
   pub gathered : List Gathered
-
--- the packets are this sender's, and have these numbers, one after another, from this one on
-abbrev pub AreNumbered : ℕ → ℕ → List Packet → Type 0
-AreNumbered s n [] = ⊤
-AreNumbered s n (p ∷ offered) = (p.sender ≡ s) × (p.number ≡ n) × AreNumbered s (suc n) offered
 
 -- Every packet that was offered, from number 0 on, is in one of accepted and refused, both by rising number.
 pub record IsShared (sender next : ℕ) (accepted refused : List Packet) : Type 0 where

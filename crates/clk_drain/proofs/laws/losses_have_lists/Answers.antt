@@ -6,4 +6,4 @@ use Rattle.clk_drain.proofs.LossLists.{losses-have-lists}
 use Rattle.clk_drain.proofs.laws.losses_have_lists.Goals as goal
 
 pub returns : goal.returns
-returns c = losses-have-lists c.args.plan.now (queues-apart c.args.plan.now (subst (λ senders. AreRising (map number_of senders)) c.senders.ensures.senders c.senders.ensures.rising)) c.queues.ensures.devices
+returns c = losses-have-lists c.args.plan.now c.args.traces.now c.are_numbered.ensures (queues-apart c.args.plan.now (subst (λ senders. AreRising (map number_of senders)) c.senders.ensures.senders c.senders.ensures.rising)) c.queues.ensures.devices
