@@ -1,16 +1,19 @@
 -- Texts that are written part by part, and the lines of a report.
-use Rattle.std.proofs.Common.{◌≡◌, ℕ, ◌+◌, ◌-◌, ◌≤◌, List, [], ◌∷◌, ◌++◌, length, take, drop, append_assoc, codes, decimal, get_or, Option, Err, refl, sym, ap, ap₂, ◌∙◌, subst, arith}
+use Rattle.std.proofs.Common.{◌≡◌, ℕ, ◌+◌, ◌-◌, ◌≤◌, List, [], ◌∷◌, ◌++◌, All, length, take, drop, append_assoc, codes, decimal, get_or, Option, Err, refl, sym, ap, ap₂, ◌∙◌, subst, arith}
 use Rattle.std.proofs.lemmas.List.{append-nil, length-append, drop_all, take_all, take-append-drop}
 use Rattle.std.proofs.lemmas.List.Concat.{flat_map-append}
 use Rattle.std.specs.List.{flat_map}
 use Rattle.std.specs.Io.KnownBytes.{Appends}
+use Rattle.std.proofs.lemmas.List.Elements.{All-weaker, All-from_recursion}
 use Rattle.clk_packet.specs.Bytes.{AppendsFront, Wrote}
 use Rattle.clk_packet.specs.declared.fault.Fault.{Fault}
 use Rattle.clk_packet.specs.declared.packet.Packet.{Packet}
 use Rattle.clk_packet.specs.declared.tally.Tally.{Tally}
 use Rattle.clk_packet.proofs.Callers.Bytes.{HasWritten, Appends-append}
+use Rattle.clk_packet.specs.Dealt.{IsDealt}
 use Rattle.clk_packet.specs.Lists.{of_sender}
-use Rattle.clk_report.specs.Report.{tally_text, report_text, total_text, numbers_text}
+use Rattle.clk_report.specs.inside.Totals.{AccountsBeyond}
+use Rattle.clk_report.specs.Report.{AccountFor, tally_text, report_text, total_text, numbers_text}
 use Rattle.clk_packet.specs.Counts.{bytes_of, counts_of}
 use Rattle.clk_packet.proofs.Callers.Counts.{bytes-append}
 use Rattle.clk_report.specs.Counts.{counts_text}
@@ -88,6 +91,12 @@ line-is emitted tally =
 -- the lines of tallies
 pub lines-are : (emitted : List Packet) (tallies : List Tally) → flat_map (λ t. counts_text (counts_of emitted t)) tallies ≡ report_text emitted tallies
 lines-are emitted tallies = ap (λ (f : Tally → List ℕ). flat_map f tallies) (λ i t. line-is emitted t i)
+
+-- tallies that account for what was emitted do so of each sender
+pub all-account : (emitted : List Packet) (tallies : List Tally) → AccountFor emitted tallies → All (AccountsBeyond 0 emitted) tallies
+all-account emitted tallies account =
+    All-weaker (λ (t : Tally). IsDealt t.accepted t.evicted (of_sender t.sender emitted)) (AccountsBeyond 0 emitted) (λ t dealt beyond. dealt) tallies
+    (All-from_recursion (λ (t : Tally). IsDealt t.accepted t.evicted (of_sender t.sender emitted)) tallies account)
 
 -- the text of the first, before those of the others
 pub first-alone : {X : Type 0} (f : X → List ℕ) (xs : List X) (x : X) → 1 ≤ length xs → x ≡ get_or xs 0 x → f x ++ flat_map f (take (length xs - 1) (drop 1 xs)) ≡ flat_map f xs

@@ -1,18 +1,21 @@
 -- Totals of packets, counted one by one.
-use Rattle.std.proofs.Common.{◌≡◌, ◌≢◌, ℕ, ◌+◌, ◌*◌, ◌^◌, ◌<◌, ◌≤◌, ◌==◌, Bool, true, false, List, [], ◌∷◌, ◌++◌, All, Vec, length, take, drop, set, get_or, slice_get, append_assoc, append-nil, Some, refl, sym, ap, ◌∙◌, subst, arith}
+use Rattle.std.proofs.Common.{◌≡◌, ◌≢◌, inl, inr, ℕ, ◌+◌, ◌-◌, ◌*◌, ◌^◌, ◌<◌, ◌≤◌, ◌==◌, Bool, true, false, List, [], ◌∷◌, ◌++◌, All, Vec, length, take, drop, set, get_or, slice_get, append_assoc, append-nil, Some, refl, sym, ap, ◌∙◌, subst, arith}
 use Rattle.std.specs.declared.alloc.Global.{Global}
 use Rattle.std.proofs.lemmas.Bool.{false≢true}
 use Rattle.std.proofs.lemmas.Bool.Decides.{nat_tests}
 use Rattle.std.proofs.lemmas.List.{length-append, length-drop, length-set, get_or-set_same, get_or-set_other, take_all, take_more}
-use Rattle.std.proofs.lemmas.List.Elements.{All-set, filter-append}
+use Rattle.std.proofs.lemmas.List.Elements.{All-same, All-set, All-take, filter-append}
 use Rattle.std.proofs.lemmas.Option.{slice_get-get_or, get_or_from_slice_get}
 use Rattle.clk_packet.specs.declared.packet.Packet.{Packet}
 use Rattle.clk_packet.specs.declared.counts.Total.{Total}
+use Rattle.clk_packet.specs.declared.tally.Tally.{Tally}
 use Rattle.clk_report.specs.Devices.{all_emitted}
+use Rattle.clk_packet.specs.Dealt.{IsDealt}
 use Rattle.clk_packet.specs.Lists.{of_sender}
-use Rattle.clk_packet.specs.Counts.{total_of}
+use Rattle.clk_packet.specs.Counts.{bytes_of, total_of}
 use Rattle.clk_packet.proofs.Callers.Counts.{bytes-few, bytes-append}
-use Rattle.clk_report.specs.inside.Totals.{AreTotals, with_packet, HasRoom}
+use Rattle.clk_packet.proofs.Callers.Dealt.{dealt-length}
+use Rattle.clk_report.specs.inside.Totals.{AreTotals, AccountsBeyond, TellsBelow, with_packet, HasRoom}
 
 pub same-total : (t u : Total ℕ) → t.packets ≡ u.packets → t.bytes ≡ u.bytes → t ≡ u
 same-total t u e f = λ i. record { packets = e i; bytes = f i }
@@ -145,3 +148,28 @@ AreCountedTo-room emitted totals i more below short so_far s d inside =
 -- the total of a sender, read at its number
 pub total-at : (packets : List Packet) (totals : List (Total ℕ)) (s n : ℕ) (d : Total ℕ) → n ≡ s → s < length totals → AreTotals packets totals → get_or totals n d ≡ total_of (of_sender s packets)
 total-at packets totals s n d at inside are = ap (λ m. get_or totals m d) at ∙ get_or_from_slice_get totals s (total_of (of_sender s packets)) d (are.each s inside)
+
+-- a table of these packets is one of any that are the same of each of its senders
+told-below : (n : ℕ) (told emitted : List Packet) (totals : List (Total ℕ)) → length totals ≡ n → TellsBelow n told emitted → AreTotals told totals → AreTotals emitted totals
+told-below n told emitted totals long same are =
+    record { each = λ s within. are.each s within ∙ ap (λ l. Some (total_of l)) (same s (omega (arith, long, within))) }
+
+-- So the table is one of these packets, and the tallies of a part account for those of senders beyond it.
+pub part-counted : (n k : ℕ) (told emitted : List Packet) (totals : List (Total ℕ)) (rest part : List Tally) → length totals ≡ n → TellsBelow n told emitted → AreTotals told totals → All (AccountsBeyond n emitted) rest → part ≡ take k rest
+    → AreTotals emitted totals × All (AccountsBeyond (length totals) emitted) part
+part-counted n k told emitted totals rest part long same are accounts is_part = (
+  told-below n told emitted totals long same are,
+  subst (λ m. All (AccountsBeyond m emitted) part) (sym long) (All-same (AccountsBeyond n emitted) part (take k rest) is_part (All-take (AccountsBeyond n emitted) k rest accounts)),
+)
+
+dealt-bytes : (packets a b : List Packet) → IsDealt packets a b → bytes_of packets ≡ bytes_of a + bytes_of b
+dealt-bytes [] a b h = let none = ap bytes_of h.0 in let nor = ap bytes_of h.1 in omega (arith, none, nor)
+dealt-bytes (p ∷ packets) a b (inl x) = let one = ap bytes_of x.1 in let rest = dealt-bytes packets x.0 b x.2 in omega (arith, one, rest)
+dealt-bytes (p ∷ packets) a b (inr x) = let one = ap bytes_of x.1 in let rest = dealt-bytes packets a x.0 x.2 in omega (arith, one, rest)
+
+-- of packets that are dealt to two lists, the total of all less that of the first is that of the second
+pub total-left : (packets a b : List Packet) (t : Total ℕ) → IsDealt packets a b → t.packets ≡ length packets - length a → t.bytes ≡ bytes_of packets - bytes_of a → t ≡ total_of b
+total-left packets a b t dealt many long =
+    let count = dealt-length packets a b dealt in
+    let bytes = dealt-bytes packets a b dealt in
+    same-total t (total_of b) (omega (arith, many, count)) (omega (arith, long, bytes))

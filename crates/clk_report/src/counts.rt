@@ -1,6 +1,6 @@
 //! The counts of a sender's packets, in 128 bits.
 
-ghost use Rattle.std.specs.Prelude.{◌≡◌, [], ◌<◌, ◌^◌};
+ghost use Rattle.std.specs.Prelude.{◌≡◌, [], ◌-◌, ◌<◌, ◌^◌};
 ghost use Rattle.clk_packet.specs.Counts.{counts_of};
 ghost use Rattle.clk_report.specs.Counts.{sent_in};
 ghost use Rattle.clk_report.specs.inside.Totals.{FitsSent};
@@ -57,5 +57,16 @@ pub fn sent_in(counts: &Counts<u128>) -> Total<u128>
     Total {
         packets: counts.accepted.packets + counts.refused.packets,
         bytes: counts.accepted.bytes + counts.refused.bytes,
+    }
+}
+
+/// The first total less the second.
+pub fn less(total: Total<u128>, part: Total<u128>) -> Total<u128>
+    ensures packets { result.packets ≡ total.packets - part.packets }
+    ensures bytes { result.bytes ≡ total.bytes - part.bytes }
+{
+    Total {
+        packets: total.packets.saturating_sub(part.packets),
+        bytes: total.bytes.saturating_sub(part.bytes),
     }
 }

@@ -12,5 +12,5 @@ mod visits;
 
 pub use laws::{counts_tell_tallies, one_device_is_not_told, visits_come_in_pieces};
 pub use pieces::{put, put_number};
-pub use reports::{MAX_DEVICES, report, report_line};
+pub use reports::{MAX_DEVICES, report, report_line, report_tallies};
 pub use visits::{VisitLog, visit_rows, visits_csv, visits_header};

@@ -1,16 +1,16 @@
 //! The report: how many packets of each sender were sent, accepted, refused, evicted and emitted.
 
-ghost use Rattle.std.specs.Prelude.{◌≡◌, ◌+◌, ◌*◌, ◌<◌, ◌≤◌, ◌++◌, List, All, drop, length};
+ghost use Rattle.std.specs.Prelude.{◌≡◌, ℕ, ◌+◌, ◌*◌, ◌<◌, ◌≤◌, ◌++◌, List, All, drop, length};
 ghost use Rattle.std.specs.List.{flat_map};
 ghost use Rattle.clk_packet.specs.Bytes.{Wrote};
 ghost use Rattle.clk_packet.specs.declared.packet.Packet.{Packet};
 ghost use Rattle.clk_packet.specs.Counts.{counts_of};
 ghost use Rattle.clk_report.specs.Counts.{counts_text};
 ghost use Rattle.clk_report.specs.Devices.{all_emitted};
-ghost use Rattle.clk_report.specs.Report.{report_text};
-ghost use Rattle.clk_report.specs.inside.Totals.{AreTotals};
+ghost use Rattle.clk_report.specs.Report.{AccountFor, report_text};
+ghost use Rattle.clk_report.specs.inside.Totals.{AreTotals, AccountsBeyond, FitsSent, TellsBelow};
 
-use crate::counts::{counts_of, widened};
+use crate::counts::{counts_of, less, widened};
 use crate::line::{LINE, put_line};
 use crate::total::{FEW, NONE, SENDERS, count_by_sender};
 use clk_packet::{Counts, Fault, Packet, Sink, Tally, Total, write_all};
@@ -51,6 +51,21 @@ pub fn report<W: Sink>(
     }
 }
 
+/// Writes the report as `report` does, by the tallies alone. It is for a caller that doesn't have the emitted packets, but whose tallies
+/// account for them: of each sender exactly those were emitted that were accepted and not evicted. If the tallies don't, nothing is promised
+/// of what is written. Doesn't allocate. Takes time in proportion to the packets that the tallies list.
+///
+/// # Errors
+///
+/// Fault 20 if the sink fails. It has then taken a front of the report.
+pub fn report_tallies<W: Sink>(tallies: &[Tally], writer: &mut W) -> Result<(), Fault>
+    ensures { (emitted : List Packet) → AccountFor emitted tallies.now → Wrote (W.Sink.taken writer.old) (W.Sink.taken writer.new)
+        (W.Sink.failures writer.old) (W.Sink.failures writer.new) result (report_text emitted tallies.now) }
+{
+    // No sender stands in a table of no totals.
+    write_lines::<0, W>(tallies, &[], writer)
+}
+
 /// Writes the line of one sender, by its counts. It is for a caller that has counted all packets: the lines of its senders, in order, are
 /// the report (`counts_tell_tallies`). Doesn't allocate.
 ///
@@ -79,8 +94,9 @@ fn table_len(tallies: &[Tally]) -> usize
     len
 }
 
-/// Writes the report by a table of N totals. It isn't inlined, so that the larger table doesn't stand in the frame of a report of few
-/// senders.
+/// Writes the report by a table of N totals, of the packets that were emitted of the first N senders. Of any other sender those were emitted
+/// that its tally has as accepted and not as evicted. It isn't inlined, so that the larger table doesn't stand in the frame of a report of
+/// few senders.
 #[inline(never)]
 fn write_lines<const N: usize, W: Sink>(
     tallies: &[Tally],
@@ -88,11 +104,10 @@ fn write_lines<const N: usize, W: Sink>(
     writer: &mut W,
 ) -> Result<(), Fault>
     requires size { N ≤ SENDERS }
-    requires within { All (λ t. t.sender < N) tallies.now }
     requires few { length emitted.now ≤ MAX_DEVICES }
-    ensures { Wrote (W.Sink.taken writer.old) (W.Sink.taken writer.new)
+    ensures { (out : List Packet) → TellsBelow N (all_emitted emitted.now) out → All (AccountsBeyond N out) tallies.now → Wrote (W.Sink.taken writer.old) (W.Sink.taken writer.new)
         (W.Sink.failures writer.old) (W.Sink.failures writer.new) result
-        (flat_map (λ t. counts_text (counts_of (all_emitted emitted.now) t)) tallies.now) }
+        (flat_map (λ t. counts_text (counts_of out t)) tallies.now) }
 {
     let mut totals = [NONE; N];
     count_by_sender(&mut totals, emitted);
@@ -108,13 +123,12 @@ fn write_lines<const N: usize, W: Sink>(
     Ok(())
 }
 
-/// Puts the lines of some senders before the place `end`. `totals` has the total of each sender's emitted packets, by its number. Returns
-/// where the lines start.
+/// Puts the lines of some senders before the place `end`. `totals` has the total of each sender's emitted packets, by its number, as far as
+/// it goes. Returns where the lines start.
 fn put_lines(lines: &mut [u8], tallies: &[Tally], totals: &[Total<u128>], end: usize) -> usize
-    requires reached { All (λ t. t.sender < length totals.now) tallies.now }
     requires room { 512 * length tallies.now ≤ end }
     requires within { end ≤ length lines.old }
-    ensures piece { (emitted : List Packet) → AreTotals emitted totals.now → drop result lines.new ≡ flat_map (λ t. counts_text (counts_of emitted t)) tallies.now ++ drop end lines.old }
+    ensures piece { (emitted : List Packet) → AreTotals emitted totals.now → All (AccountsBeyond (length totals.now) emitted) tallies.now → drop result lines.new ≡ flat_map (λ t. counts_text (counts_of emitted t)) tallies.now ++ drop end lines.old }
     ensures near { end ≤ result + 512 * length tallies.now }
     ensures before { result ≤ end }
 {
@@ -122,6 +136,21 @@ fn put_lines(lines: &mut [u8], tallies: &[Tally], totals: &[Total<u128>], end: u
         return end;
     };
     let end = put_lines(lines, rest, totals, end);
-    let counts = counts_of(first, totals[usize::from(first.sender)]);
+    let counts = counts_by(first, totals);
     put_line(lines, &counts, end)
+}
+
+/// The counts of a sender, by its tally and the totals of emitted packets.
+fn counts_by(tally: &Tally, totals: &[Total<u128>]) -> Counts<u128>
+    ensures counts { (emitted : List Packet) → AreTotals emitted totals.now → AccountsBeyond (length totals.now) emitted tally.now → result ≡ counts_of emitted tally.now }
+    ensures fits { FitsSent result }
+{
+    match totals.get(usize::from(tally.sender)) {
+        Some(emitted) => counts_of(tally, *emitted),
+        None => {
+            let mut counts = counts_of(tally, NONE);
+            counts.emitted = less(counts.accepted, counts.evicted);
+            counts
+        }
+    }
 }
