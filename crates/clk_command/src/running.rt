@@ -7,10 +7,10 @@ ghost use Rattle.clk_sched.specs.Packed.{logged};
 ghost use Rattle.clk_packet.specs.Written.{WroteWhat};
 ghost use Rattle.clk_command.specs.Running.{ExplainsRun, RunWrites};
 
-use clk_drain::{Free, Outcome, run_with};
+use clk_drain::{Free, Outcome, run_with, runs_account_for_emitted};
 use clk_packet::{Fault, Sink, Source, Traces, keep_freed};
-use clk_report::report;
-use clk_sched::PackedLog;
+use clk_report::report_tallies;
+use clk_sched::{Keeps, PackedLog};
 use clk_tree::Plan;
 use clk_words::Pace;
 use std::alloc::Global;
@@ -57,16 +57,18 @@ pub fn run_trace<H: Threads + Wait, P: Wait + Sync, R: Source, W: Sink>(
     if !visits {
         keep_freed(alloc);
     }
+    let keeps = Keeps {
+        visits: false,
+        packed: visits,
+        packets: false,
+        latest: false,
+    };
     let outcome = run_with(
-        rt, alloc, wait, plan, &traces, pace.step, pace.limit, &Free, visits,
+        rt, alloc, wait, plan, &traces, pace.step, pace.limit, &Free, keeps,
     )?;
-    // Counting devices brings into scope how many there are at most.
-    let _ = plan.devices();
-    let Outcome {
-        emitted,
-        logs,
-        tallies,
-    } = outcome;
-    report(&tallies, &emitted, writer)?;
+    let Outcome { logs, tallies, .. } = outcome;
+    // This call does nothing: by its contract the tallies account for what was emitted.
+    runs_account_for_emitted(plan);
+    report_tallies(&tallies, writer)?;
     Ok(logs)
 }

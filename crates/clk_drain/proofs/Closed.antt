@@ -6,8 +6,9 @@ use Rattle.clk_packet.specs.declared.tally.Tally.{Tally}
 use Rattle.clk_sched.specs.Tree.{Tree, leaves_distinct}
 use Rattle.clk_sched.specs.Conservation.{ConservesPackets, ConservesCounts, MakesNothing}
 use Rattle.clk_sched.specs.Results.{emitted}
-use Rattle.clk_sched.specs.Keeps.{keeps_visits, keeps_emitted, TellsEmitted}
-use Rattle.clk_sched.specs.Session.{Progress, SessionLists, counted_moment}
+use Rattle.clk_sched.specs.declared.session.keeps.Keeps.{Keeps}
+use Rattle.clk_sched.specs.Keeps.{keeps_visits, keeps_emitted}
+use Rattle.clk_sched.specs.Session.{Progress, counted_moment}
 use Rattle.clk_sched.specs.Drain.{GivesAll}
 use Rattle.clk_drain.specs.Line.{LineLists, seats_in, HaveOwnSenders}
 use Rattle.clk_drain.specs.Closing.{left_over, queue_of_line, device_of, tallies_in, AreInOrder, HasSent, IsDrainedTo}
@@ -20,17 +21,13 @@ use Rattle.clk_drain.proofs.AllGiven.{all-given}
 use Rattle.clk_drain.proofs.FromSenders.{emitted-of, emitted-own}
 use Rattle.clk_drain.proofs.Settling.{some-sent, settled-outcome}
 
--- What a session keeps stays so while it is drained.
-pub tells-still : (old new : SessionLists) → new.keeps ≡ old.keeps → new.gone ≡ old.gone → TellsEmitted old → TellsEmitted new
-tells-still old new keeps gone h = (ap keeps_emitted keeps ∙ h.0, gone ∙ h.1)
-
--- A session keeps its emitted packets, or visits from which they are known.
-pub emitted-told : (s : SessionLists) (out all : List Packet) → TellsEmitted s → (s.keeps.packets ≡ true → out ≡ all) → (keeps_visits s.keeps ≡ true → s.gone ≡ 0 → out ≡ all) → out ≡ all
-emitted-told s out all h kept told = by_packets s.keeps.packets refl h.0
+-- A session keeps its emitted packets, or visits from which they are known, if it dropped none.
+pub emitted-told : (keeps : Keeps) (gone : ℕ) (out all : List Packet) → gone ≡ 0 → (keeps.packets ≡ true → out ≡ all) → (keeps_visits keeps ≡ true → gone ≡ 0 → out ≡ all) → keeps_emitted keeps ≡ true → out ≡ all
+emitted-told keeps gone out all none kept told = by_packets keeps.packets refl
   where
-    by_packets : (packets : Bool) → s.keeps.packets ≡ packets → (packets || keeps_visits s.keeps) ≡ true → out ≡ all
-    by_packets true keeps e = kept keeps
-    by_packets false keeps e = told e h.1
+    by_packets : (packets : Bool) → keeps.packets ≡ packets → (packets || keeps_visits keeps) ≡ true → out ≡ all
+    by_packets true is e = kept is
+    by_packets false is e = told e none
 
 each-within : (lines : List LineLists) → AllByRecursion IsSettledLine lines → AllByRecursion IsWithin lines
 each-within [] h = tt

@@ -1,14 +1,17 @@
 -- Devices are closed one after another.
-use Rattle.std.proofs.Common.{◌≡◌, true, List, [], ◌∷◌, ◌++◌, map, sym, ap, ◌∙◌, subst, arith, append_assoc, append-nil, rules}
+use Rattle.std.proofs.Common.{◌≡◌, Bool, true, Vec, List, [], ◌∷◌, ◌++◌, map, sym, ap, ◌∙◌, subst, arith, append_assoc, append-nil, rules}
 use Rattle.std.proofs.lemmas.Grind.{common_steps, flat_map-append}
 use Rattle.std.proofs.lemmas.Bool.Decides.{nat_tests}
 use Rattle.std.specs.List.{flat_map, AllByRecursion}
+use Rattle.std.specs.declared.alloc.Global.{Global}
 use Rattle.std.proofs.lemmas.List.{map-append}
 use Rattle.clk_packet.specs.declared.packet.Packet.{Packet}
 use Rattle.clk_packet.specs.declared.tally.Tally.{Tally}
 use Rattle.clk_packet.specs.declared.fault.Fault.{Fault}
 use Rattle.clk_packet.specs.Trace.{sent_by}
 use Rattle.clk_sched.specs.declared.visit.Visit.{Visit}
+use Rattle.clk_sched.specs.declared.session.keeps.Keeps.{Keeps}
+use Rattle.clk_sched.specs.Keeps.{keeps_emitted, keeps_visits}
 use Rattle.clk_sched.specs.Packed.{logged}
 use Rattle.clk_sched.specs.declared.session.packed.PackedLog.{PackedLog}
 use Rattle.clk_drain.specs.declared.drained.Drained.{Drained}
@@ -19,7 +22,7 @@ use Rattle.clk_drain.specs.Closing.{device_of, seated, AreInOrder, IsDrainedTo, 
 use Rattle.clk_drain.specs.Lost.{SeatedQueue, HasReached, NamesFirstLost}
 use Rattle.clk_drain.specs.inside.Closing.{IsDrainedAs}
 use Rattle.clk_drain.specs.inside.Threads.{Terms, Feed}
-use Rattle.clk_drain.specs.inside.Handed.{IsReadyToClose, AreApartDevices, IsClosedDevice, AreClosedDevices, AreKeptLogs, AreSettledTogether, seated_in, IsFaultOfClosing}
+use Rattle.clk_drain.specs.inside.Handed.{IsReadyToClose, AreApartDevices, IsClosedDevice, AreClosedDevices, AreKept, AreSettledTogether, seated_in, IsFaultOfClosing}
 use Rattle.clk_drain.proofs.ManyDevices.{Part, devices_of, tallies_in_all, AreSettled, devices-settled}
 use Rattle.clk_drain.proofs.Settling.{senders-same}
 use Rattle.clk_drain.proofs.Pulling.{steps-count}
@@ -30,8 +33,8 @@ pub record AreClosing (terms : Terms) (all done left : List Feed) (outcome : Out
   pub parts : List Part
   pub closed : AreClosedDevices terms done (devices_of parts)
   pub settled : AreSettled (sent_by terms.traces) parts
-  pub logs : AreKeptLogs done (map logged outcome.logs.items) (devices_of parts)
-  pub emitted : map (λ packets. packets.items) outcome.emitted.items ≡ map (λ (d : Device). d.emitted) (devices_of parts)
+  pub logs : AreKept keeps_visits (λ (d : Device). d.log) done (map logged outcome.logs.items) (devices_of parts)
+  pub emitted : AreKept keeps_emitted (λ (d : Device). d.emitted) done (map (λ packets. packets.items) outcome.emitted.items) (devices_of parts)
   pub tallies : outcome.tallies.items ≡ tallies_in_all parts
   pub reached : AllByRecursion HasReached (seated_in done)
   pub all_are : done ++ left ≡ all
@@ -45,18 +48,14 @@ closed-more terms [] parts f p h is = grind (arith, common_steps, nat_tests)
 closed-more terms (g ∷ done) [] f p h is = absurd h
 closed-more terms (g ∷ done) (q ∷ parts) f p h is = (h.0, closed-more terms done parts f p h.1 is)
 
-kept-more : (done : List Feed) (logs : List (List Visit)) (parts : List Part) (f : Feed) (log : List Visit) (p : Part) → AreKeptLogs done logs (devices_of parts) → (f.visits ≡ true → log ≡ p.device.log)
-    → AreKeptLogs (done ++ f ∷ []) (logs ++ log ∷ []) (devices_of (parts ++ p ∷ []))
-kept-more [] [] [] f log p h is = (is, tt)
-kept-more (g ∷ done) (k ∷ logs) (q ∷ parts) f log p h is = (h.0, kept-more done logs parts f log p h.1 is)
-kept-more [] [] (q ∷ parts) f log p h is = absurd h
-kept-more [] (k ∷ logs) parts f log p h is = absurd h
-kept-more (g ∷ done) [] parts f log p h is = absurd h
-kept-more (g ∷ done) (k ∷ logs) [] f log p h is = absurd h
-
--- what the devices have, and what one more has
-devices-more : {X : Type 0} (f : Device → X) (parts : List Part) (p : Part) → map f (devices_of parts) ++ f p.device ∷ [] ≡ map f (devices_of (parts ++ p ∷ []))
-devices-more f o p = grind (arith, common_steps, nat_tests)
+kept-more : {X : Type 0} (kept : Keeps → Bool) (of : Device → X) (done : List Feed) (xs : List X) (parts : List Part) (f : Feed) (x : X) (p : Part) → AreKept kept of done xs (devices_of parts) → (kept f.keeps ≡ true → x ≡ of p.device)
+    → AreKept kept of (done ++ f ∷ []) (xs ++ x ∷ []) (devices_of (parts ++ p ∷ []))
+kept-more kept of [] [] [] f x p h is = (is, tt)
+kept-more kept of (g ∷ done) (y ∷ xs) (q ∷ parts) f x p h is = (h.0, kept-more kept of done xs parts f x p h.1 is)
+kept-more kept of [] [] (q ∷ parts) f x p h is = absurd h
+kept-more kept of [] (y ∷ xs) parts f x p h is = absurd h
+kept-more kept of (g ∷ done) [] parts f x p h is = absurd h
+kept-more kept of (g ∷ done) (y ∷ xs) [] f x p h is = absurd h
 
 -- the queues of the devices, and those of one more
 seated-more : (done : List Feed) (f : Feed) → seated_in (done ++ f ∷ []) ≡ seated_in done ++ map seated f.lines
@@ -68,16 +67,20 @@ pub record IsNoted (drained : Drained PackedLog) (old new : Outcome PackedLog) :
   pub emitted : new.emitted.items ≡ old.emitted.items ++ drained.emitted ∷ []
   pub tallies : new.tallies.items ≡ old.tallies.items ++ drained.tallies.items
 
-pub closing-more : (terms : Terms) (all done left before : List Feed) (f : Feed) (drained : Drained PackedLog) (old new : Outcome PackedLog) → before ≡ f ∷ left → IsReadyToClose terms f → IsDrainedAs f.session f.visits f.lines 0 drained → AllByRecursion HasReached (map seated f.lines) → IsNoted drained old new
+pub closing-more : (terms : Terms) (all done left before : List Feed) (f : Feed) (drained : Drained PackedLog) (old new : Outcome PackedLog) → before ≡ f ∷ left → IsReadyToClose terms f → IsDrainedAs f.session f.keeps f.lines 0 drained → AllByRecursion HasReached (map seated f.lines) → IsNoted drained old new
     → AreClosing terms all done before old → AreClosing terms all (done ++ f ∷ []) left new
 closing-more terms all done left before f drained old new next ready over reached noted h =
-    let p : Part = record { device = device_of f.session f.lines over.log drained.emitted.items; tallies = drained.tallies.items } in record {
+    let p : Part = record { device = device_of f.session f.lines over.log over.emitted; tallies = drained.tallies.items } in record {
       parts = h.parts ++ p ∷ [];
       closed = search (rules, closed-more, closed-device);
       settled = all-append _ h.parts (p ∷ []) h.settled (over.is.outcome (sent_by terms.traces) ready.sent, tt);
       logs =
-          search (rules, map-append, kept-more);
-      emitted = search (rules, map-append, devices-more);
+          subst (λ logs. AreKept keeps_visits (λ (d : Device). d.log) (done ++ f ∷ []) logs (devices_of (h.parts ++ p ∷ []))) (sym (ap (map logged) noted.logs ∙ map-append logged old.logs.items (drained.log ∷ [])))
+          (kept-more keeps_visits (λ (d : Device). d.log) done (map logged old.logs.items) h.parts f (logged drained.log) p h.logs over.kept);
+      emitted =
+          subst (λ packets. AreKept keeps_emitted (λ (d : Device). d.emitted) (done ++ f ∷ []) packets (devices_of (h.parts ++ p ∷ [])))
+          (sym (ap (map (λ (packets : Vec Packet Global). packets.items)) noted.emitted ∙ map-append (λ (packets : Vec Packet Global). packets.items) old.emitted.items (drained.emitted ∷ [])))
+          (kept-more keeps_emitted (λ (d : Device). d.emitted) done (map (λ (packets : Vec Packet Global). packets.items) old.emitted.items) h.parts f drained.emitted.items p h.emitted over.told);
       tallies = search (rules, append-nil, flat_map-append);
       reached = search (rules, seated-more, all-append);
       all_are = search (rules, append_assoc);
@@ -128,7 +131,7 @@ all-closed terms all done left old new none logs emitted order apart h =
       devices = devices_of h.parts;
       closed = closed;
       logs = search rules;
-      emitted = ap (map (λ packets. packets.items)) emitted ∙ h.emitted;
+      emitted = search rules;
       settled = devices-settled (sent_by terms.traces) h.parts new.tallies.items h.settled (search (rules, closed-senders))
           (subst (λ tallies. AreInOrder tallies new.tallies.items) h.tallies order);
     }

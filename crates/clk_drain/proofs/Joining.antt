@@ -9,6 +9,7 @@ use Rattle.clk_packet.specs.Lists.{are_distinct}
 use Rattle.clk_ruled.specs.declared.view.QueueSetup.{QueueSetup}
 use Rattle.clk_ruled.specs.Queue.{OpenedQueue, SeatLists, TapLists, ClosedLists, queue_of, empty_seat}
 use Rattle.clk_ruled.specs.Settle.{AreOfTap, AreOpenedTogether, lists_of}
+use Rattle.clk_sched.specs.declared.session.keeps.Keeps.{Keeps}
 use Rattle.clk_sched.specs.Limits.{most_left}
 use Rattle.clk_sched.specs.Log.{pulls, moment_of}
 use Rattle.clk_sched.specs.Session.{counted_moment}
@@ -20,7 +21,7 @@ use Rattle.clk_drain.specs.inside.Parts.{taken_at}
 use Rattle.clk_drain.specs.Moments.{steps}
 use Rattle.clk_drain.specs.inside.Threads.{Terms, HasSentAll, HaveSentAll, EndLists, Feed, IsPulled}
 use Rattle.clk_drain.specs.inside.Handed.{lines_from, feed_from, HasDeviceSent, HavePulled, joined_lines, AreJoinable, joined_feeds, AreAllJoinable, IsReadyToClose, AreApartDevices}
-use Rattle.clk_drain.specs.inside.Devices.{KeepVisits}
+use Rattle.clk_drain.specs.inside.Devices.{KeepsSo}
 use Rattle.clk_drain.specs.inside.Opening.{rooms_for, setup_for, IsOpenAs, AreOpenAs}
 use Rattle.clk_drain.proofs.Apart.{apart-parts}
 use Rattle.clk_drain.proofs.Settling.{senders-same}
@@ -115,7 +116,7 @@ device-joined terms gave shared queues taps seats closed are h = absurd are
 -- A device, joined after its pulls: it has the queues of its plan, and its seats sent all that is sent.
 pub record IsJoinedFeed (terms : Terms) (shared : List SharedQueue) (e : EndLists) (f : Feed) : Type 0 where
   pub tree_is : f.session.tree ≡ e.session.tree
-  pub visits_are : f.visits ≡ e.visits
+  pub keeps_are : f.keeps ≡ e.keeps
   pub queues_are : map queue_of_line f.lines ≡ shared
   pub own : AreLinesOf f.session f.lines
   pub sent : AllByRecursion (HasSent (sent_by terms.traces)) (seats_in f.lines)
@@ -126,7 +127,7 @@ pub record IsJoinedFeed (terms : Terms) (shared : List SharedQueue) (e : EndList
 
 pub feed-joined : (terms : Terms) (shared : List SharedQueue) (queues : List LeafQueue) (seats : List (Vec SeatLists Global)) (e : EndLists) (closed : List (Vec ClosedLists Global)) (f : Feed) → AreOpenAs terms.traces shared queues e.taps seats
     → AllZip (HaveSentAll terms) seats closed → IsPulled terms (feed_from queues e) f
-    → AreJoinable queues (taps_of f.lines) closed × IsJoinedFeed terms shared e (record { session = f.session; visits = f.visits; lines = joined_lines queues (taps_of f.lines) closed })
+    → AreJoinable queues (taps_of f.lines) closed × IsJoinedFeed terms shared e (record { session = f.session; keeps = f.keeps; lines = joined_lines queues (taps_of f.lines) closed })
 feed-joined terms shared queues seats e closed f opened h pulled =
     let is = pulled.2 in
     let joined : AreJoined terms shared queues (taps_of f.lines) closed f.lines =
@@ -178,8 +179,8 @@ feeds-senders terms all ends feeds h = absurd h
 pub all-apart : (terms : Terms) (all : List (List SharedQueue)) (ends : List EndLists) (feeds : List Feed) → are_distinct (flat_map senders_over all) ≡ true → AreJoinedFeeds terms all ends feeds → AreApartDevices feeds
 all-apart terms all ends feeds own h = search (rules, feeds-senders)
 
--- The visits of all joined devices are kept, or not, as those of the opened ones.
-pub joined-kept : (visits : Bool) (terms : Terms) (all : List (List SharedQueue)) (ends : List EndLists) (feeds : List Feed) → AllByRecursion (KeepVisits visits) ends → AreJoinedFeeds terms all ends feeds → AllByRecursion (λ (f : Feed). f.visits ≡ visits) feeds
-joined-kept visits terms [] [] [] kept h = tt
-joined-kept visits terms (shared ∷ all) (e ∷ ends) (f ∷ feeds) kept h = (h.0.visits_are ∙ kept.0, joined-kept visits terms all ends feeds kept.1 h.1)
-joined-kept visits terms all ends feeds kept h = absurd h
+-- The sessions of all joined devices keep what those of the opened ones keep.
+pub joined-kept : (keeps : Keeps) (terms : Terms) (all : List (List SharedQueue)) (ends : List EndLists) (feeds : List Feed) → AllByRecursion (KeepsSo keeps) ends → AreJoinedFeeds terms all ends feeds → AllByRecursion (λ (f : Feed). f.keeps ≡ keeps) feeds
+joined-kept keeps terms [] [] [] kept h = tt
+joined-kept keeps terms (shared ∷ all) (e ∷ ends) (f ∷ feeds) kept h = (h.0.keeps_are ∙ kept.0, joined-kept keeps terms all ends feeds kept.1 h.1)
+joined-kept keeps terms all ends feeds kept h = absurd h

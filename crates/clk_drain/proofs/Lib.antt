@@ -41,5 +41,6 @@ mod LossLists
 mod Refused
 mod WholeRun
 mod NoHeads
+mod Accounted
 mod WorkedMoments
 mod WorkedLost

@@ -3,6 +3,7 @@ use Rattle.std.proofs.Common.{◌≡◌, ℕ, ◌+◌, ◌*◌, zero, suc, Bool,
 use Rattle.std.proofs.Math.Nat.{zero-mul}
 use Rattle.std.proofs.lemmas.List.{reverse-append, map-append}
 use Rattle.clk_packet.specs.declared.packet.Packet.{Packet}
+use Rattle.clk_sched.specs.declared.session.keeps.Keeps.{Keeps}
 use Rattle.clk_sched.specs.declared.visit.Visit.{Visit}
 use Rattle.clk_sched.specs.Log.{moment_of}
 use Rattle.clk_sched.specs.Results.{leaf_packets}
@@ -24,10 +25,10 @@ latest : (pulled : List (List Visit)) (pull : List Visit) → latest_moment (rev
 latest pulled pull = search (rules, reverse-append)
 
 -- A session that was pulled over its lines was pulled at this moment.
-pub pulled-at : (moment : ℕ) (old new : Progress) (visits kept : Bool) (before after : List LineLists) (got : Option Packet) → IsPulledOnce old new moment got → kept ≡ visits → AreLinesOf new after
+pub pulled-at : (moment : ℕ) (old new : Progress) (keeps kept : Keeps) (before after : List LineLists) (got : Option Packet) → IsPulledOnce old new moment got → kept ≡ keeps → AreLinesOf new after
     → after ≡ pulling_all (λ q. leaf_packets old.tree q (newly old new)) before
-    → IsPulledAt moment (record { session = old; visits = visits; lines = before }) (record { session = new; visits = kept; lines = after })
-pulled-at moment old new visits kept before after got once kind own took = search (rules, latest, map-append)
+    → IsPulledAt moment (record { session = old; keeps = keeps; lines = before }) (record { session = new; keeps = kept; lines = after })
+pulled-at moment old new keeps kept before after got once kind own took = search (rules, latest, map-append)
 
 -- A session that was pulled once each step was pulled so often.
 pub steps-count : (step made : ℕ) → length (steps step made) ≡ made

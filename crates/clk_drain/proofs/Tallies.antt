@@ -68,7 +68,7 @@ found-later : (t : Tally) (all some : List Tally) → AllByRecursion (λ m. t.se
 found-later t all [] below h = tt
 found-later t all (u ∷ some) below h = search (rules, (found-later t all some below.1 h.1))
 
-found-rising : (tallies : List Tally) → AreRising (tellers tallies) → AllByRecursion (λ (t : Tally). tally_for tallies t.sender ≡ Some t) tallies
+pub found-rising : (tallies : List Tally) → AreRising (tellers tallies) → AllByRecursion (λ (t : Tally). tally_for tallies t.sender ≡ Some t) tallies
 found-rising [] rise = tt
 found-rising (t ∷ tallies) rise = search (rules, (found-later t tallies tallies rise.0 (found-rising tallies rise.1)), (found-rising tallies rise.1))
 

@@ -1,5 +1,5 @@
 -- What a run of producers on threads returns (this project's own definition).
-use Rattle.std.specs.Prelude.{◌≡◌, ℕ, ◌+◌, ◌<◌, ◌==◌, Bool, true, List, [], ◌∷◌, length, map, suc, ⊤, MatchOption, slice_get, if◌then◌else◌, Vec}
+use Rattle.std.specs.Prelude.{◌≡◌, ℕ, ◌+◌, ◌<◌, ◌==◌, true, List, [], ◌∷◌, length, map, suc, ⊤, MatchOption, slice_get, if◌then◌else◌, Vec}
 use Rattle.std.specs.List.{AllByRecursion}
 use Rattle.std.specs.declared.alloc.Global.{Global}
 use Rattle.clk_packet.specs.declared.packet.Packet.{Packet}
@@ -8,7 +8,9 @@ use Rattle.clk_packet.specs.declared.tally.Tally.{Tally}
 use Rattle.clk_packet.specs.declared.fault.Fault.{Fault}
 use Rattle.clk_packet.specs.declared.fault.Fault.TheVariants.{Memory, UnknownSender, Unsettled}
 use Rattle.clk_packet.specs.Trace.{sent_by}
+use Rattle.clk_sched.specs.declared.session.keeps.Keeps.{Keeps}
 use Rattle.clk_sched.specs.declared.visit.Visit.{Visit}
+use Rattle.clk_sched.specs.Keeps.{keeps_emitted, keeps_visits}
 use Rattle.clk_sched.specs.Packed.{logged}
 use Rattle.clk_tree.specs.Plan.{Planned}
 use Rattle.clk_tree.specs.PlanTree.{IsTreeOf, device_count}
@@ -51,11 +53,14 @@ abbrev pub IsRunOutcome : List Planned → List (List Packet) → ℕ → ℕ �
 IsRunOutcome plan traces step limit outcome =
     IsRunWith plan traces step limit (map (λ log. log.items) outcome.logs.items) (map (λ packets. packets.items) outcome.emitted.items) outcome.tallies.items
 
--- What `run_with` returns meets `IsRunWith`. If visits are kept, the logs are those of the outcome; otherwise only contracts know them.
-pub record IsKeptRun (visits : Bool) (plan : List Planned) (traces : List (List Packet)) (step limit : ℕ) (outcome : Outcome PackedLog) : Type 0 where
+-- What `run_with` returns meets `IsRunWith`. Its logs and emitted packets are those of the outcome if they are kept; otherwise only
+-- contracts know them.
+pub record IsKeptRun (keeps : Keeps) (plan : List Planned) (traces : List (List Packet)) (step limit : ℕ) (outcome : Outcome PackedLog) : Type 0 where
   pub logs : List (List Visit)
-  pub kept : visits ≡ true → map logged outcome.logs.items ≡ logs
-  pub is : IsRunWith plan traces step limit logs (map (λ packets. packets.items) outcome.emitted.items) outcome.tallies.items
+  pub packets : List (List Packet)
+  pub kept : keeps_visits keeps ≡ true → map logged outcome.logs.items ≡ logs
+  pub told : keeps_emitted keeps ≡ true → map (λ packets. packets.items) outcome.emitted.items ≡ packets
+  pub is : IsRunWith plan traces step limit logs packets outcome.tallies.items
 
 -- how many packets these senders send in all
 abbrev pub sent_in_all : (ℕ → List Packet) → List ℕ → ℕ

@@ -5,7 +5,7 @@ ghost use Rattle.std.specs.List.{AllByRecursion};
 ghost use Rattle.clk_packet.specs.declared.fault.Fault.TheVariants.{Memory};
 ghost use Rattle.clk_sched.specs.Closing.{left_in};
 ghost use Rattle.clk_sched.specs.Drain.{drain_start};
-ghost use Rattle.clk_sched.specs.Keeps.{keeps_visits, TellsEmitted};
+ghost use Rattle.clk_sched.specs.Keeps.{keeps_visits};
 ghost use Rattle.clk_sched.specs.Limits.{most_left, end_of_drains};
 ghost use Rattle.clk_sched.specs.Session.{progress_of};
 ghost use Rattle.clk_drain.specs.Line.{AreLinesOf, HaveOwnSenders};
@@ -51,8 +51,8 @@ pub fn close_and_drain<W: Wait>(
     close(alloc, wait, session, lines, moment)?.unpack(alloc)
 }
 
-/// Drains a session as `close_and_drain` does. The session may keep its visits packed, or keep none. If it keeps none, contracts speak of a
-/// log that isn't returned.
+/// Drains a session as `close_and_drain` does, whatever it keeps, if it dropped no visit. Contracts speak of the log and of the emitted
+/// packets also where these aren't kept, and aren't returned.
 ///
 /// # Errors
 ///
@@ -68,7 +68,7 @@ pub(crate) fn close<W: Wait>(
     requires senders { HaveOwnSenders lines.items }
     requires few { accepted_over lines.items ≤ most_left }
     requires moment { drain_start session moment < end_of_drains }
-    ensures drained { TellsEmitted session → IfOk result (IsDrainedAs (progress_of session) (keeps_visits session.keeps) lines.items moment) }
+    ensures drained { session.gone ≡ 0 → IfOk result (IsDrainedAs (progress_of session) session.keeps lines.items moment) }
     ensures reached { OnOk result (AllByRecursion HasReached (map seated lines.items)) }
     ensures fault { IfErr result (IsFaultOfDrain lines.items) }
 {

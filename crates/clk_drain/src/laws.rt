@@ -1,6 +1,6 @@
 //! What holds of every pull over lines, and of every run that fails. A law is a function that does nothing and whose contract is the law.
 
-ghost use Rattle.clk_drain.specs.Laws.{TapsTakeWhatLeavesGive, SettledHoldNothing, RunsHoldNothing, LossesHaveLists};
+ghost use Rattle.clk_drain.specs.Laws.{TapsTakeWhatLeavesGive, SettledHoldNothing, RunsHoldNothing, RunsAccountForEmitted, LossesHaveLists};
 
 use clk_packet::Traces;
 use clk_sched::runs_conserve_packets;
@@ -42,4 +42,13 @@ pub fn losses_have_lists(plan: &Plan, traces: &Traces)
     // Reading senders and queues brings into scope that no sender sends to two queues, and that each queue has a device.
     let _ = plan.senders();
     let _ = plan.queues();
+}
+
+/// After a run of the plan the tallies account for what was emitted: each packet that a tally has as accepted is one that it has as evicted,
+/// or one that a device emitted.
+pub fn runs_account_for_emitted(plan: &Plan)
+    ensures { RunsAccountForEmitted plan.now }
+{
+    // Reading senders brings into scope that no sender sends to two queues.
+    let _ = plan.senders();
 }

@@ -17,7 +17,8 @@ pub use closing::close_and_drain;
 pub use drained::Drained;
 pub use examples::{moment_examples, outcome_examples, run_examples};
 pub use laws::{
-    losses_have_lists, runs_hold_nothing, settled_devices_hold_nothing, taps_take_what_leaves_give,
+    losses_have_lists, runs_account_for_emitted, runs_hold_nothing, settled_devices_hold_nothing,
+    taps_take_what_leaves_give,
 };
 pub use line::Line;
 pub use lines::Lines;

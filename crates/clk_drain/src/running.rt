@@ -12,7 +12,7 @@ mod terms;
 mod threads;
 
 ghost use Rattle.std.specs.Prelude.{◌≡◌, ◌≤◌, ◌<◌, true, false, [], IfOk, IfErr};
-ghost use Rattle.clk_sched.specs.Keeps.{keeps_visits, keeps_emitted};
+ghost use Rattle.clk_sched.specs.Keeps.{keeps_visits};
 ghost use Rattle.clk_gate.specs.Limits.{most_step, most_limit};
 ghost use Rattle.clk_gate.specs.Known.{senders_in, AreKnown};
 ghost use Rattle.clk_drain.specs.Run.{IsRunOutcome, IsKeptRun, IsFaultOfRun};
@@ -66,9 +66,11 @@ pub fn run<R: Threads + Wait, W: Wait + Sync, G: Gate + Sync>(
     run_keeping(rt, alloc, wait, plan, traces, step, limit, gate, Keeps::ALL)?.unpack(alloc)
 }
 
-/// Runs a plan over a trace as `run` does. If `visits` is true it keeps visits packed, in seven tenths of the memory. Otherwise it keeps
-/// none, and the outcome has no logs. Contracts say that each device made a run of its tree, which fixes what it emitted. They say it of
-/// the outcome's logs if visits are kept, otherwise of visits that only contracts know.
+/// Runs a plan over a trace as `run` does, and keeps only what `keeps` says. The outcome has logs if visits are kept, and the emitted packets
+/// if these or visits are kept. It always has the tallies. Contracts say that each device made a run of its tree, which fixes what it
+/// emitted, also where only contracts know its visits and what it emitted.
+///
+/// Packed visits take seven tenths of the memory of a list.
 ///
 /// # Errors
 ///
@@ -82,26 +84,20 @@ pub fn run_with<R: Threads + Wait, W: Wait + Sync, G: Gate + Sync>(
     step: u32,
     limit: u32,
     gate: &G,
-    visits: bool,
+    keeps: Keeps,
 ) -> Result<Outcome<PackedLog>, Fault>
     requires step { (1 ≤ step) × (step ≤ most_step) }
     requires limit { (1 ≤ limit) × (limit ≤ most_limit) }
-    ensures outcome { IfOk result (IsKeptRun visits plan.now traces.now step limit) }
-    ensures none { visits ≡ false → IfOk result (λ outcome. outcome.logs.items ≡ []) }
+    ensures outcome { IfOk result (IsKeptRun keeps plan.now traces.now step limit) }
+    ensures none { keeps_visits keeps ≡ false → IfOk result (λ outcome. outcome.logs.items ≡ []) }
     ensures known { IfOk result (λ _. AreKnown (senders_in plan.now) traces.now) }
     ensures fault { IfErr result (IsFaultOfRun plan.now traces.now) }
 {
-    let keeps = Keeps {
-        visits: false,
-        packed: visits,
-        packets: !visits,
-        latest: false,
-    };
     let outcome = run_keeping(rt, alloc, wait, plan, traces, step, limit, gate, keeps)?;
-    Ok(kept(alloc, outcome, visits))
+    Ok(kept(alloc, outcome, keeps.visits || keeps.packed))
 }
 
-/// Runs a plan over a trace as `run` does. `keeps` says what it keeps: enough to know at the end which packets were emitted.
+/// Runs a plan over a trace as `run_with` does. If no visits are kept, the outcome has an empty log for each device.
 ///
 /// # Errors
 ///
@@ -119,8 +115,7 @@ fn run_keeping<R: Threads + Wait, W: Wait + Sync, G: Gate + Sync>(
 ) -> Result<Outcome<PackedLog>, Fault>
     requires step { (1 ≤ step) × (step ≤ most_step) }
     requires limit { (1 ≤ limit) × (limit ≤ most_limit) }
-    requires emitted { keeps_emitted keeps ≡ true }
-    ensures outcome { IfOk result (IsKeptRun (keeps_visits keeps) plan.now traces.now step limit) }
+    ensures outcome { IfOk result (IsKeptRun keeps plan.now traces.now step limit) }
     ensures known { IfOk result (λ _. AreKnown (senders_in plan.now) traces.now) }
     ensures fault { IfErr result (IsFaultOfRun plan.now traces.now) }
 {

@@ -8,12 +8,21 @@ use clk_drain::{Free, Gate, Outcome, run, run_with};
 use clk_packet::{FailingSource, Fault, Packet, Tally, Traces};
 use clk_rows::trees::{DRR_500_OVER_TWO, EIGHT_SENDERS};
 use clk_rows::{EIGHT_SENDERS_ONE_QUEUE, EMPTY_TRACE_TWO_QUEUES, LONG_RUN, NO_SENDER, Run};
+use clk_sched::Keeps;
 use clk_tree::Plan;
 use std::alloc::Global;
 use std::process::Abort;
 use std::sync::Wait;
 use std::test::Fail;
 use std::thread::Threads;
+
+/// What devices emit, and no visits.
+pub const EMITTED: Keeps = Keeps {
+    visits: false,
+    packed: false,
+    packets: true,
+    latest: false,
+};
 
 const FOUR_AT_A_QUEUE: &str =
     "s0 :: Sender(0); s1 :: Sender(1); s2 :: Sender(2); s3 :: Sender(3); q :: Queue(1); d :: ToDevice(link); s0 -> q; s1 -> q; s2 -> q; s3 -> q; q -> d;";
@@ -184,11 +193,30 @@ fn a_run_may_keep_no_visits(rt: HostRuntime) -> Result<(), Fault> {
     let alloc = rt.alloc();
     let traces = traces(alloc, records(alloc, b"01", 50)?)?;
     let plan = Plan::read(alloc, DRR_500_OVER_TWO.as_bytes())?;
-    let packed = run_with(&rt, alloc, &rt, &plan, &traces, 1, 1000, &Free, false)?;
+    let packed = run_with(&rt, alloc, &rt, &plan, &traces, 1, 1000, &Free, EMITTED)?;
     let outcome = packed.unpack(alloc)?;
     assert_all_accounted(&rt, alloc, &traces, &outcome, 2)?;
     assert!(rt; outcome.logs.is_empty());
     assert_all_accepted(&rt, alloc, &traces, &outcome)
+}
+
+// A run that keeps nothing has its tallies, no log, and no emitted packets.
+#[test]
+fn a_run_may_keep_nothing(rt: HostRuntime) -> Result<(), Fault> {
+    let alloc = rt.alloc();
+    let traces = traces(alloc, records(alloc, b"01", 50)?)?;
+    let plan = Plan::read(alloc, DRR_500_OVER_TWO.as_bytes())?;
+    let keeps = Keeps::NOTHING;
+    let outcome = run_with(&rt, alloc, &rt, &plan, &traces, 1, 1000, &Free, keeps)?;
+    assert_eq!(rt; outcome.tallies.len(), 2);
+    for tally in &outcome.tallies {
+        assert_accepted(&rt, alloc, &traces, tally)?;
+    }
+    assert!(rt; outcome.logs.is_empty());
+    for emitted in &outcome.emitted {
+        assert!(rt; emitted.is_empty());
+    }
+    Ok(())
 }
 
 #[test]

@@ -2,7 +2,7 @@
 
 use crate::values::{packet, sink_of};
 use clk_packet::{Counts, Fault, Packet, Packets, Tally, Total};
-use clk_report::{MAX_DEVICES, report, report_line};
+use clk_report::{MAX_DEVICES, report, report_line, report_tallies};
 use clk_rows::{EVICTS_OTHER_SENDER, Row, TAIL_DROP_FULL};
 use std::alloc::{AllocError, Global};
 use std::process::Abort;
@@ -60,7 +60,8 @@ fn assert_reports(
     assert_takes(rt, alloc, &tallies, &emitted, expected, Ok(()));
 }
 
-// Reports to a sink with room for so many bytes. Fails unless the result is this, and these bytes were written.
+// Reports to a sink with room for so many bytes, by what was emitted and by the tallies alone, which account for it. Fails unless the result
+// is this, and these bytes were written.
 fn assert_takes(
     rt: &impl Abort,
     alloc: Global,
@@ -72,6 +73,9 @@ fn assert_takes(
     assert!(rt; emitted.len() <= MAX_DEVICES);
     let mut sink = sink_of(alloc, bytes.len()).expect(rt, "ample memory");
     assert_eq!(rt; report(tallies, emitted, &mut sink), expected);
+    assert!(rt; sink.taken() == bytes);
+    let mut sink = sink_of(alloc, bytes.len()).expect(rt, "ample memory");
+    assert_eq!(rt; report_tallies(tallies, &mut sink), expected);
     assert!(rt; sink.taken() == bytes);
 }
 

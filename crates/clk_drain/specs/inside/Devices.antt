@@ -1,9 +1,10 @@
 -- What a run opens over a plan.
-use Rattle.std.specs.Prelude.{◌≡◌, ℕ, Bool, List, [], ◌∷◌, map, suc, Vec}
+use Rattle.std.specs.Prelude.{◌≡◌, ℕ, List, [], ◌∷◌, map, suc, Vec}
 use Rattle.std.specs.declared.alloc.Global.{Global}
 use Rattle.clk_packet.specs.declared.packet.Packet.{Packet}
 use Rattle.clk_packet.specs.Lists.{stands_in}
 use Rattle.clk_ruled.specs.Queue.{SeatLists}
+use Rattle.clk_sched.specs.declared.session.keeps.Keeps.{Keeps}
 use Rattle.clk_sched.specs.Tree.{root, leaves}
 use Rattle.clk_tree.specs.Plan.{Planned}
 use Rattle.clk_tree.specs.PlanTree.{IsTreeOf}
@@ -27,6 +28,6 @@ AreOpenFrom plan traces device end [] [] [] = device ≡ end
 AreOpenFrom plan traces device end (q ∷ queues) (s ∷ seats) (e ∷ ends) = IsOpenOf plan traces device q.items s.items e × AreOpenFrom plan traces (suc device) end queues seats ends
 AreOpenFrom plan traces device end queues seats ends = ⊥
 
--- Whether the visits of a device are kept is this.
-abbrev pub KeepVisits : Bool → EndLists → Type 0
-KeepVisits visits ends = ends.visits ≡ visits
+-- The session of a device keeps this.
+abbrev pub KeepsSo : Keeps → EndLists → Type 0
+KeepsSo keeps ends = ends.keeps ≡ keeps

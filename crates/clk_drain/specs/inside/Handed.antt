@@ -1,5 +1,5 @@
 -- How the parts of opened devices go to the threads of a run and are joined again. Seats stay by device and queue.
-use Rattle.std.specs.Prelude.{◌≡◌, ◌⊎◌, ℕ, ◌*◌, ◌+◌, ◌<◌, ◌≤◌, true, List, [], ◌∷◌, length, map, get_or, ⊤, Vec}
+use Rattle.std.specs.Prelude.{◌≡◌, ◌⊎◌, ℕ, ◌*◌, ◌+◌, ◌<◌, ◌≤◌, Bool, true, List, [], ◌∷◌, length, map, get_or, ⊤, Vec}
 use Rattle.std.specs.declared.alloc.Global.{Global}
 use Rattle.std.specs.List.{flat_map, AllByRecursion, AllZip}
 use Rattle.clk_packet.specs.declared.fault.Fault.{Fault}
@@ -8,7 +8,8 @@ use Rattle.clk_packet.specs.Trace.{sent_by}
 use Rattle.clk_packet.specs.Lists.{are_distinct}
 use Rattle.clk_ruled.specs.Queue.{SeatLists, TapLists, ClosedLists, IsTapOf}
 use Rattle.clk_ruled.specs.Settle.{AreOpenedTogether}
-use Rattle.clk_sched.specs.declared.visit.Visit.{Visit}
+use Rattle.clk_sched.specs.declared.session.keeps.Keeps.{Keeps}
+use Rattle.clk_sched.specs.Keeps.{keeps_emitted, keeps_visits}
 use Rattle.clk_sched.specs.Limits.{most_left}
 use Rattle.clk_sched.specs.Log.{pulls, moment_of}
 use Rattle.clk_sched.specs.Session.{counted_moment}
@@ -37,11 +38,11 @@ AreTapsOf queues taps = ⊥
 
 -- a device's session with its lines, while the seats are handed out
 abbrev pub feed_from : List LeafQueue → EndLists → Feed
-feed_from queues e = record { session = e.session; visits = e.visits; lines = lines_from queues e.taps }
+feed_from queues e = record { session = e.session; keeps = e.keeps; lines = lines_from queues e.taps }
 
 -- a session, with the taps of its lines
 abbrev pub pulled_of : Feed → EndLists
-pulled_of f = record { session = f.session; visits = f.visits; taps = map (λ (l : LineLists). l.tap) f.lines }
+pulled_of f = record { session = f.session; keeps = f.keeps; taps = map (λ (l : LineLists). l.tap) f.lines }
 
 -- A device's session is to be pulled over these queues for the first time.
 pub record IsUnpulledOver (queues : Vec LeafQueue Global) (e : EndLists) : Type 0 where
@@ -98,7 +99,7 @@ AreJoinable queues taps closed = ⊥
 
 -- the sessions of all devices with their lines, each with its closed seats
 abbrev pub joined_feeds : List (Vec LeafQueue Global) → List EndLists → List (Vec (Vec ClosedLists Global) Global) → List Feed
-joined_feeds (q ∷ queues) (e ∷ ends) (c ∷ closed) = record { session = e.session; visits = e.visits; lines = joined_lines q.items e.taps c.items } ∷ joined_feeds queues ends closed
+joined_feeds (q ∷ queues) (e ∷ ends) (c ∷ closed) = record { session = e.session; keeps = e.keeps; lines = joined_lines q.items e.taps c.items } ∷ joined_feeds queues ends closed
 joined_feeds queues ends closed = []
 
 -- For each device, each queue was opened together with its tap and its closed seats.
@@ -134,18 +135,18 @@ AreClosedDevices terms [] [] = ⊤
 AreClosedDevices terms (f ∷ feeds) (d ∷ devices) = IsClosedDevice terms f d × AreClosedDevices terms feeds devices
 AreClosedDevices terms feeds devices = ⊥
 
--- For each session whose visits are kept, this is the log of its device.
-abbrev pub AreKeptLogs : List Feed → List (List Visit) → List Device → Type 0
-AreKeptLogs [] [] [] = ⊤
-AreKeptLogs (f ∷ feeds) (log ∷ logs) (d ∷ devices) = (f.visits ≡ true → log ≡ d.log) × AreKeptLogs feeds logs devices
-AreKeptLogs feeds logs devices = ⊥
+-- For each session that keeps such things, this is what its device has of them: its log, or its emitted packets.
+abbrev pub AreKept : {X : Type 0} → (Keeps → Bool) → (Device → X) → List Feed → List X → List Device → Type 0
+AreKept kept of [] [] [] = ⊤
+AreKept kept of (f ∷ feeds) (x ∷ xs) (d ∷ devices) = (kept f.keeps ≡ true → x ≡ of d) × AreKept kept of feeds xs devices
+AreKept kept of feeds xs devices = ⊥
 
 -- All devices were drained, and all that was sent is settled.
 pub record AreSettledTogether (terms : Terms) (feeds : List Feed) (outcome : Outcome PackedLog) : Type 0 where
   pub devices : List Device
   pub closed : AreClosedDevices terms feeds devices
-  pub logs : AreKeptLogs feeds (map logged outcome.logs.items) devices
-  pub emitted : map (λ packets. packets.items) outcome.emitted.items ≡ map (λ (d : Device). d.emitted) devices
+  pub logs : AreKept keeps_visits (λ (d : Device). d.log) feeds (map logged outcome.logs.items) devices
+  pub emitted : AreKept keeps_emitted (λ (d : Device). d.emitted) feeds (map (λ packets. packets.items) outcome.emitted.items) devices
   pub settled : IsSettledOutcome (sent_by terms.traces) devices outcome.tallies.items
 
 -- the queues of all devices, in order, with their seats

@@ -1,11 +1,12 @@
 -- What the threads of a run say to one another.
-use Rattle.std.specs.Prelude.{◌≡◌, ℕ, ◌*◌, ◌≤◌, Bool, List, [], ◌∷◌, ◌++◌, length, map, max, Vec}
+use Rattle.std.specs.Prelude.{◌≡◌, ℕ, ◌*◌, ◌≤◌, List, [], ◌∷◌, ◌++◌, length, map, max, Vec}
 use Rattle.std.specs.List.{AllZip}
 use Rattle.std.specs.declared.alloc.Global.{Global}
 use Rattle.clk_packet.specs.declared.packet.Packet.{Packet}
 use Rattle.clk_packet.specs.Trace.{sent_by}
 use Rattle.clk_ruled.specs.Queue.{OpenedQueue, SeatLists, TapLists, ClosedLists, IsSeatOf}
 use Rattle.clk_ruled.specs.Closing.{IsClosedOf}
+use Rattle.clk_sched.specs.declared.session.keeps.Keeps.{Keeps}
 use Rattle.clk_sched.specs.Log.{pulls, moment_of}
 use Rattle.clk_sched.specs.Session.{Progress, counted_moment}
 use Rattle.clk_drain.specs.Line.{LineLists, pulling_all, AreLinesOf}
@@ -33,16 +34,16 @@ pub record HasSentAll (terms : Terms) (seat : SeatLists) (result : ClosedLists) 
 abbrev pub HaveSentAll : Terms → Vec SeatLists Global → Vec ClosedLists Global → Type 0
 HaveSentAll terms seats closed = AllZip (HasSentAll terms) seats.items closed.items
 
--- a device's session, whether its visits are kept, and the taps of its queues, in order
+-- a device's session, what it keeps, and the taps of its queues, in order
 pub record EndLists : Type 0 where
   pub session : Progress
-  pub visits : Bool
+  pub keeps : Keeps
   pub taps : List TapLists
 
--- a session with the lines over which it is pulled, and whether its visits are kept
+-- a session with the lines over which it is pulled, and what it keeps
 pub record Feed : Type 0 where
   pub session : Progress
-  pub visits : Bool
+  pub keeps : Keeps
   pub lines : List LineLists
 
 -- A session that is to be pulled for the first time.
@@ -53,7 +54,7 @@ pub record IsUnpulled (feed : Feed) : Type 0 where
 -- The session was pulled once more, at this moment, or at its latest moment if that is later.
 pub record IsPulledAt (moment : ℕ) (old new : Feed) : Type 0 where
   pub tree : new.session.tree ≡ old.session.tree
-  pub visits : new.visits ≡ old.visits
+  pub keeps : new.keeps ≡ old.keeps
   pub gave : ℕ → List Packet
   pub lines : new.lines ≡ pulling_all gave old.lines
   pub own : AreLinesOf new.session new.lines
@@ -63,7 +64,7 @@ pub record IsPulledAt (moment : ℕ) (old new : Feed) : Type 0 where
 -- The session was pulled `made` times, once each step.
 pub record IsPulledFor (terms : Terms) (made : ℕ) (old new : Feed) : Type 0 where
   pub tree : new.session.tree ≡ old.session.tree
-  pub visits : new.visits ≡ old.visits
+  pub keeps : new.keeps ≡ old.keeps
   pub gave : ℕ → List Packet
   pub lines : new.lines ≡ pulling_all gave old.lines
   pub own : AreLinesOf new.session new.lines

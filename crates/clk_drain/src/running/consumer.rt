@@ -24,8 +24,8 @@ pub struct Consumer<'a, W: Wait> {
 
 impl<'a, W: Wait> Model for Consumer<'a, W> {
     ghost use Rattle.clk_drain.specs.inside.Threads.{Feed};
+    ghost use Rattle.std.specs.Prelude.{◌≡◌};
     ghost use Rattle.std.specs.Coded.{codes};
-    ghost use Rattle.clk_sched.specs.Keeps.{keeps_visits, TellsEmitted};
     ghost use Rattle.clk_sched.specs.Session.{progress_of};
     ghost use Rattle.clk_sched.specs.Stored.{tree_code};
 
@@ -33,9 +33,9 @@ impl<'a, W: Wait> Model for Consumer<'a, W> {
 
     ghost coded = { Prim.hlevel (codes, tree_code) };
 
-    ghost view = { λ c. record { session = progress_of c.session; visits = keeps_visits c.session.keeps; lines = c.open_lines } };
+    ghost view = { λ c. record { session = progress_of c.session; keeps = c.session.keeps; lines = c.open_lines } };
 
-    ghost invariant = { λ c. TellsEmitted c.session };
+    ghost invariant = { λ c. c.session.gone ≡ 0 };
 }
 
 impl<'a, W: Wait> Consumer<'a, W> {

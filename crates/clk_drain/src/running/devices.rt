@@ -1,14 +1,13 @@
 //! What a run opens over a plan before its threads start: for each device a session of its tree, and its queues.
 
-ghost use Rattle.std.specs.Prelude.{◌≡◌, ◌<◌, true, IfOk, IsOkUnless};
+ghost use Rattle.std.specs.Prelude.{◌≡◌, ◌<◌, IfOk, IsOkUnless};
 ghost use Rattle.std.specs.List.{AllByRecursion};
 ghost use Rattle.clk_packet.specs.declared.fault.Fault.TheVariants.{Memory};
-ghost use Rattle.clk_sched.specs.Keeps.{keeps_visits, keeps_emitted};
 ghost use Rattle.clk_tree.specs.PlanTree.{device_count};
 ghost use Rattle.clk_tree.specs.PlanParts.{queues_of};
 ghost use Rattle.clk_drain.specs.Run.{queues_at};
 ghost use Rattle.clk_drain.specs.inside.Opening.{AreOpenAs};
-ghost use Rattle.clk_drain.specs.inside.Devices.{IsOpenOf, AreOpenFrom, KeepVisits};
+ghost use Rattle.clk_drain.specs.inside.Devices.{IsOpenOf, AreOpenFrom, KeepsSo};
 
 use crate::running::opening::{Ends, LeafQueue, OpenQueues, open_queue};
 use clk_packet::{Fault, Traces};
@@ -36,9 +35,8 @@ pub fn open_devices(
     traces: &Traces,
     keeps: Keeps,
 ) -> Result<OpenPlan, Fault>
-    requires emitted { keeps_emitted keeps ≡ true }
     ensures opened { IfOk result (λ opened. AreOpenFrom plan.now traces.now 0 (device_count plan.now) opened.queues.items opened.seats.items opened.ends.items) }
-    ensures kept { IfOk result (λ opened. AllByRecursion (KeepVisits (keeps_visits keeps)) opened.ends.items) }
+    ensures kept { IfOk result (λ opened. AllByRecursion (KeepsSo keeps) opened.ends.items) }
     ensures fault { IsOkUnless result Fault.Memory }
 {
     let devices = plan.devices();
@@ -67,9 +65,8 @@ fn open_device(
     keeps: Keeps,
 ) -> Result<(Vec<LeafQueue>, Vec<Vec<Seat>>, Ends), Fault>
     requires device { device < device_count plan.now }
-    requires emitted { keeps_emitted keeps ≡ true }
     ensures opened { IfOk result (λ opened. IsOpenOf plan.now traces.now device opened.0.items opened.1.items opened.2) }
-    ensures kept { IfOk result (λ opened. opened.2.visits ≡ keeps_visits keeps) }
+    ensures kept { IfOk result (λ opened. opened.2.keeps ≡ keeps) }
     ensures fault { IsOkUnless result Fault.Memory }
 {
     let tree = plan.tree(alloc, device)?;

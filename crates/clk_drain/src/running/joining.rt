@@ -21,8 +21,8 @@ pub struct Closing {
 
 impl Model for Closing {
     ghost use Rattle.clk_drain.specs.inside.Threads.{Feed};
+    ghost use Rattle.std.specs.Prelude.{◌≡◌};
     ghost use Rattle.std.specs.Coded.{codes};
-    ghost use Rattle.clk_sched.specs.Keeps.{keeps_visits, TellsEmitted};
     ghost use Rattle.clk_sched.specs.Session.{progress_of};
     ghost use Rattle.clk_sched.specs.Stored.{tree_code};
 
@@ -30,9 +30,9 @@ impl Model for Closing {
 
     ghost coded = { Prim.hlevel (codes, tree_code) };
 
-    ghost view = { λ c. record { session = progress_of c.session; visits = keeps_visits c.session.keeps; lines = c.lines.items } };
+    ghost view = { λ c. record { session = progress_of c.session; keeps = c.session.keeps; lines = c.lines.items } };
 
-    ghost invariant = { λ c. TellsEmitted c.session };
+    ghost invariant = { λ c. c.session.gone ≡ 0 };
 }
 
 /// Each device's session with its lines, by number, from its queues, its session with the taps, and its closed seats.

@@ -42,8 +42,8 @@ pub struct Ends {
 }
 
 impl Model for Ends {
+    ghost use Rattle.std.specs.Prelude.{◌≡◌};
     ghost use Rattle.std.specs.Coded.{codes};
-    ghost use Rattle.clk_sched.specs.Keeps.{keeps_visits, TellsEmitted};
     ghost use Rattle.clk_sched.specs.Session.{progress_of};
     ghost use Rattle.clk_sched.specs.Stored.{tree_code};
     ghost use Rattle.clk_drain.specs.inside.Threads.{EndLists};
@@ -52,9 +52,9 @@ impl Model for Ends {
 
     ghost coded = { Prim.hlevel (codes, tree_code) };
 
-    ghost view = { λ e. record { session = progress_of e.session; visits = keeps_visits e.session.keeps; taps = e.taps.items } };
+    ghost view = { λ e. record { session = progress_of e.session; keeps = e.session.keeps; taps = e.taps.items } };
 
-    ghost invariant = { λ e. TellsEmitted e.session };
+    ghost invariant = { λ e. e.session.gone ≡ 0 };
 }
 
 /// Opens one more queue, at this leaf, with room for all that is sent to it. Fault 1 if an allocation fails.

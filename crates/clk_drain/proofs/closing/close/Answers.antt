@@ -1,12 +1,13 @@
-use Rattle.std.proofs.Common.{drop, sym, ap, ◌∙◌, subst, arith}
+use Rattle.std.proofs.Common.{drop, refl, sym, ap, ◌∙◌, subst, arith}
 use Rattle.std.proofs.lemmas.Result.{err_from_is_err_and}
-use Rattle.clk_sched.specs.Keeps.{keeps_visits}
+use Rattle.clk_sched.specs.Keeps.{keeps_emitted, keeps_visits}
+use Rattle.clk_sched.specs.Results.{emitted}
 use Rattle.clk_sched.specs.Session.{progress_of}
 use Rattle.clk_drain.specs.Line.{AreLinesOf}
 use Rattle.clk_drain.specs.Closing.{accepted_over, left_over}
 use Rattle.clk_drain.proofs.Still.{still-accepted, gathered-lines}
 use Rattle.clk_drain.proofs.Left.{fault-unsettled, drained-reached}
-use Rattle.clk_drain.proofs.Closed.{drained-over, tells-still, emitted-told}
+use Rattle.clk_drain.proofs.Closed.{drained-over, emitted-told}
 use Rattle.clk_drain.proofs.closing.close.Goals as goal
 
 pub left-left-requires-clause-lines : goal.left-left-requires-clause-lines
@@ -30,14 +31,18 @@ returns-in_err-tallies-clause-fault g c =
     rw (p.1, p.2) (fault-unsettled (progress_of c.args.session) (progress_of c.in_ok-session.session) c.args.lines.items c.gathered-lines.result.items c.in_ok-session.lines.items c.args.moment c.left-left.result c.in_err-tallies.field-0.0 c.gathered-lines.ensures c.in_ok-session.ensures.drained c.in_err-tallies.ensures.fault)
 
 pub returns-clause-drained : goal.returns-clause-drained
-returns-clause-drained g c = λ tells. record {
-  log = c.in_ok-session.session.log;
-  kept = λ visits. c.in_ok-log.ensures.log (ap keeps_visits c.in_ok-session.ensures.keeps ∙ visits) ∙ ap (λ n. drop n c.in_ok-session.session.log) (c.in_ok-session.ensures.gone ∙ tells.1);
-  is =
-      drained-over (progress_of c.args.session) (progress_of c.in_ok-session.session) c.args.lines.items c.gathered-lines.result.items c.in_ok-session.lines.items c.args.moment c.left-left.result _ _ c.runs_conserve_packets.ensures.loses_nothing c.runs_conserve_packets.ensures.counts c.runs_conserve_packets.ensures.makes_nothing
-      record { own = c.requires.senders; leaves_some = record { gathers = c.gathered-lines.ensures; left_is = c.left-left.ensures.over ∙ ap (left_over (progress_of c.args.session)) c.deref.ensures.value }; drained = c.in_ok-session.ensures.drained; distinct = c.log.ensures.distinct; settled = c.in_ok-tallies.ensures.settled }
-      c.in_ok-tallies.ensures.tallies (emitted-told c.in_ok-session.session _ _ (tells-still c.args.session c.in_ok-session.session c.in_ok-session.ensures.keeps c.in_ok-session.ensures.gone tells) c.in_ok-log.ensures.emitted c.in_ok-log.ensures.told);
-}
+returns-clause-drained g c = λ none.
+    let keeps = c.in_ok-session.ensures.keeps in
+    let gone = c.in_ok-session.ensures.gone ∙ none in record {
+      log = c.in_ok-session.session.log;
+      emitted = emitted c.in_ok-session.session.log;
+      kept = λ visits. c.in_ok-log.ensures.log (ap keeps_visits keeps ∙ visits) ∙ ap (λ n. drop n c.in_ok-session.session.log) gone;
+      told = λ tells. emitted-told c.in_ok-session.session.keeps c.in_ok-session.session.gone _ _ gone c.in_ok-log.ensures.emitted c.in_ok-log.ensures.told (ap keeps_emitted keeps ∙ tells);
+      is =
+          drained-over (progress_of c.args.session) (progress_of c.in_ok-session.session) c.args.lines.items c.gathered-lines.result.items c.in_ok-session.lines.items c.args.moment c.left-left.result _ _ c.runs_conserve_packets.ensures.loses_nothing c.runs_conserve_packets.ensures.counts c.runs_conserve_packets.ensures.makes_nothing
+          record { own = c.requires.senders; leaves_some = record { gathers = c.gathered-lines.ensures; left_is = c.left-left.ensures.over ∙ ap (left_over (progress_of c.args.session)) c.deref.ensures.value }; drained = c.in_ok-session.ensures.drained; distinct = c.log.ensures.distinct; settled = c.in_ok-tallies.ensures.settled }
+          c.in_ok-tallies.ensures.tallies refl;
+    }
 
 pub returns-clause-reached : goal.returns-clause-reached
 returns-clause-reached g c =

@@ -2,7 +2,6 @@ use Rattle.std.proofs.Common.{ℕ, List, map, sym, subst, Vec, rules}
 use Rattle.std.specs.declared.alloc.Global.{Global}
 use Rattle.std.specs.List.{AllByRecursion}
 use Rattle.clk_packet.specs.declared.packet.Packet.{Packet}
-use Rattle.clk_sched.specs.Keeps.{keeps_visits}
 use Rattle.clk_tree.specs.declared.plan.parts.SenderSpec.{SenderSpec}
 use Rattle.clk_tree.specs.PlanParts.{number_of}
 use Rattle.clk_gate.specs.Known.{AreKnown}
@@ -28,7 +27,7 @@ run_threads-requires-clause-unpulled g c κs within = search (rules, unpulled-op
 
 -- what the threads gave back
 ended : (g : given.Over) (c : goal.In_ok-sent g)
-    → HasEnded (keeps_visits c.args.keeps) c.args.plan.now (terms_of c.args.traces.now c.args.step c.args.limit) c.in_ok-queues.field-0.queues.items c.in_ok-queues.field-0.seats.items c.in_ok-queues.field-0.ends.items c.in_ok-sent.sent.devices.items c.in_ok-sent.sent.ends.items
+    → HasEnded c.args.keeps c.args.plan.now (terms_of c.args.traces.now c.args.step c.args.limit) c.in_ok-queues.field-0.queues.items c.in_ok-queues.field-0.seats.items c.in_ok-queues.field-0.ends.items c.in_ok-sent.sent.devices.items c.in_ok-sent.sent.ends.items
 ended g c = search rules
 
 pub join_devices-requires : goal.join_devices-requires

@@ -4,7 +4,6 @@ use Rattle.std.proofs.lemmas.List.{nil_from_length}
 use Rattle.std.proofs.lemmas.List.Sorted.{IsNonDecreasingBy-from_sort_by_key}
 use Rattle.std.proofs.lemmas.Result.{err_from_is_err_and}
 use Rattle.clk_packet.specs.declared.tally.Tally.{Tally}
-use Rattle.clk_sched.specs.Keeps.{keeps_visits}
 use Rattle.clk_sched.specs.Session.{progress_of}
 use Rattle.clk_drain.specs.inside.Threads.{Feed}
 use Rattle.clk_drain.proofs.ClosingSteps.{AreClosing, closing-more, next-ready, next-fault, all-closed}
@@ -22,21 +21,21 @@ returns-in_err-with_capacity-2-clause-fault g c =
 
 pub close-requires-clause-lines : goal.close-requires-clause-lines
 close-requires-clause-lines g c =
-    let f : Feed = record { session = progress_of c.session.inside.session; visits = keeps_visits c.session.inside.session.keeps; lines = c.session.inside.lines.items } in
+    let f : Feed = record { session = progress_of c.session.inside.session; keeps = c.session.inside.session.keeps; lines = c.session.inside.lines.items } in
     let rest = into_iter_items c.next.new.self in
     let ready = next-ready c.args.terms.now c.args.closings.items c.loop-session.yielded rest (into_iter_items c.loop-session.session-iterator) f c.loop-session.outcome (c.in-Some.ensures.steps.0 ∙ ap (λ x. x ∷ rest) (sym c.session.view_is)) c.loop-session.invariant c.requires.ready in
     ready.own
 
 pub close-requires-clause-moment : goal.close-requires-clause-moment
 close-requires-clause-moment g c =
-    let f : Feed = record { session = progress_of c.session.inside.session; visits = keeps_visits c.session.inside.session.keeps; lines = c.session.inside.lines.items } in
+    let f : Feed = record { session = progress_of c.session.inside.session; keeps = c.session.inside.session.keeps; lines = c.session.inside.lines.items } in
     let rest = into_iter_items c.next.new.self in
     let ready = next-ready c.args.terms.now c.args.closings.items c.loop-session.yielded rest (into_iter_items c.loop-session.session-iterator) f c.loop-session.outcome (c.in-Some.ensures.steps.0 ∙ ap (λ x. x ∷ rest) (sym c.session.view_is)) c.loop-session.invariant c.requires.ready in
     search rules
 
 pub returns-in_err-drained-clause-fault : goal.returns-in_err-drained-clause-fault
 returns-in_err-drained-clause-fault g c =
-    let f : Feed = record { session = progress_of c.session.inside.session; visits = keeps_visits c.session.inside.session.keeps; lines = c.session.inside.lines.items } in
+    let f : Feed = record { session = progress_of c.session.inside.session; keeps = c.session.inside.session.keeps; lines = c.session.inside.lines.items } in
     let rest = into_iter_items c.next.new.self in
     let p = err_from_is_err_and c.from_residual-in_err-drained.result c.from_residual-in_err-drained.ensures.1 in
     rw (p.1, p.2) (next-fault c.args.terms.now c.args.closings.items c.loop-session.yielded rest (into_iter_items c.loop-session.session-iterator) f c.loop-session.outcome c.in_err-drained.field-0.0 (c.in-Some.ensures.steps.0 ∙ ap (λ x. x ∷ rest) (sym c.session.view_is)) c.loop-session.invariant c.in_err-drained.ensures.fault)
@@ -47,7 +46,7 @@ loop-session-preserved g c =
     let all = c.args.closings.items in
     let done = c.loop-session.yielded in
     let before = into_iter_items c.loop-session.session-iterator in
-    let f : Feed = record { session = progress_of c.session.inside.session; visits = keeps_visits c.session.inside.session.keeps; lines = c.session.inside.lines.items } in
+    let f : Feed = record { session = progress_of c.session.inside.session; keeps = c.session.inside.session.keeps; lines = c.session.inside.lines.items } in
     let rest = into_iter_items c.next.new.self in
     let next = c.in-Some.ensures.steps.0 ∙ ap (λ x. x ∷ rest) (sym c.session.view_is) in
     let ready = next-ready those all done rest before f c.loop-session.outcome next c.loop-session.invariant c.requires.ready in
