@@ -6,7 +6,7 @@ use clk_packet::Fault;
 use clk_rows::trees::TWO_DEVICES;
 
 /// Trees with several devices, scripts over them, and what they write.
-pub const ANSWERED: [Answer; 6] = [
+pub const ANSWERED: &[Answer] = &[
     // Each device has its own moment: device 0 was last pulled at 9, and device 1 at 2, which is before the drain's.
     (
         TWO_DEVICES,
@@ -75,7 +75,7 @@ pub const ANSWERED: [Answer; 6] = [
 ];
 
 /// The fault is that of the first line that names an unknown device.
-pub const REFUSED: [Answer; 5] = [
+pub const REFUSED: &[Answer] = &[
     (
         TWO_DEVICES,
         b"pull 0 2\n",

@@ -109,10 +109,10 @@ fn rows_are_written(rt: HostRuntime) {
 #[test]
 fn scripts_are_answered(rt: HostRuntime) {
     for answers in [
-        &devices::ANSWERED[..],
-        &devices::REFUSED,
-        &scripts::ANSWERED,
-        &scripts::REFUSED,
+        devices::ANSWERED,
+        devices::REFUSED,
+        scripts::ANSWERED,
+        scripts::REFUSED,
     ] {
         assert_answers(&rt, rt.alloc(), answers);
     }

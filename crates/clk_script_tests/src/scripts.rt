@@ -5,7 +5,7 @@ use clk_packet::Fault;
 use clk_rows::trees::PRIO_OVER_ROOM_FOR_TWO as TREE;
 
 /// A script writes a line for each command.
-pub const ANSWERED: [Answer; 7] = [
+pub const ANSWERED: &[Answer] = &[
     (TREE, b"", Ok(()), b""),
     (
         TREE,
@@ -51,7 +51,7 @@ pub const ANSWERED: [Answer; 7] = [
 ];
 
 /// Scripts whose first line is no command.
-const MALFORMED: [&[u8]; 32] = [
+const MALFORMED: &[&[u8]] = &[
     b"pull 1099511627776\n",
     b"send 0 0\n",
     b"send 0 65536\n",
@@ -90,7 +90,7 @@ const MALFORMED: [&[u8]; 32] = [
 ];
 
 /// Other scripts, and the fault of each.
-pub const REFUSED: [Answer; 11] = [
+pub const REFUSED: &[Answer] = &[
     (
         TREE,
         b"send 0 10\npull\n",

@@ -7,7 +7,7 @@ use std::alloc::Global;
 use std::process::Abort;
 
 /// Texts that break the grammar, with the explanations of their faults.
-const BAD_TEXTS: [(&str, &str); 9] = [
+const BAD_TEXTS: &[(&str, &str)] = &[
     (
         "q :: Queue(5)
 d :: ToDevice(x);",
@@ -93,7 +93,7 @@ expected a class
 ];
 
 /// Texts with a feature of Click that is left out.
-const LEFT_OUT: [(&str, &str); 8] = [
+const LEFT_OUT: &[(&str, &str)] = &[
     (
         "elementclass Pair { a -> b }",
         "1:14: Click's compound elements (elementclass) are left out here
@@ -161,7 +161,7 @@ expected a word of letters, digits and underscores
 ];
 
 /// Texts with another fault, and their explanations.
-const FAULTS: [(&str, &str); 22] = [
+const FAULTS: &[(&str, &str)] = &[
     (
         "q :: Que;",
         "1:6: there is no class 'Que'
@@ -359,7 +359,7 @@ expected a chain from each scheduler and Shaper to a ToDevice
 ];
 
 /// Faults that no text above has, with a text and their explanations over it.
-const ANY: [(&str, Fault, &str); 16] = [
+const ANY: &[(&str, Fault, &str)] = &[
     (
         "",
         Fault::Memory,
@@ -552,10 +552,10 @@ fn places_of_any_text_are_pointed_out(rt: HostRuntime) {
 
 #[test]
 fn faults_are_explained(rt: HostRuntime) {
-    assert_explained(&rt, rt.alloc(), &BAD_TEXTS);
-    assert_explained(&rt, rt.alloc(), &LEFT_OUT);
-    assert_explained(&rt, rt.alloc(), &FAULTS);
-    for (text, fault, explanation) in &ANY {
+    assert_explained(&rt, rt.alloc(), BAD_TEXTS);
+    assert_explained(&rt, rt.alloc(), LEFT_OUT);
+    assert_explained(&rt, rt.alloc(), FAULTS);
+    for (text, fault, explanation) in ANY {
         assert_explanation(&rt, text.as_bytes(), *fault, explanation);
     }
     let long = vec![in rt.alloc(); b' '; 1_048_577].expect(&rt, "memory");

@@ -4,7 +4,7 @@ use crate::row::assert_answers;
 use crate::sound::TEXTS;
 
 /// A text for each fault, and texts in which more than one place could be named. A second ToDevice is no fault.
-const FAULTS: [(&str, &str); 19] = [
+const FAULTS: &[(&str, &str)] = &[
     ("d :: ToDevice(x); /* cut", "fault 2: BadText 18"),
     ("q :: Que;", "fault 3: UnknownClass 5"),
     ("d :: ToDevice(x); r :: Que;", "fault 3: UnknownClass 23"),
@@ -57,7 +57,7 @@ const FAULTS: [(&str, &str); 19] = [
 ];
 
 /// Texts that break the grammar.
-const BAD_TEXTS: [(&str, &str); 24] = [
+const BAD_TEXTS: &[(&str, &str)] = &[
     ("q :: Queue(", "fault 2: BadText 11"),
     ("q :: Queue; ->", "fault 2: BadText 12"),
     ("q : Queue;", "fault 2: BadText 2"),
@@ -87,7 +87,7 @@ const BAD_TEXTS: [(&str, &str); 24] = [
 ];
 
 /// Which of several faults a text has.
-const ORDERS: [(&str, &str); 13] = [
+const ORDERS: &[(&str, &str)] = &[
     ("a [70000] -> b", "fault 6: UnknownName 0"),
     ("q :: Queue;", "fault 9: PortMissing 0"),
     (
@@ -126,7 +126,7 @@ const ORDERS: [(&str, &str); 13] = [
 /// Texts with two faults that stand next to each other in the order of faults. In the first row of a pair, the fault that counts stands
 /// before the other in the text, and in the second row behind it. A broken grammar is always the last fault in a text, since nothing behind
 /// it is read. NoDevice and TooLarge have no place. A text of too many bytes that breaks the grammar, too, is among the limits.
-const PAIRS: [(&str, &str); 17] = [
+const PAIRS: &[(&str, &str)] = &[
     // A name is declared twice, and the grammar is broken.
     ("q :: Queue; q :: Queue; ?", "fault 2: BadText 24"),
     // A name is declared twice, and its class is unknown.
@@ -179,7 +179,7 @@ const PAIRS: [(&str, &str); 17] = [
 
 #[test]
 fn texts_are_answered(rt: HostRuntime) {
-    for rows in [&TEXTS[..], &FAULTS, &BAD_TEXTS, &ORDERS, &PAIRS] {
+    for rows in [TEXTS, FAULTS, BAD_TEXTS, ORDERS, PAIRS] {
         assert_answers(&rt, rt.alloc(), rows);
     }
 }

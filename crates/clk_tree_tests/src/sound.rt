@@ -5,7 +5,7 @@ use clk_rows::trees::{
 };
 
 /// Texts of trees.
-pub const TEXTS: [(&str, &str); 10] = [
+pub const TEXTS: &[(&str, &str)] = &[
     (PRIO_OVER_ROOM_FOR_TWO, ""),
     (TWO_DEVICES, ""),
     // Devices that are declared after their chains, and no Sender.

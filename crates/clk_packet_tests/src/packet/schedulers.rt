@@ -6,7 +6,7 @@ use std::process::Abort;
 use std::test::Fail;
 
 /// Names with arguments, and the arguments of the scheduler over three inputs, or none if it doesn't take so many.
-const CASES: [(&[u8], &[u32], Option<&[u32]>); 14] = [
+const CASES: &[(&[u8], &[u32], Option<&[u32]>)] = &[
     (b"PrioSched", &[], Some(&[])),
     (b"PrioSched", &[1], None),
     (b"RoundRobinSched", &[], Some(&[])),
@@ -52,7 +52,7 @@ fn a_scheduler_takes_its_arguments(rt: HostRuntime) -> Result<(), Fail> {
     let alloc = rt.alloc();
     for (word, arguments, expected) in CASES {
         let name = SchedulerName::named(word).expect(&rt, "a name");
-        assert_eq!(rt; name.text(), word);
+        assert_eq!(rt; name.text(), *word);
         let scheduler = made(alloc, name, arguments)?;
         assert_eq!(rt; scheduler.is_some(), expected.is_some(), "{arguments:?}");
         if let (Some(scheduler), Some(expected)) = (scheduler, expected) {

@@ -55,7 +55,7 @@ fn assert_sends(rt: &impl Abort, traces: &Traces, sender: u16, lengths: &[u16]) 
 }
 
 /// Traces with a bad record, and which it is.
-const BAD: [(&[u8], u32); 16] = [
+const BAD: &[(&[u8], u32)] = &[
     (b"1,2\n3", 2),
     (b"1,2,3", 1),
     (b"1,2\n\n3,4\n5,\n", 3),
@@ -77,7 +77,7 @@ const BAD: [(&[u8], u32); 16] = [
 #[test]
 fn a_record_is_two_numbers_in_their_ranges(rt: HostRuntime) {
     for (text, row) in BAD {
-        assert_refused(&rt, rt.alloc(), text, Fault::BadTrace { row });
+        assert_refused(&rt, rt.alloc(), text, Fault::BadTrace { row: *row });
     }
 }
 
@@ -118,7 +118,7 @@ fn records_are_as_csv_reads_them(rt: HostRuntime) -> Result<(), Fail> {
 }
 
 /// Traces that say the same. The lines of the first are two numbers in digits alone, and a line feed. The second has more to skip.
-const ALIKE: [(&[u8], &[u8]); 10] = [
+const ALIKE: &[(&[u8], &[u8])] = &[
     (b"1,2\n3,4\n1,5\n", b"\"1\",2\n3,\"4\"\n\"1\",\"5\"\n"),
     (b"1,2\n3,4\n1,5\n", b"1,2\r\n3,4\r\n1,5\r\n"),
     (b"1,2\n3,4\n1,5\n", b"1,2\n3,4\r1,5\n"),
