@@ -77,7 +77,7 @@ impl Line {
     {
         let mut accepted = 0;
         for seat in &self.closed {
-            accepted += seat.accepted().len() as u64;
+            accepted += seat.count_accepted() as u64;
         }
         accepted
     }

@@ -120,7 +120,7 @@ fn senders(rt: &impl Abort, alloc: Global, lines: &[Line]) -> Result<Vec<u16>, F
     let mut spare = MOST_LEFT;
     for line in lines {
         for seat in &line.closed {
-            let more = seat.accepted().len();
+            let more = seat.count_accepted();
             assert!(rt; more <= spare);
             spare -= more;
             senders.push(seat.sender())?;

@@ -4,6 +4,7 @@ mod Changes
 mod Steps
 mod Begins
 mod Sharing
+mod Listing
 mod SeatSteps
 mod Offering
 mod Opening

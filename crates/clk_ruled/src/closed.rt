@@ -1,21 +1,23 @@
 //! Seats of a shared queue that were closed.
 
+use crate::accepted::AcceptedPackets;
 use crate::protocol::Retire;
 use crate::queue::Line;
 use crate::view::View;
-use clk_packet::Packet;
+use clk_packet::{Fault, Packet, Packets};
 use crossbeam_queue::Pass;
+use std::alloc::Global;
 use std::marker::Model;
 use std::mem;
 
-/// A seat that was closed. It keeps its lists.
+/// A seat that was closed. It knows what it knew.
 #[derive(Drop)]
 pub struct ClosedSeat {
     pub(crate) pass: Pass<Packet, View>,
     pub(crate) sender: u16,
     pub(crate) room: u32,
     pub(crate) next: u32,
-    pub(crate) accepted: Vec<Packet>,
+    pub(crate) accepted: AcceptedPackets,
     pub(crate) refused: Vec<Packet>,
     pub(crate) evicted: Vec<Packet>,
     pub(crate) gathered: bool,
@@ -26,17 +28,17 @@ impl Model for ClosedSeat {
     ghost use Rattle.crossbeam_queue.specs.Passes.{view as known};
     ghost use Rattle.clk_packet.specs.declared.packet.Kind.TheVariants.{FrontDrop};
     ghost use Rattle.clk_ruled.specs.Queue.{ClosedLists, IsShared};
-    ghost use Rattle.clk_ruled.specs.inside.Parts.{SeatFits};
+    ghost use Rattle.clk_ruled.specs.inside.Parts.{HaveLengths, SeatFits};
 
     ghost Value = { ClosedLists };
 
-    ghost view = { λ c. record { lists = record { id = c.pass.table_id; setup = (known c.pass).setup; sender = c.sender; room = c.room; next = c.next; accepted = c.accepted.items; refused = c.refused.items; evicted = c.evicted.items }; is_gathered = c.gathered } };
+    ghost view = { λ c. record { lists = record { id = c.pass.table_id; setup = (known c.pass).setup; sender = c.sender; room = c.room; next = c.next; accepted = c.accepted.all.items; refused = c.refused.items; evicted = c.evicted.items }; is_gathered = c.gathered } };
 
-    ghost invariant = { λ c. (c.gathered ≡ false → SeatFits (known c.pass) c.sender c.room c.next c.accepted.items c.refused.items c.evicted.items) × (c.pass.me.1 ≡ []) × (c.next ≤ c.room) × IsShared c.sender c.next c.accepted.items c.refused.items × ((known c.pass).setup.kind ≡ FrontDrop → c.refused.items ≡ []) };
+    ghost invariant = { λ c. (c.gathered ≡ false → SeatFits (known c.pass) c.sender c.room c.next c.accepted.all.items c.refused.items c.evicted.items) × (c.pass.me.1 ≡ []) × (c.next ≤ c.room) × IsShared c.sender c.next c.accepted.all.items c.refused.items × ((known c.pass).setup.kind ≡ FrontDrop → c.refused.items ≡ []) × HaveLengths c.accepted.all.items c.accepted.lengths.items };
 }
 
 impl ClosedSeat {
-    ghost use Rattle.std.specs.Prelude.{◌≡◌, ◌≤◌, true, false};
+    ghost use Rattle.std.specs.Prelude.{◌≡◌, ◌≤◌, true, false, length, IfOk, IsOkUnless};
     ghost use Rattle.crossbeam_queue.specs.Passes.{view as known, IsPassOf};
     ghost use Rattle.clk_ruled.specs.Queue.{IsSharedOut};
 
@@ -77,12 +79,27 @@ impl ClosedSeat {
         self.room
     }
 
-    /// The packets that the queue accepted, by rising number.
-    pub fn accepted(&self) -> &[Packet]
-        ensures accepted { result.now ≡ self.now.lists.accepted }
+    /// How many packets the queue accepted.
+    pub fn count_accepted(&self) -> usize
+        ensures count { result ≡ length self.now.lists.accepted }
         ensures shares { IsSharedOut self.now.lists }
     {
-        self.accepted.as_slice()
+        self.accepted.len()
+    }
+
+    /// Lists the packets that the queue accepted, by rising number. Takes time in proportion to the packets that the seat offered.
+    ///
+    /// # Errors
+    ///
+    /// Fault 1 if an allocation fails.
+    pub fn accepted(&self, alloc: Global) -> Result<Packets, Fault>
+        ensures accepted { IfOk result (λ accepted. accepted ≡ self.now.lists.accepted) }
+        ensures shares { IsSharedOut self.now.lists }
+        ensures fault { IsOkUnless result Fault.Memory }
+    {
+        let refused = self.refused.as_slice();
+        let accepted = self.accepted.list(alloc, self.sender, self.next, refused)?;
+        Ok(Packets::from(accepted))
     }
 
     /// The packets that the queue refused, by rising number.

@@ -1,6 +1,7 @@
 //! Bounded queues of packets that many senders and one consumer share without a lock, and on which every packet is accounted for.
 #![tactic(auto)]
 
+mod accepted;
 mod closed;
 mod examples;
 mod laws;

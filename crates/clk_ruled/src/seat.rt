@@ -2,25 +2,26 @@
 
 ghost use Rattle.std.specs.Prelude.{◌≡◌, ◌≤◌, ◌<◌, ◌∷◌, ◌++◌, [], length, vec_capacity};
 
+use crate::accepted::AcceptedPackets;
 use crate::closed::ClosedSeat;
 use crate::protocol::{Accept, Evict};
 use crate::queue::RuledQueue;
 use crate::view::View;
-use clk_packet::{Fault, Kind, Offered, Packet};
+use clk_packet::{Fault, Kind, Offered, Packet, Packets};
 use crossbeam_queue::Pass;
 use std::alloc::Global;
 use std::marker::Model;
 use std::sync::Wait;
 
-/// The seat of one sender at a shared queue. It lists which of its packets were accepted and refused, and which packets were evicted for
-/// them. The room of the lists was reserved when the queue was opened.
+/// The seat of one sender at a shared queue. It knows which of its packets were accepted and refused, and which packets were evicted for
+/// them. The memory for this was allocated when the queue was opened.
 #[derive(Drop)]
 pub struct Seat {
     pass: Pass<Packet, View>,
     sender: u16,
     room: u32,
     next: u32,
-    accepted: Vec<Packet>,
+    accepted: AcceptedPackets,
     refused: Vec<Packet>,
     evicted: Vec<Packet>,
 }
@@ -29,13 +30,13 @@ impl Model for Seat {
     ghost use Rattle.std.specs.Prelude.{◌≡◌, ◌≤◌, [], vec_capacity};
     ghost use Rattle.crossbeam_queue.specs.Passes.{view as known};
     ghost use Rattle.clk_ruled.specs.Queue.{SeatLists};
-    ghost use Rattle.clk_ruled.specs.inside.Parts.{SeatFits};
+    ghost use Rattle.clk_ruled.specs.inside.Parts.{HaveLengths, SeatFits};
 
     ghost Value = { SeatLists };
 
-    ghost view = { λ s. record { id = s.pass.table_id; setup = (known s.pass).setup; sender = s.sender; room = s.room; next = s.next; accepted = s.accepted.items; refused = s.refused.items; evicted = s.evicted.items } };
+    ghost view = { λ s. record { id = s.pass.table_id; setup = (known s.pass).setup; sender = s.sender; room = s.room; next = s.next; accepted = s.accepted.all.items; refused = s.refused.items; evicted = s.evicted.items } };
 
-    ghost invariant = { λ s. SeatFits (known s.pass) s.sender s.room s.next s.accepted.items s.refused.items s.evicted.items × (s.pass.me.1 ≡ []) × (s.room ≤ vec_capacity s.accepted) × (s.room ≤ vec_capacity s.refused) × (s.room ≤ vec_capacity s.evicted) };
+    ghost invariant = { λ s. SeatFits (known s.pass) s.sender s.room s.next s.accepted.all.items s.refused.items s.evicted.items × (s.pass.me.1 ≡ []) × (s.room ≤ vec_capacity s.accepted.lengths) × (s.room ≤ vec_capacity s.refused) × (s.room ≤ vec_capacity s.evicted) × HaveLengths s.accepted.all.items s.accepted.lengths.items };
 }
 
 impl Seat {
@@ -65,7 +66,7 @@ impl Seat {
             sender,
             room,
             next: 0,
-            accepted: Vec::with_capacity(alloc, room as usize)?,
+            accepted: AcceptedPackets::none(alloc, room as usize)?,
             refused: Vec::with_capacity(alloc, room as usize)?,
             evicted: Vec::with_capacity(alloc, room as usize)?,
         })
@@ -89,7 +90,7 @@ impl Seat {
                 .push_as::<Accept, _>(wait, &mut self.pass, packet)
             {
                 Ok(()) => {
-                    note(&mut self.accepted, packet);
+                    self.accepted.add(packet);
                     Offered::Accepted
                 }
                 Err(packet) => {
@@ -102,11 +103,11 @@ impl Seat {
                 .force_push_as::<Accept, Evict, _>(wait, &mut self.pass, packet)
             {
                 None => {
-                    note(&mut self.accepted, packet);
+                    self.accepted.add(packet);
                     Offered::Accepted
                 }
                 Some(front) => {
-                    note(&mut self.accepted, packet);
+                    self.accepted.add(packet);
                     note(&mut self.evicted, front);
                     Offered::Evicted(front)
                 }
@@ -153,12 +154,27 @@ impl Seat {
         self.room
     }
 
-    /// The packets that the queue accepted, by rising number.
-    pub fn accepted(&self) -> &[Packet]
-        ensures accepted { result.now ≡ self.now.accepted }
+    /// How many packets the queue accepted.
+    pub fn count_accepted(&self) -> usize
+        ensures count { result ≡ length self.now.accepted }
         ensures shares { IsSharedOut self.now }
     {
-        self.accepted.as_slice()
+        self.accepted.len()
+    }
+
+    /// Lists the packets that the queue accepted, by rising number. Takes time in proportion to the packets that the seat offered.
+    ///
+    /// # Errors
+    ///
+    /// Fault 1 if an allocation fails.
+    pub fn accepted(&self, alloc: Global) -> Result<Packets, Fault>
+        ensures accepted { IfOk result (λ accepted. accepted ≡ self.now.accepted) }
+        ensures shares { IsSharedOut self.now }
+        ensures fault { IsOkUnless result Fault.Memory }
+    {
+        let refused = self.refused.as_slice();
+        let accepted = self.accepted.list(alloc, self.sender, self.next, refused)?;
+        Ok(Packets::from(accepted))
     }
 
     /// The packets that the queue refused, by rising number.
@@ -177,11 +193,11 @@ impl Seat {
     }
 }
 
-// Adds a packet to a list that has room for it.
-pub(crate) fn note(list: &mut Vec<Packet>, packet: Packet)
+// Adds an item to a list that has room for it.
+pub(crate) fn note<T: Copy>(list: &mut Vec<T>, item: T)
     requires { length list.old.items < vec_capacity list.old }
-    ensures items { list.new.items ≡ list.old.items ++ packet ∷ [] }
+    ensures items { list.new.items ≡ list.old.items ++ item ∷ [] }
     ensures capacity { vec_capacity list.old ≤ vec_capacity list.new }
 {
-    let _ = list.push(packet);
+    let _ = list.push(item);
 }

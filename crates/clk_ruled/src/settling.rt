@@ -51,6 +51,8 @@ pub fn settle(
     // The contract of this call says that packets are accounted for.
     tap.stays_within();
     check_reached(&closed, queue.capacity, index)?;
+    // The memory of the queue is freed before the lists of the tallies are allocated.
+    drop(queue);
     let mut marks = Marks::none(alloc);
     let mut tallies = take_apart(alloc, closed, &mut marks)?;
     tell_evicted(alloc, &mut tallies, &marks)?;
@@ -102,9 +104,10 @@ fn take_seat(alloc: Global, seat: ClosedSeat, marks: &mut Marks) -> Result<Tally
     ensures fault { IsOkUnless result Fault.Memory }
 {
     marks.mark_all(alloc, seat.evicted())?;
+    let accepted = seat.accepted(alloc)?;
     Ok(Tally {
         sender: seat.sender,
-        accepted: Packets::from(seat.accepted),
+        accepted,
         refused: Packets::from(seat.refused),
         evicted: Packets::new(alloc),
     })

@@ -181,9 +181,9 @@ impl Closed {
     }
 
     /// Fails unless the closed seat at this place reads so.
-    pub fn assert_reads(&self, rt: &impl Abort, place: usize, expected: Reads) {
+    pub fn assert_reads(&self, rt: &impl Abort, alloc: Global, place: usize, expected: Reads) {
         assert!(rt; place < self.seats.len());
-        assert_seat(rt, &self.seats[place], expected);
+        assert_seat(rt, alloc, &self.seats[place], expected);
     }
 
     /// Settles the queue as that of number 0.
@@ -199,10 +199,12 @@ fn numbers(seat: &ClosedSeat) -> (u16, u32, u32) {
     (seat.sender(), seat.next(), seat.room())
 }
 
-fn assert_seat(rt: &impl Abort, seat: &ClosedSeat, expected: Reads) {
+fn assert_seat(rt: &impl Abort, alloc: Global, seat: &ClosedSeat, expected: Reads) {
     let (read, accepted, refused, evicted) = expected;
     assert_eq!(rt; numbers(seat), read);
-    assert_packets(rt, seat.accepted(), accepted);
+    let listed = seat.accepted(alloc).expect(rt, "memory");
+    assert_packets(rt, listed.as_slice(), accepted);
+    assert_eq!(rt; seat.count_accepted(), accepted.len());
     assert_packets(rt, seat.refused(), refused);
     assert_packets(rt, seat.evicted(), evicted);
 }

@@ -195,13 +195,21 @@ fn tallies<R: Abort>(
     let mut tallies = Vec::new(alloc);
     let mut evicted = 0usize;
     for seat in seats {
-        assert_shared(rt, seat);
-        assert_taken(rt, alloc, seat, &put_out, taken)?;
+        let accepted = seat.accepted(alloc).expect(rt, "memory");
+        assert_shared(rt, seat, accepted.as_slice());
+        assert_taken(
+            rt,
+            alloc,
+            seat.sender(),
+            accepted.as_slice(),
+            &put_out,
+            taken,
+        )?;
         match kind {
             Kind::TailDrop => assert!(rt; seat.evicted().is_empty()),
             Kind::FrontDrop => assert!(rt; seat.refused().is_empty()),
         }
-        let tally = tally_of(alloc, seat, &put_out)?;
+        let tally = tally_of(alloc, seat, accepted, &put_out)?;
         evicted = evicted.saturating_add(tally.evicted.as_slice().len());
         tallies.push(tally)?;
     }

@@ -10,6 +10,20 @@ use Rattle.clk_ruled.specs.inside.Rule.{KnowsAfter, tap_view}
 use Rattle.atomic_table.specs.Seated.{TableId}
 use Rattle.clk_ruled.specs.declared.view.QueueSetup.{QueueSetup}
 
+-- The packets have these lengths, in order.
+abbrev pub HaveLengths : List Packet → List ℕ → Type 0
+HaveLengths packets lengths = map (λ (p : Packet). p.length) packets ≡ lengths
+
+-- A packet of this number is the first, and these come after it.
+pub record IsFirst (number : ℕ) (packets rest : List Packet) : Type 0 where
+  pub first : Packet
+  pub are : packets ≡ first ∷ rest
+  pub number_is : first.number ≡ number
+
+-- The first packet, if there is one, has another number.
+abbrev pub IsNotFirst : ℕ → List Packet → Type 0
+IsNotFirst number packets = (first : Packet) (rest : List Packet) → packets ≡ first ∷ rest → first.number ≡ number → ⊥
+
 pub record SeatFits (v : View) (sender room next : ℕ) (accepted refused evicted : List Packet) : Type 0 where
   pub sits : v.sits ≡ true
   pub own : v.sender ≡ sender

@@ -60,7 +60,7 @@ fn missing(closed: &[ClosedSeat], capacity: u32) -> u32
 {
     let mut missing = capacity;
     for seat in closed {
-        missing = less(missing, seat.accepted().len());
+        missing = less(missing, seat.count_accepted());
     }
     missing
 }

@@ -67,8 +67,9 @@ fn after(packets: &[Packet], first: Packet) -> Option<&[Packet]> {
 }
 
 // Fails unless all packets that the sender offered are in the two lists together, in order.
-pub fn assert_shared(rt: &impl Abort, seat: &ClosedSeat) {
-    let mut accepted = seat.accepted();
+pub fn assert_shared(rt: &impl Abort, seat: &ClosedSeat, accepted: &[Packet]) {
+    assert_eq!(rt; seat.count_accepted(), accepted.len());
+    let mut accepted = accepted;
     let mut refused = seat.refused();
     for number in 0..seat.room() {
         let sent = packet(seat.sender(), number);
@@ -95,27 +96,33 @@ fn kept(alloc: Global, accepted: &[Packet], put_out: &PutOut) -> Result<Vec<Pack
 pub fn assert_taken(
     rt: &impl Abort,
     alloc: Global,
-    seat: &ClosedSeat,
+    sender: u16,
+    accepted: &[Packet],
     put_out: &PutOut,
     taken: &[Packet],
 ) -> Result<(), AllocError> {
-    let kept = kept(alloc, seat.accepted(), put_out)?;
-    let theirs = of_sender(alloc, seat.sender(), taken)?;
+    let kept = kept(alloc, accepted, put_out)?;
+    let theirs = of_sender(alloc, sender, taken)?;
     assert_packets(rt, &theirs, &kept);
     Ok(())
 }
 
 // The tally of a seat's sender.
-pub fn tally_of(alloc: Global, seat: &ClosedSeat, put_out: &PutOut) -> Result<Tally, AllocError> {
+pub fn tally_of(
+    alloc: Global,
+    seat: &ClosedSeat,
+    accepted: Packets,
+    put_out: &PutOut,
+) -> Result<Tally, AllocError> {
     let mut evicted = Vec::new(alloc);
-    for packet in seat.accepted() {
+    for packet in accepted.as_slice() {
         if put_out.has(*packet) {
             evicted.push(*packet)?;
         }
     }
     Ok(Tally {
         sender: seat.sender(),
-        accepted: Packets::from(seat.accepted().to_vec(alloc)?),
+        accepted,
         refused: Packets::from(seat.refused().to_vec(alloc)?),
         evicted: Packets::from(evicted),
     })

@@ -5,7 +5,8 @@ use Rattle.clk_ruled.specs.declared.view.View.{View}
 use Rattle.clk_ruled.specs.Queue.{SeatLists}
 use Rattle.clk_ruled.specs.inside.Rule.{seat_view}
 use Rattle.clk_ruled.proofs.SeatSteps.{offers-after, may-offer, may-evict, places-within, fits-accepted, fits-refused, fits-evicted, refused-alone}
-use Rattle.clk_ruled.proofs.Offering.{offering, room-accepted, room-refused, room-evicted}
+use Rattle.clk_ruled.proofs.Listing.{lengths-more}
+use Rattle.clk_ruled.proofs.Offering.{offering, room-lengths, room-refused, room-evicted}
 use Rattle.clk_ruled.proofs.Steps.{accepts, evicts, learns}
 use Rattle.clk_ruled.proofs.seat.Seat.offer.Goals as goal
 
@@ -13,34 +14,35 @@ pub push_as-requires-clause-rule : goal.push_as-requires-clause-rule
 push_as-requires-clause-rule g c =
     let o = offering _ _ _ _ c.args.packet c.queue.view_is c.self.view_is c.requires.together c.requires.own c.requires.number c.requires.room in search (rules, accepts, may-offer, places-within, learns)
 
+pub add-requires : goal.add-requires
+add-requires g c =
+    let o = offering _ _ _ _ c.args.packet c.queue.view_is c.self.view_is c.requires.together c.requires.own c.requires.number c.requires.room in search (rules, room-lengths)
+
 pub note-requires : goal.note-requires
 note-requires g c =
-    let o = offering _ _ _ _ c.args.packet c.queue.view_is c.self.view_is c.requires.together c.requires.own c.requires.number c.requires.room in search (rules, room-accepted)
-
-pub note-requires-in-Err : goal.note-requires-in-Err
-note-requires-in-Err g c =
     let o = offering _ _ _ _ c.args.packet c.queue.view_is c.self.view_is c.requires.together c.requires.own c.requires.number c.requires.room in search (rules, room-refused)
 
-pub note-requires-in-None : goal.note-requires-in-None
-note-requires-in-None g c =
-    let o = offering _ _ _ _ c.args.packet c.queue.view_is c.self.view_is c.requires.together c.requires.own c.requires.number c.requires.room in search (rules, room-accepted)
+pub add-requires-in-None : goal.add-requires-in-None
+add-requires-in-None g c =
+    let o = offering _ _ _ _ c.args.packet c.queue.view_is c.self.view_is c.requires.together c.requires.own c.requires.number c.requires.room in search (rules, room-lengths)
+
+pub add-requires-in-Some : goal.add-requires-in-Some
+add-requires-in-Some g c =
+    let o = offering _ _ _ _ c.args.packet c.queue.view_is c.self.view_is c.requires.together c.requires.own c.requires.number c.requires.room in search (rules, room-lengths)
 
 pub note-requires-in-Some : goal.note-requires-in-Some
 note-requires-in-Some g c =
-    let o = offering _ _ _ _ c.args.packet c.queue.view_is c.self.view_is c.requires.together c.requires.own c.requires.number c.requires.room in search (rules, room-accepted)
-
-pub note-requires-in-Some-2 : goal.note-requires-in-Some-2
-note-requires-in-Some-2 g c =
     let o = offering _ _ _ _ c.args.packet c.queue.view_is c.self.view_is c.requires.together c.requires.own c.requires.number c.requires.room in search (rules, room-evicted)
 
 pub invariant_of-self : goal.invariant_of-self
 invariant_of-self g c =
     let o = offering _ _ _ _ c.args.packet c.queue.view_is c.self.view_is c.requires.together c.requires.own c.requires.number c.requires.room in (
-      fits-accepted _ _ _ _ _ _ _ _ _ _ c.self.invariant.0 o.own o.number o.room c.in-Ok.ensures.rule c.note.ensures.items,
+      fits-accepted _ _ _ _ _ _ _ _ _ _ c.self.invariant.0 o.own o.number o.room c.in-Ok.ensures.rule c.add.ensures.items,
       c.push_as.ensures.queue.2 ∙ c.self.invariant.1,
-      le_trans c.self.invariant.2 c.note.ensures.capacity,
+      le_trans c.self.invariant.2 c.add.ensures.capacity,
       c.self.invariant.3,
       c.self.invariant.4,
+      lengths-more _ _ _ _ c.args.packet c.self.invariant.5 c.add.ensures.items c.add.ensures.lengths,
     )
 
 pub invariant_of-self-in-Err : goal.invariant_of-self-in-Err
@@ -61,11 +63,12 @@ force_push_as-requires-clause-pop g c =
 pub invariant_of-self-in-None : goal.invariant_of-self-in-None
 invariant_of-self-in-None g c =
     let o = offering _ _ _ _ c.args.packet c.queue.view_is c.self.view_is c.requires.together c.requires.own c.requires.number c.requires.room in (
-      fits-accepted _ _ _ _ _ _ _ _ _ _ c.self.invariant.0 o.own o.number o.room c.in-None.ensures.rule c.note-in-None.ensures.items,
+      fits-accepted _ _ _ _ _ _ _ _ _ _ c.self.invariant.0 o.own o.number o.room c.in-None.ensures.rule c.add-in-None.ensures.items,
       c.force_push_as.ensures.queue.2 ∙ c.self.invariant.1,
-      le_trans c.self.invariant.2 c.note-in-None.ensures.capacity,
+      le_trans c.self.invariant.2 c.add-in-None.ensures.capacity,
       c.self.invariant.3,
       c.self.invariant.4,
+      lengths-more _ _ _ _ c.args.packet c.self.invariant.5 c.add-in-None.ensures.items c.add-in-None.ensures.lengths,
     )
 
 pub invariant_of-self-in-Some : goal.invariant_of-self-in-Some
@@ -73,16 +76,17 @@ invariant_of-self-in-Some g c =
     let o = offering _ _ _ _ c.args.packet c.queue.view_is c.self.view_is c.requires.together c.requires.own c.requires.number c.requires.room in let rule = c.in-Some.ensures.rule in (
       fits-evicted _ _ _ _ _ _ _ _ _ _ _ _ c.self.invariant.0 o.own o.number o.room (o.kind ∙ c.in-FrontDrop.is)
           (rule.2 ∙ ap (λ (u : View). seat_view u.setup u.sender (u.accepted ++ c.args.packet ∷ []) u.evicted) rule.1.0)
-          c.note-in-Some.ensures.items
-          c.note-in-Some-2.ensures.items,
+          c.add-in-Some.ensures.items
+          c.note-in-Some.ensures.items,
       c.force_push_as.ensures.queue.2 ∙ c.self.invariant.1,
-      le_trans c.self.invariant.2 c.note-in-Some.ensures.capacity,
+      le_trans c.self.invariant.2 c.add-in-Some.ensures.capacity,
       c.self.invariant.3,
       search rules,
+      lengths-more _ _ _ _ c.args.packet c.self.invariant.5 c.add-in-Some.ensures.items c.add-in-Some.ensures.lengths,
     )
 
 pub returns-in-Err-clause-lone : goal.returns-in-Err-clause-lone
 returns-in-Err-clause-lone g c alone answer =
     let o = offering _ _ _ _ c.args.packet c.queue.view_is c.self.view_is c.requires.together c.requires.own c.requires.number c.requires.room in
-    subst (λ (x : SeatLists). x.setup.rooms ≡ (x.sender, x.room) ∷ [] → x.setup.capacity ≤ length c.self.inside.accepted.items) c.self.view_is
+    subst (λ (x : SeatLists). x.setup.rooms ≡ (x.sender, x.room) ∷ [] → x.setup.capacity ≤ length c.self.inside.accepted.all.items) c.self.view_is
     (λ one. refused-alone _ _ _ _ _ _ _ _ c.self.invariant.0 o.room o.places one c.in-Err.ensures.rule.2) alone
