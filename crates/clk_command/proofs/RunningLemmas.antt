@@ -6,8 +6,12 @@ use Rattle.clk_packet.specs.declared.tally.Tally.{Tally}
 use Rattle.clk_packet.specs.Trace.{pairs_of, sent, sent_by, shown, trace_fault}
 use Rattle.clk_sched.specs.declared.visit.Visit.{Visit}
 use Rattle.clk_tree.specs.Plan.{Planned}
-use Rattle.clk_drain.specs.Run.{IsRunWith}
-use Rattle.clk_report.specs.Report.{report_text}
+use Rattle.clk_sched.specs.declared.session.keeps.Keeps.{Keeps}
+use Rattle.clk_sched.specs.declared.session.packed.PackedLog.{PackedLog}
+use Rattle.clk_drain.specs.declared.outcome.Outcome.{Outcome}
+use Rattle.clk_drain.specs.Laws.{RunsAccountForEmitted}
+use Rattle.clk_drain.specs.Run.{IsKeptRun, IsRunWith}
+use Rattle.clk_report.specs.Report.{AccountFor, report_text}
 use Rattle.clk_words.specs.declared.pace.Pace.{Pace}
 use Rattle.clk_command.specs.Running.{RunWrites, Tells}
 
@@ -16,6 +20,11 @@ pub trace-tells : (known : Option (List ℕ)) (traces : List (List Packet)) → 
     → IfSome known (λ text. Tells text traces)
 trace-tells None traces sound told = tt
 trace-tells (Some text) traces sound told = record { sound = sound; sent = told }
+
+-- the tallies of a run account for what its devices emitted
+pub accounted : (keeps : Keeps) (plan : List Planned) (traces : List (List Packet)) (step limit : ℕ) (outcome : Outcome PackedLog) → RunsAccountForEmitted plan → (run : IsKeptRun keeps plan traces step limit outcome)
+    → AccountFor (flat_map (λ (emitted : List Packet). emitted) run.packets) outcome.tallies.items
+accounted keeps plan traces step limit outcome account run = account traces step limit run.logs run.packets outcome.tallies.items run.is
 
 -- what a run over it writes
 pub run-writes : (plan : List Planned) (pace : Pace) (known : Option (List ℕ)) (traces : List (List Packet)) (logs : List (List Visit)) (packets : List (List Packet)) (tallies : List Tally) → IfSome known (λ text. Tells text traces)
