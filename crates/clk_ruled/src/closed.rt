@@ -10,7 +10,7 @@ use std::alloc::Global;
 use std::marker::Model;
 use std::mem;
 
-/// A seat that was closed. It knows what it knew.
+/// A seat that was closed. It still tells what was accepted, refused and evicted.
 #[derive(Drop)]
 pub struct ClosedSeat {
     pub(crate) pass: Pass<Packet, View>,
