@@ -3,6 +3,7 @@ use Rattle.std.proofs.Common.{◌≡◌, ℕ, List, Option, Some, None, IfSome, 
 use Rattle.std.specs.List.{flat_map}
 use Rattle.clk_packet.specs.declared.packet.Packet.{Packet}
 use Rattle.clk_packet.specs.declared.tally.Tally.{Tally}
+use Rattle.clk_packet.specs.Dealt.{AccountFor}
 use Rattle.clk_packet.specs.Trace.{pairs_of, sent, sent_by, shown, trace_fault}
 use Rattle.clk_sched.specs.declared.visit.Visit.{Visit}
 use Rattle.clk_tree.specs.Plan.{Planned}
@@ -11,7 +12,7 @@ use Rattle.clk_sched.specs.declared.session.packed.PackedLog.{PackedLog}
 use Rattle.clk_drain.specs.declared.outcome.Outcome.{Outcome}
 use Rattle.clk_drain.specs.Laws.{RunsAccountForEmitted}
 use Rattle.clk_drain.specs.Run.{IsKeptRun, IsRunWith}
-use Rattle.clk_report.specs.Report.{AccountFor, report_text}
+use Rattle.clk_report.specs.Report.{report_text}
 use Rattle.clk_words.specs.declared.pace.Pace.{Pace}
 use Rattle.clk_command.specs.Running.{RunWrites, Tells}
 

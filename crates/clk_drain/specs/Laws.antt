@@ -6,8 +6,8 @@ use Rattle.clk_packet.specs.declared.packet.Packet.{Packet}
 use Rattle.clk_packet.specs.declared.fault.Fault.{Fault}
 use Rattle.clk_packet.specs.declared.fault.Fault.TheVariants.{Unsettled}
 use Rattle.clk_packet.specs.declared.tally.Tally.{Tally}
-use Rattle.clk_packet.specs.Dealt.{IsDealt}
-use Rattle.clk_packet.specs.Lists.{of_sender, stands_in, are_distinct, AreRising}
+use Rattle.clk_packet.specs.Dealt.{AccountFor}
+use Rattle.clk_packet.specs.Lists.{stands_in, are_distinct, AreRising}
 use Rattle.clk_packet.specs.Trace.{sent_by}
 use Rattle.clk_sched.specs.declared.visit.Visit.{Visit}
 use Rattle.clk_sched.specs.Tree.{Tree, root, leaves, leaves_distinct}
@@ -72,4 +72,4 @@ RunsHoldNothing plan =
 abbrev pub RunsAccountForEmitted : List Planned → Type 0
 RunsAccountForEmitted plan =
     (traces : List (List Packet)) (step limit : ℕ) (logs : List (List Visit)) (packets : List (List Packet)) (tallies : List Tally) → IsRunWith plan traces step limit logs packets tallies
-    → AllByRecursion (λ (t : Tally). IsDealt t.accepted t.evicted (of_sender t.sender (flat_map (λ (emitted : List Packet). emitted) packets))) tallies
+    → AccountFor (flat_map (λ (emitted : List Packet). emitted) packets) tallies

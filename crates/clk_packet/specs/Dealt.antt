@@ -1,5 +1,7 @@
 -- Lists of packets: their numbers, how they are dealt to two lists, and the tally of a sender.
 use Rattle.std.specs.Prelude.{◌≡◌, ◌⊎◌, ⊤, ℕ, suc, List, [], ◌∷◌, map}
+use Rattle.std.specs.List.{AllByRecursion}
+use Rattle.clk_packet.specs.Lists.{of_sender}
 use Rattle.clk_packet.specs.declared.packet.Packet.{Packet}
 use Rattle.clk_packet.specs.declared.packet.Kind.{Kind}
 use Rattle.clk_packet.specs.declared.packet.Kind.TheVariants.{TailDrop, FrontDrop}
@@ -19,6 +21,11 @@ abbrev pub IsDealt : List Packet → List Packet → List Packet → Type 0
 IsDealt [] accepted refused = (accepted ≡ []) × (refused ≡ [])
 IsDealt (p ∷ offered) accepted refused =
     ((rest : List Packet) × (accepted ≡ p ∷ rest) × IsDealt offered rest refused) ⊎ ((rest : List Packet) × (refused ≡ p ∷ rest) × IsDealt offered accepted rest)
+
+-- These tallies account for the packets that were emitted at all devices: each packet that one has as accepted was evicted or emitted, both
+-- in order.
+abbrev pub AccountFor : List Packet → List Tally → Type 0
+AccountFor emitted tallies = AllByRecursion (λ (t : Tally). IsDealt t.accepted t.evicted (of_sender t.sender emitted)) tallies
 
 -- What happened to each packet that a sender offered to a queue of this kind: the tally has those accepted, refused and evicted, and the
 -- device emitted `emitted`.

@@ -10,10 +10,10 @@ use Rattle.clk_packet.specs.declared.fault.Fault.{Fault}
 use Rattle.clk_packet.specs.declared.packet.Packet.{Packet}
 use Rattle.clk_packet.specs.declared.tally.Tally.{Tally}
 use Rattle.clk_packet.proofs.Callers.Bytes.{HasWritten, Appends-append}
-use Rattle.clk_packet.specs.Dealt.{IsDealt}
+use Rattle.clk_packet.specs.Dealt.{AccountFor, IsDealt}
 use Rattle.clk_packet.specs.Lists.{of_sender}
 use Rattle.clk_report.specs.inside.Totals.{AccountsBeyond}
-use Rattle.clk_report.specs.Report.{AccountFor, tally_text, report_text, total_text, numbers_text}
+use Rattle.clk_report.specs.Report.{tally_text, report_text, total_text, numbers_text}
 use Rattle.clk_packet.specs.Counts.{bytes_of, counts_of}
 use Rattle.clk_packet.proofs.Callers.Counts.{bytes-append}
 use Rattle.clk_report.specs.Counts.{counts_text}

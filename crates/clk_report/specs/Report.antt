@@ -1,8 +1,7 @@
 -- What a report says of each sender (this project's own format).
 use Rattle.std.specs.Prelude.{ℕ, List, ◌++◌, length, codes, decimal}
-use Rattle.std.specs.List.{flat_map, AllByRecursion}
+use Rattle.std.specs.List.{flat_map}
 use Rattle.clk_packet.specs.Counts.{bytes_of}
-use Rattle.clk_packet.specs.Dealt.{IsDealt}
 use Rattle.clk_packet.specs.Lists.{of_sender}
 use Rattle.clk_packet.specs.declared.packet.Packet.{Packet}
 use Rattle.clk_packet.specs.declared.tally.Tally.{Tally}
@@ -26,7 +25,3 @@ tally_text emitted tally =
 -- the report: a line for each tally, in order
 abbrev pub report_text : List Packet → List Tally → List ℕ
 report_text emitted tallies = flat_map (tally_text emitted) tallies
-
--- These tallies account for the packets that were emitted at all devices: each packet that one has as accepted was evicted or emitted.
-abbrev pub AccountFor : List Packet → List Tally → Type 0
-AccountFor emitted tallies = AllByRecursion (λ (t : Tally). IsDealt t.accepted t.evicted (of_sender t.sender emitted)) tallies

@@ -7,7 +7,8 @@ ghost use Rattle.clk_packet.specs.declared.packet.Packet.{Packet};
 ghost use Rattle.clk_packet.specs.Counts.{counts_of};
 ghost use Rattle.clk_report.specs.Counts.{counts_text};
 ghost use Rattle.clk_report.specs.Devices.{all_emitted};
-ghost use Rattle.clk_report.specs.Report.{AccountFor, report_text};
+ghost use Rattle.clk_packet.specs.Dealt.{AccountFor};
+ghost use Rattle.clk_report.specs.Report.{report_text};
 ghost use Rattle.clk_report.specs.inside.Totals.{AreTotals, AccountsBeyond, FitsSent, TellsBelow};
 
 use crate::counts::{counts_of, less, widened};

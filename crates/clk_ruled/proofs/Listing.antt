@@ -1,11 +1,8 @@
 -- The packets that a queue accepted, listed one by one from their lengths and from the packets that it refused.
 use Rattle.std.proofs.Common.{◌≡◌, ℕ, zero, suc, ◌+◌, ◌-◌, ◌<◌, ◌≤◌, inl, inr, List, [], ◌∷◌, ◌++◌, length, map, take, drop, get_or, append_assoc, append-nil, refl, sym, ap, ◌∙◌, subst, arith}
-use mathlib.Core.HLevel.{is_prop→PathP}
-use Rattle.std.proofs.Math.Bridge.{le_prop}
 use Rattle.std.proofs.lemmas.List.{length-append, length-map, map-append, take_all}
 use Rattle.std.specs.List.{AllByRecursion}
 use Rattle.clk_packet.specs.Dealt.{AreNumbered, IsDealt}
-use Rattle.clk_packet.specs.Limits.{most_length}
 use Rattle.clk_packet.specs.declared.packet.Packet.{Packet}
 use Rattle.clk_ruled.specs.Queue.{IsShared}
 use Rattle.clk_ruled.specs.inside.Parts.{HaveLengths, IsFirst, IsNotFirst}
@@ -110,15 +107,6 @@ place-within all packets more p lengths have are =
     let many = ap length have in
     let same = length-map all (λ (q : Packet). q.length) in
     let both = ap length are ∙ length-append packets (p ∷ more) in omega (arith, many, same, both)
-
-pub packet-same : (p q : Packet) → p.number ≡ q.number → p.sender ≡ q.sender → p.length ≡ q.length → p ≡ q
-packet-same p q number sender size = λ i. record {
-  number = number i;
-  sender = sender i;
-  length = size i;
-  has_length = is_prop→PathP (λ j. 1 ≤ size j) (λ j. le_prop) p.has_length q.has_length i;
-  is_within = is_prop→PathP (λ j. size j ≤ most_length) (λ j. le_prop) p.is_within q.is_within i;
-}
 
 -- All are listed once the numbers are at an end.
 pub all-listed : (sender next number : ℕ) (all packets rest : List Packet) → next ≤ number → IsListed sender next number all packets rest → packets ≡ all

@@ -3,11 +3,8 @@ use Rattle.std.proofs.Common.{◌≡◌, ℕ, ◌+◌, ◌≤◌, zero, suc, Lis
 use Rattle.std.specs.List.{filter_map, range_with_len, AllByRecursion}
 use Rattle.std.proofs.lemmas.List.{map-append, append_assoc, append-nil}
 use Rattle.std.proofs.lemmas.List.Elements.{filter-append, filter_map-append}
-use Rattle.std.proofs.Math.Bridge.{le_prop}
-use mathlib.Core.HLevel.{is_prop→PathP}
 use Rattle.clk_packet.specs.declared.packet.Packet.{Packet}
 use Rattle.clk_packet.specs.declared.packet.Kind.{Kind}
-use Rattle.clk_packet.specs.Limits.{most_length}
 use Rattle.clk_ring.specs.QueueHistory.{QueueEvent, IsQueueHistory, pull_event}
 use Rattle.clk_ring.specs.Laws.{HistoriesLeaveNoChoice}
 use Rattle.clk_sched.specs.declared.visit.Visit.{Visit}
@@ -15,16 +12,6 @@ use Rattle.clk_sched.specs.Log.{moment_of, counted}
 use Rattle.clk_sched.specs.Choice.{GoAlike}
 use Rattle.clk_sched.specs.Tree.{Tree}
 use Rattle.clk_router.specs.Events.{Setup, Event, offered, pulled, events_at, pull_in, moment_in, RunsTree}
-
--- two packets with the same number, sender and length
-pub packet-same : (p q : Packet) → p.number ≡ q.number → p.sender ≡ q.sender → p.length ≡ q.length → p ≡ q
-packet-same p q number sender size = λ i. record {
-  number = number i;
-  sender = sender i;
-  length = size i;
-  has_length = is_prop→PathP (λ j. 1 ≤ size j) (λ j. le_prop) p.has_length q.has_length i;
-  is_within = is_prop→PathP (λ j. size j ≤ most_length) (λ j. le_prop) p.is_within q.is_within i;
-}
 
 -- the same member before lists that go alike
 alike-more : {X : Type 0} (x y : X) (xs ys : List X) → x ≡ y → GoAlike xs ys → GoAlike (x ∷ xs) (y ∷ ys)

@@ -28,7 +28,8 @@ use Rattle.clk_script.specs.inside.ScriptRouter.{IsSound}
 use Rattle.clk_router.specs.Setups.{IsWired}
 use Rattle.clk_router.proofs.Callers.Events.{pulled-events}
 use Rattle.clk_script.specs.OneMeaning.{HasAtMostOneLog, HasAtMostOneMeaning}
-use Rattle.clk_script.proofs.Alike.{member-between, packet-same, pulls-alike, its-moment, events-at-pull, number-at}
+use Rattle.clk_packet.proofs.Callers.Packets.{packet-same}
+use Rattle.clk_script.proofs.Alike.{member-between, pulls-alike, its-moment, events-at-pull, number-at}
 use Rattle.clk_script.proofs.ScriptLemmas.{each-command-sound}
 
 -- a sender's packet has the number that is next

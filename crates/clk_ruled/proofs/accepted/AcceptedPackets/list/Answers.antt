@@ -1,6 +1,7 @@
 use Rattle.std.proofs.Common.{◌≡◌, ◌+◌, [], ◌∷◌, ◌++◌, get_or, sym, ap, ◌∙◌, subst, length, arith}
 use Rattle.clk_packet.specs.declared.packet.Packet.{Packet}
-use Rattle.clk_ruled.proofs.Listing.{IsListed, IsNext, none-listed, refused-next, accepted-next, place-within, length-next, packet-same, all-listed}
+use Rattle.clk_packet.proofs.Callers.Packets.{packet-same}
+use Rattle.clk_ruled.proofs.Listing.{IsListed, IsNext, none-listed, refused-next, accepted-next, place-within, length-next, all-listed}
 use Rattle.clk_ruled.proofs.accepted.AcceptedPackets.list.Goals as goal
 
 pub loop-number-init : goal.loop-number-init
