@@ -1,4 +1,5 @@
 -- Runs of a tree: pull by pull, block by block, and how they go on.
+pub mod Rows
 pub mod Allowed
 pub mod PullByPull
 pub mod SameTurns
@@ -7,6 +8,7 @@ pub mod Heads
 pub mod HeadsByManner
 pub mod Blocks
 pub mod Pulled
+pub mod ByRows
 pub mod Gives
 pub mod GoesOn
 pub mod Chosen

@@ -15,7 +15,7 @@ from_queue q traced = filter_map (λ (t : Traced). if is_number q t.1 then Some 
 -- What a queue gave is what was emitted of it, in order, and then what is held of it, the nearest to the device first.
 abbrev pub IsConserved : Tree → List Visit → ℕ → Type 0
 IsConserved tree log q =
-    leaf_packets tree q log ≡ from_queue q (traced_emitted tree log) ++ from_queue q (traced_heads log 1 (root tree))
+    leaf_packets tree q log ≡ from_queue q (traced_emitted tree log) ++ from_queue q (traced_heads tree log)
 
 -- Every run of a tree conserves the packets of each of its queues.
 abbrev pub ConservesPackets : Tree → Type 0
@@ -38,4 +38,4 @@ CameFrom tree log row t = MatchOption t.1 ⊥ (λ q. (stands_in q (leaves row) �
 abbrev pub MakesNothing : Tree → Type 0
 MakesNothing tree =
     (log : List Visit) → IsRun tree log
-    → AllByRecursion (CameFrom tree log (root tree)) (traced_emitted tree log) × AllByRecursion (CameFrom tree log (root tree)) (traced_heads log 1 (root tree))
+    → AllByRecursion (CameFrom tree log (root tree)) (traced_emitted tree log) × AllByRecursion (CameFrom tree log (root tree)) (traced_heads tree log)

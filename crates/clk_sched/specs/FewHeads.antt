@@ -20,4 +20,4 @@ drrs_above q (node class inputs row) = if stands_in q (leaves inputs) then most_
 
 -- In any log, a tree holds no more heads of a queue than DRRScheds stand above the queue.
 abbrev pub HoldsFewHeads : Tree → Type 0
-HoldsFewHeads tree = (log : List Visit) (q : ℕ) → length (from_queue q (traced_heads log 1 (root tree))) ≤ drrs_above q (root tree)
+HoldsFewHeads tree = (log : List Visit) (q : ℕ) → length (from_queue q (traced_heads tree log)) ≤ drrs_above q (root tree)

@@ -1,9 +1,9 @@
 -- What a log tells: packets that queues gave, packets emitted, heads held, and which queue each packet came from.
-use Rattle.std.specs.Prelude.{Bool, ℕ, zero, suc, ◌+◌, nat_le, List, [], ◌∷◌, ◌++◌, map, filter, reverse, Option, Some, None, option_and_then, if◌then◌else◌}
+use Rattle.std.specs.Prelude.{Bool, ℕ, zero, suc, ◌+◌, nat_le, List, [], ◌∷◌, map, filter, reverse, Option, Some, None, option_and_then, if◌then◌else◌}
 use Rattle.std.specs.List.{filter_map, flat_map, range_with_len}
 use Rattle.clk_packet.specs.declared.packet.Packet.{Packet}
 use Rattle.clk_sched.specs.declared.visit.Visit.{Visit}
-use Rattle.clk_sched.specs.Tree.{Row, end, leaf, node, Tree, root, width, nodes, is_number}
+use Rattle.clk_sched.specs.Tree.{Row, end, leaf, node, Tree, PlacedScheduler, schedulers_of, root, width, nodes, is_number}
 use Rattle.clk_sched.specs.Log.{visits_of, in_pull, asks}
 use Rattle.clk_sched.specs.Answers.{tree_queue}
 use Rattle.clk_sched.specs.Heads.{head_at}
@@ -77,13 +77,10 @@ abbrev pub own_heads : List Visit → ℕ → Row → Manner → List Traced
 own_heads log x inputs (in_order order) = []
 own_heads log x inputs (with_heads turn_of covers) = flat_map (held_at log x inputs) (range_with_len 0 (width inputs))
 
--- the heads held in a row whose schedulers are numbered from `next` on, with their origins, by node and then by input
-abbrev pub traced_heads : List Visit → ℕ → Row → List Traced
-traced_heads log next end = []
-traced_heads log next (leaf q row) = traced_heads log next row
-traced_heads log next (node class inputs row) =
-    own_heads log next inputs (manner class (width inputs)) ++ (traced_heads log (suc next) inputs ++ traced_heads log (suc (next + nodes inputs)) row)
+-- the heads held in a tree, with their origins, by node and then by input
+abbrev pub traced_heads : Tree → List Visit → List Traced
+traced_heads tree log = flat_map (λ (n : PlacedScheduler). own_heads log n.number n.inputs (manner n.class (width n.inputs))) (schedulers_of tree)
 
 -- the heads held, by node and then by input
 abbrev pub heads : Tree → List Visit → List Packet
-heads tree log = map (λ (t : Traced). t.0) (traced_heads log 1 (root tree))
+heads tree log = map (λ (t : Traced). t.0) (traced_heads tree log)

@@ -1,13 +1,13 @@
 -- The shares that a DRRSched and a StrideSched give, and the rate that a Shaper keeps to, as laws over whole histories of a node, and over
 -- runs of a tree.
-use Rattle.std.specs.Prelude.{◌≡◌, ℕ, ◌+◌, ◌-◌, ◌*◌, ◌<◌, ◌≤◌, ◌==◌, ◌&&◌, List, [], ◌∷◌, ◌++◌, length, map, reverse, max, suc, ⊤, IsSome, if◌then◌else◌}
+use Rattle.std.specs.Prelude.{◌≡◌, ℕ, ◌+◌, ◌-◌, ◌*◌, ◌<◌, ◌≤◌, ◌==◌, ◌&&◌, List, [], ◌∷◌, ◌++◌, length, reverse, max, ⊤, IsSome, if◌then◌else◌}
 use Rattle.std.specs.List.{AllByRecursion}
 use Rattle.clk_packet.specs.Limits.{most_length}
 use Rattle.clk_sched.specs.declared.visit.Visit.{Visit}
 use Rattle.clk_packet.specs.Scheduler.{Scheduler, drr, stride, shaper}
-use Rattle.clk_sched.specs.Tree.{Row, end, leaf, node, Tree, root, width, nodes, is_number}
-use Rattle.clk_sched.specs.Log.{pulls, turn, pulls_below}
-use Rattle.clk_sched.specs.Run.{IsRun}
+use Rattle.clk_sched.specs.Tree.{Tree, PlacedScheduler, schedulers_of, width, is_number}
+use Rattle.clk_sched.specs.Log.{pulls}
+use Rattle.clk_sched.specs.Run.{IsRun, own_turns}
 use Rattle.clk_sched.specs.Turns.{Turn, giver, all_visits}
 use Rattle.clk_sched.specs.DeficitRounds.{GoesByRounds}
 use Rattle.clk_sched.specs.Laws.Deficit.{IsDeficit, arrives, bytes_of, quantum_at}
@@ -79,15 +79,7 @@ Shares (stride tickets) inputs turns = SharesByStride tickets turns
 Shares (shaper rate burst) inputs turns = KeepsToRate rate burst turns
 Shares class inputs turns = ⊤
 
--- each scheduler of a row, which stands as for EachObeys, shares out its pulls
-abbrev pub EachShares : ℕ → List (List Visit) → ℕ → ℕ → Row → Type 0
-EachShares above pulled first next end = ⊤
-EachShares above pulled first next (leaf q row) = EachShares above pulled (suc first) next row
-EachShares above pulled first next (node class inputs row) =
-    Shares class (width inputs) (map (turn next) (pulls_below above first pulled))
-    × EachShares next (pulls_below above first pulled) 0 (suc next) inputs
-    × EachShares above pulled (suc first) (suc (next + nodes inputs)) row
-
 -- In every run of a tree each DRRSched and each StrideSched gives its shares, and each Shaper keeps to its rate.
 abbrev pub SharesOut : Tree → Type 0
-SharesOut tree = (log : List Visit) → IsRun tree log → EachShares 0 (pulls log) 0 1 (root tree)
+SharesOut tree =
+    (log : List Visit) → IsRun tree log → AllByRecursion (λ (n : PlacedScheduler). Shares n.class (width n.inputs) (own_turns (pulls log) n)) (schedulers_of tree)

@@ -1,25 +1,20 @@
 -- What one more pull of a tree may be, after those of a run.
-use Rattle.std.specs.Prelude.{◌≡◌, ℕ, ◌+◌, true, List, [], ◌∷◌, ◌++◌, length, map, reverse, suc, Option, IfSome, ⊤}
+use Rattle.std.specs.Prelude.{◌≡◌, ℕ, true, List, [], ◌∷◌, ◌++◌, length, map, reverse, Option, IfSome}
 use Rattle.std.specs.List.{AllByRecursion, flat_map, list_any}
 use Rattle.clk_packet.specs.declared.packet.Packet.{Packet}
 use Rattle.clk_sched.specs.declared.visit.Visit.{Visit}
-use Rattle.clk_sched.specs.Tree.{Row, end, leaf, node, Tree, root, width, nodes, queue_at, IsSound}
+use Rattle.clk_sched.specs.Tree.{Tree, PlacedScheduler, schedulers_of, root, width, queue_at, IsSound}
 use Rattle.clk_sched.specs.Laws.{AllowsTurn}
-use Rattle.clk_sched.specs.Log.{pulls, visits_of, block, moment_of, HasOneMoment, NeverFalls, turn, asks, pulls_below}
+use Rattle.clk_sched.specs.Log.{pulls, visits_of, block, moment_of, HasOneMoment, NeverFalls, turn, asks}
 use Rattle.clk_sched.specs.Laws.Device.{IsDeviceTurn}
-use Rattle.clk_sched.specs.Run.{GetsResult, IsRun}
+use Rattle.clk_sched.specs.Run.{GetsResult, IsRun, own_turns}
 
--- If a scheduler of a row is pulled, its turn in this pull is allowed after its earlier turns, and what its parent got from it is its
--- result. The row stands as for `EachObeys`, and earlier pulls have the latest first.
-abbrev pub EachAllows : ℕ → ℕ → ℕ → Row → List (List Visit) → List Visit → Type 0
-EachAllows above first next end earlier pull = ⊤
-EachAllows above first next (leaf q row) earlier pull = EachAllows above (suc first) next row earlier pull
-EachAllows above first next (node class inputs row) earlier pull =
-    (list_any (asks first) (visits_of above pull) ≡ true
-    → AllowsTurn class (width inputs) (map (turn next) (pulls_below above first earlier)) (turn next pull)
-    × EachAllows next 0 (suc next) inputs (pulls_below above first earlier) pull)
-    × GetsResult above first next pull
-    × EachAllows above (suc first) (suc (next + nodes inputs)) row earlier pull
+-- If a scheduler is pulled in this pull, its turn is allowed after its earlier turns, and what the node above got from it is its result.
+-- Earlier pulls have the latest first.
+abbrev pub AllowsIn : List (List Visit) → List Visit → PlacedScheduler → Type 0
+AllowsIn earlier pull n =
+    (list_any (asks n.input) (visits_of n.above pull) ≡ true → AllowsTurn n.class (width n.inputs) (own_turns earlier n) (turn n.number pull))
+    × GetsResult n.above n.input n.number pull
 
 -- A pull may follow a run: the device and each scheduler that is pulled do what they may in it. It is the device's block of its own visits.
 -- These have the next number and one moment, which is no earlier than those before.
@@ -29,7 +24,7 @@ pub record IsNextPull (tree : Tree) (log pull : List Visit) : Type 0 where
   pub one_moment : HasOneMoment pull
   pub moments : NeverFalls 0 (map moment_of (pulls log ++ pull ∷ []))
   pub device : IsDeviceTurn (turn 0 pull)
-  pub below : EachAllows 0 0 1 (root tree) (reverse (pulls log)) pull
+  pub below : AllByRecursion (AllowsIn (reverse (pulls log)) pull) (schedulers_of tree)
 
 -- a log with one pull more is a run, and that pull is the last
 pub record IsOnePullMore (tree : Tree) (log pull : List Visit) : Type 0 where

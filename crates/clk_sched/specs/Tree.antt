@@ -34,6 +34,26 @@ nodes end = 0
 nodes (leaf q row) = nodes row
 nodes (node class inputs row) = suc (nodes inputs + nodes row)
 
+-- A scheduler where it stands in a tree: its number, its class and its inputs, and the node above it, with the input at which it stands there.
+pub record PlacedScheduler : Type 0 where
+  pub above : ℕ
+  pub input : ℕ
+  pub number : ℕ
+  pub class : Scheduler
+  pub inputs : Row
+
+-- The schedulers in a row whose inputs are those of node `above` from `first` on. They are numbered from `next` on.
+abbrev pub schedulers_in : ℕ → ℕ → ℕ → Row → List PlacedScheduler
+schedulers_in above first next end = []
+schedulers_in above first next (leaf q row) = schedulers_in above (suc first) next row
+schedulers_in above first next (node class inputs row) =
+    record { above = above; input = first; number = next; class = class; inputs = inputs }
+    ∷ (schedulers_in next 0 (suc next) inputs ++ schedulers_in above (suc first) (suc (next + nodes inputs)) row)
+
+-- all schedulers of a tree, by number
+abbrev pub schedulers_of : Tree → List PlacedScheduler
+schedulers_of tree = schedulers_in 0 0 1 (root tree)
+
 -- The queue at an input of node `x`, in a row whose inputs are those of node `above` from `first` on. Its schedulers are numbered from
 -- `next` on.
 abbrev pub queue_in : ℕ → ℕ → ℕ → Row → ℕ → ℕ → Option ℕ

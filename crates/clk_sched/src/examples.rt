@@ -171,16 +171,16 @@ pub fn result_examples()
     ensures held_inside { names (heads nested_tree (first_pulls 2 nested)) ≡ (0, 0) ∷ [] }
     ensures held_outside { names (heads nested_tree (first_pulls 3 nested)) ≡ (0, 0) ∷ [] }
     ensures none_held { heads nested_tree nested ≡ [] }
-    ensures held_of_first { map (λ (t : Traced). t.1) (traced_heads head_below 1 (root head_below_tree)) ≡ Some 0 ∷ [] }
+    ensures held_of_first { map (λ (t : Traced). t.1) (traced_heads head_below_tree head_below) ≡ Some 0 ∷ [] }
     ensures given_by_first { names (leaf_packets head_below_tree 0 head_below) ≡ (0, 0) ∷ [] }
     ensures none_given { leaf_packets head_below_tree 1 head_below ≡ [] }
     ensures held_by_node { names (heads three_heads_tree three_heads) ≡ (0, 0) ∷ (1, 0) ∷ (2, 0) ∷ [] }
-    ensures held_of_second { map (λ (t : Traced). t.1) (traced_heads (first_pulls 2 passed_later) 1 (root passed_later_tree)) ≡ Some 1 ∷ [] }
-    ensures held_of_later { map (λ (t : Traced). t.1) (traced_heads (first_pulls 4 passed_later) 1 (root passed_later_tree)) ≡ Some 0 ∷ [] }
+    ensures held_of_second { map (λ (t : Traced). t.1) (traced_heads passed_later_tree (first_pulls 2 passed_later)) ≡ Some 1 ∷ [] }
+    ensures held_of_later { map (λ (t : Traced). t.1) (traced_heads passed_later_tree (first_pulls 4 passed_later)) ≡ Some 0 ∷ [] }
     ensures held_from_above { names (heads each_holds_tree each_holds) ≡ (1, 0) ∷ (0, 0) ∷ (2, 0) ∷ [] }
     ensures emitted_with_origins { traced_emitted passed_later_tree passed_later ≡ (p2_0_5, Some 2) ∷ (p2_1, Some 2) ∷ (p1_0_10, Some 1) ∷ (p0_0_5, Some 0) ∷ [] }
     ensures emitted_of_last { traced_emitted three_heads_tree last_gives ≡ (p2_0_5, Some 2) ∷ [] }
-    ensures held_with_origins { map (λ (t : Traced). t.1) (traced_heads three_heads 1 (root three_heads_tree)) ≡ Some 0 ∷ Some 1 ∷ Some 2 ∷ [] }
+    ensures held_with_origins { map (λ (t : Traced). t.1) (traced_heads three_heads_tree three_heads) ≡ Some 0 ∷ Some 1 ∷ Some 2 ∷ [] }
     ensures passed_second { passed_input (in_pull 0 (visits_of 1 two_deficits)) ≡ Some 1 }
     ensures passed_none { passed_input (in_pull 3 (visits_of 1 two_deficits)) ≡ None }
     ensures asked_last { asked_pull 0 (reverse (visits_of 1 two_deficits)) ≡ Some 3 }

@@ -149,11 +149,11 @@ module _ (conserves : (tree : Tree) → leaves_distinct tree ≡ true → Conser
       by_room (Some room) is e = (room, is, e)
 
   -- Each packet that a device emitted or its tree holds came from one of its queues, and is of a sender of that queue.
-  pub came : (d : ℕ) (tree : Tree) → slice_get setup.trees d ≡ Some tree → AllByRecursion (CameOf (SendsIn setup.senders (root tree))) (traced_emitted tree (log_of (its d))) × AllByRecursion (CameOf (SendsIn setup.senders (root tree))) (traced_heads (log_of (its d)) 1 (root tree))
+  pub came : (d : ℕ) (tree : Tree) → slice_get setup.trees d ≡ Some tree → AllByRecursion (CameOf (SendsIn setup.senders (root tree))) (traced_emitted tree (log_of (its d))) × AllByRecursion (CameOf (SendsIn setup.senders (root tree))) (traced_heads tree (log_of (its d)))
   came d tree at =
       let from = makes tree (log_of (its d)) (its-run d tree at) in (
         all-came setup.senders tree (log_of (its d)) (root tree) (traced_emitted tree (log_of (its d))) all from.0,
-        all-came setup.senders tree (log_of (its d)) (root tree) (traced_heads (log_of (its d)) 1 (root tree)) all from.1,
+        all-came setup.senders tree (log_of (its d)) (root tree) (traced_heads tree (log_of (its d))) all from.1,
       )
     where
       all : (k : ℕ) → stands_in k (leaves (root tree)) ≡ true → AllByRecursion (λ (p : Packet). sends_to setup.senders p.sender k ≡ true) (leaf_packets tree k (log_of (its d)))
@@ -218,7 +218,7 @@ module _ (conserves : (tree : Tree) → leaves_distinct tree ≡ true → Conser
           let here : (room.device == room.device) ≡ true = grind (arith, nat_tests) in
           let stands = stands-there s.queue room tree is at in
           let out = traced_emitted tree log in
-          let held_in = traced_heads log 1 (root tree) in
+          let held_in = traced_heads tree log in
           let all = came room.device tree at in
           ap (of_sender s.number) (leaf-gave room.device tree at s.queue room is here ∙ conserves tree (closable.queues room.device tree at).distinct log (its-run room.device tree at) s.queue stands)
           ∙ filter-append (λ (p : Packet). p.sender == s.number) (from_queue s.queue out) (from_queue s.queue held_in)

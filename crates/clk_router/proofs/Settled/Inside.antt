@@ -55,20 +55,20 @@ module _ (conserves : (tree : Tree) → leaves_distinct tree ≡ true → Conser
 
   -- What a queue gave is what the device emitted of it, and then its heads.
   given-all : (q : ℕ) (room : Room) (tree : Tree) → slice_get setup.queues q ≡ Some room → slice_get setup.trees room.device ≡ Some tree
-      → given_of setup q events ≡ emitted_of setup room.device q events ++ from_queue q (traced_heads (log_of (events_at setup room.device events)) 1 (root tree))
+      → given_of setup q events ≡ emitted_of setup room.device q events ++ from_queue q (traced_heads tree (log_of (events_at setup room.device events)))
   given-all q room tree is at =
       let log = log_of (events_at setup room.device events) in
       let here : (room.device == room.device) ≡ true = grind (arith, nat_tests) in
       let stands = stands-there conserves makes setup whole closable events can q room tree is at in
       leaf-gave conserves makes setup whole closable events can room.device tree at q room is here
       ∙ conserves tree (closable.queues room.device tree at).distinct log (its-run conserves makes setup whole closable events can room.device tree at) q stands
-      ∙ ap (λ l. l ++ from_queue q (traced_heads log 1 (root tree))) (sym (emitted-of room.device q tree at))
+      ∙ ap (λ l. l ++ from_queue q (traced_heads tree log)) (sym (emitted-of room.device q tree at))
 
   -- The heads of a queue are what the tree holds of it.
   pub heads-are : (q : ℕ) (room : Room) (tree : Tree) → slice_get setup.queues q ≡ Some room → slice_get setup.trees room.device ≡ Some tree
-      → heads_of setup room.device q events ≡ from_queue q (traced_heads (log_of (events_at setup room.device events)) 1 (root tree))
+      → heads_of setup room.device q events ≡ from_queue q (traced_heads tree (log_of (events_at setup room.device events)))
   heads-are q room tree is at =
-      let heads = from_queue q (traced_heads (log_of (events_at setup room.device events)) 1 (root tree)) in
+      let heads = from_queue q (traced_heads tree (log_of (events_at setup room.device events))) in
       ap (drop (length (emitted_of setup room.device q events))) (given-all q room tree is at) ∙ drop_at (emitted_of setup room.device q events) heads _ refl
 
   pub given-is : (q : ℕ) (room : Room) (tree : Tree) → slice_get setup.queues q ≡ Some room → slice_get setup.trees room.device ≡ Some tree → given_of setup q events ≡ emitted_of setup room.device q events ++ heads_of setup room.device q events

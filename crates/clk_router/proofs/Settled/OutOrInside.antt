@@ -28,7 +28,7 @@ module _ (conserves : (tree : Tree) → leaves_distinct tree ≡ true → Conser
       → of_number n (out_or_inside setup events s room) ≡ times n (range_with_len 0 (length (offered_of events s.number)))
   all-times s room tree sends is at n =
       let log = log_of (events_at setup room.device events) in
-      let held_in = traced_heads log 1 (root tree) in
+      let held_in = traced_heads tree log in
       let its = heads_of setup room.device s.queue events in
       let holds = held (history setup s.queue events) in
       let a = accounted conserves makes setup whole closable events can s room tree sends is at in

@@ -17,6 +17,7 @@ use Rattle.clk_sched.specs.Run.{IsRun}
 use Rattle.clk_sched.specs.Step.{IsNextPull, IsOnePullMore, IsRunOf}
 use Rattle.clk_sched.specs.Bound.{least_quantum, rounds, closing_bound}
 use Rattle.clk_sched.specs.Results.{asks_queue, traced_heads}
+use Rattle.clk_sched.proofs.Conservation.RowHeads.{tree-heads}
 use Rattle.clk_sched.specs.Choice.{answers_of}
 use Rattle.clk_sched.specs.Session.{latest_moment, given_in}
 use Rattle.clk_sched.specs.Closing.{GivesOut, IsClosing, left_in, BoundIsEnough}
@@ -25,6 +26,7 @@ use Rattle.clk_sched.proofs.Lists.Members.{all-append, all-weaker}
 use Rattle.clk_sched.proofs.Runs.Allowed.{device-visit, onto, onto-reverse}
 use Rattle.clk_sched.proofs.Runs.Blocks.{owns-root}
 use Rattle.clk_sched.proofs.Runs.Pulled.{joined, pulled-root}
+use Rattle.clk_sched.proofs.Runs.ByRows.{run-rows, next-rows}
 use Rattle.clk_sched.proofs.Trees.Distinct.{distinct-parts}
 use Rattle.clk_sched.proofs.Runs.NoChoice.{root-width}
 use Rattle.clk_sched.proofs.Conservation.Origins.{StandsOnlyIn, only-after_leaf, only-after_node, only-inputs, only-here, asks-at}
@@ -174,8 +176,8 @@ pull-empties k tree log pull held rest moment first all made given sound distinc
         row-after (root tree) k 1 held rest log pull prio 0 0 1 (pulls log) h.now.left h.now.work (let w = wide in omega (arith, w)) allowed.follows.plain is.apart
         (record {
           inside = pulled-root tree log run;
-          obeys = run.below;
-          allows = next.below;
+          obeys = run-rows tree log run;
+          allows = next-rows tree log pull run next;
           owns = λ y l m. owns-root tree pull next.whole y l;
           sound = sound;
           enough = enough;
@@ -251,10 +253,10 @@ emptied-first tree log held left sound run is =
     k = rounds_less (least_quantum (root tree))
 
     start : IsRowFirst k (height (root tree)) held log prio 0 0 1 (root tree)
-    start = row-first (root tree) k (height (root tree)) 1 held log prio 0 0 1 (pulls log) (let w = root-width tree in omega (arith, w)) (omega arith) tt (pulled-root tree log run) run.below sound (each-enough (root tree) sound)
+    start = row-first (root tree) k (height (root tree)) 1 held log prio 0 0 1 (pulls log) (let w = root-width tree in omega (arith, w)) (omega arith) tt (pulled-root tree log run) (run-rows tree log run) sound (each-enough (root tree) sound)
 
     left_is : start.now.left ≡ left
-    left_is = let e = start.left_is in let f = length-map (traced_heads log 1 (root tree)) (λ t. t.0) in omega (arith, e, f, is)
+    left_is = let e = start.left_is in let f = length-map (traced_heads tree log) (λ t. t.0) in let g = ap length (tree-heads tree log) in omega (arith, e, f, g, is)
 
 -- no moment of a run is above its counted moment
 moments-before : (tree : Tree) (log : List Visit) (moment : ℕ) → IsRun tree log → latest_moment (reverse (pulls log)) ≤ moment → AllByRecursion (λ p. moment_of p ≤ moment) (pulls log)

@@ -11,8 +11,9 @@ use Rattle.clk_sched.specs.Heads.{head_at}
 use Rattle.clk_sched.specs.Log.{turn, pulls_below}
 use Rattle.clk_sched.specs.Laws.{manner, Obeys}
 use Rattle.clk_sched.specs.Laws.Deficit.{next_input, arrivals, passed_bytes, quantum_at, deficit_covers}
-use Rattle.clk_sched.specs.Run.{EachObeys}
-use Rattle.clk_sched.specs.Results.{traced, own_heads, held_at, traced_heads, latest_origin, origin_in}
+use Rattle.clk_sched.proofs.Runs.Rows.{EachObeys}
+use Rattle.clk_sched.specs.Results.{traced, own_heads, held_at, latest_origin, origin_in}
+use Rattle.clk_sched.proofs.Conservation.RowHeads.{row_heads}
 use Rattle.clk_sched.specs.Closing.{held_in_all}
 use Rattle.clk_sched.proofs.Runs.Allowed.{onto, onto-reverse, each-follows, turns-look}
 use Rattle.clk_sched.proofs.Runs.Pulled.{IsPulledIn, pulled-after_leaf, pulled-after_node, pulled-inputs, turns-visits}
@@ -142,7 +143,7 @@ node-near k log above first next class inputs row pulled h obeys args enough = b
 pub record IsRowFirst (k n : ℕ) (held : ℕ → ℕ) (log : List Visit) (class : Scheduler) (above first next : ℕ) (row : Row) : Type 0 where
   pub now : Amount
   pub costs : Costs k held log class above first next row now.left now.work
-  pub left_is : now.left ≡ held_in_all held (leaves row) + (heads_from class (latest log above) first (width row) + length (traced_heads log next row))
+  pub left_is : now.left ≡ held_in_all held (leaves row) + (heads_from class (latest log above) first (width row) + length (row_heads log next row))
   pub bound : now.work ≤ now.left * (n * k + k)
 
 pub row-first : (row : Row) (k n w : ℕ) (held : ℕ → ℕ) (log : List Visit) (class : Scheduler) (above first next : ℕ) (pulled : List (List Visit)) → first + width row ≤ w → height row ≤ n
@@ -173,8 +174,8 @@ row-first (node c inputs row) k (suc n) w held log class above first next pulled
     let a = here.left_is in
     let own = length-own log next c inputs in
     let held_is = held-append held (leaves inputs) (leaves row) in
-    let heads_are = length-append (own_heads log next inputs (manner c (width inputs))) (traced_heads log (suc next) inputs ++ traced_heads log (suc (next + nodes inputs)) row) in
-    let more_are = length-append (traced_heads log (suc next) inputs) (traced_heads log (suc (next + nodes inputs)) row) in
+    let heads_are = length-append (own_heads log next inputs (manner c (width inputs))) (row_heads log (suc next) inputs ++ row_heads log (suc (next + nodes inputs)) row) in
+    let more_are = length-append (row_heads log (suc next) inputs) (row_heads log (suc (next + nodes inputs)) row) in
     let more = ap (λ m. m * (suc n * k)) a ∙ add-mul below.now.left (heads_from class (latest log above) first 1) (suc n * k) in
     record {
       now = record { left = here.now.left + rest.now.left; work = here.now.work + rest.now.work };

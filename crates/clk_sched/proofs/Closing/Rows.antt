@@ -15,8 +15,7 @@ use Rattle.clk_sched.specs.Heads.{LooksAtHeads}
 use Rattle.clk_sched.specs.Log.{visits_of, moment_of, turn, asks, pulls_below, result_of}
 use Rattle.clk_sched.specs.Laws.{AllowsTurn, Obeys}
 use Rattle.clk_sched.specs.Laws.Deficit.{next_input, quantum_at, deficit_covers}
-use Rattle.clk_sched.specs.Run.{EachObeys}
-use Rattle.clk_sched.specs.Step.{EachAllows}
+use Rattle.clk_sched.proofs.Runs.Rows.{EachObeys, EachAllows}
 use Rattle.clk_sched.specs.Closing.{GivesOut}
 use Rattle.clk_sched.proofs.Lists.Members.{all-filter}
 use Rattle.clk_sched.proofs.Runs.Allowed.{onto, onto-append, onto-reverse, each-follows, turns-look}

@@ -8,8 +8,10 @@ use Rattle.clk_packet.specs.Scheduler.{Scheduler}
 use Rattle.clk_sched.specs.Tree.{Row, end, leaf, node, Tree, root, nodes, width, leaves, queue_at, is_number}
 use Rattle.clk_sched.specs.Laws.{Manner, in_order, with_heads, manner}
 use Rattle.clk_sched.specs.Log.{visits_of, pulls, turn, pulls_below}
-use Rattle.clk_sched.specs.Run.{EachObeys}
-use Rattle.clk_sched.specs.Results.{Traced, traced, asks_queue, traced_heads, own_heads, held_at, up_to, latest_origin, origin_in}
+use Rattle.clk_sched.proofs.Runs.Rows.{EachObeys}
+use Rattle.clk_sched.proofs.Runs.ByRows.{run-rows}
+use Rattle.clk_sched.specs.Results.{Traced, traced, asks_queue, own_heads, held_at, up_to, latest_origin, origin_in}
+use Rattle.clk_sched.proofs.Conservation.RowHeads.{row_heads, tree-heads}
 use Rattle.clk_sched.specs.Conservation.{CameFrom, MakesNothing}
 use Rattle.clk_sched.proofs.Lists.Members.{of-all, in-filter, all-append, all-flat_map, all-split, all-weaker}
 use Rattle.clk_sched.proofs.Lists.Numbers.{same}
@@ -64,7 +66,7 @@ in-inputs class inputs row q h = stands_in-append q (leaves inputs) (leaves row)
 -- what a row's parent got, and what is held in the row, came from queues of the row
 record AllCame (tree : Tree) (log : List Visit) (above first next : ℕ) (row : Row) : Type 0 where
   got : (i : ℕ) → i < width row → AllFrom tree log row (gives log above first next row i)
-  held : AllFrom tree log row (traced_heads log next row)
+  held : AllFrom tree log row (row_heads log next row)
 
 -- a queue gave what was got from it
 came-here : (tree : Tree) (log : List Visit) (above first next k : ℕ) (row : Row) → StandsAt tree above first next (leaf k row) → AllFrom tree log (leaf k row) (gives log above first next (leaf k row) 0)
@@ -81,7 +83,7 @@ came-here tree log above first next k row stands =
 came-after_leaf : (tree : Tree) (log : List Visit) (above first next k : ℕ) (row : Row) → StandsAt tree above first next (leaf k row) → AllCame tree log above (suc first) next row
     → AllCame tree log above first next (leaf k row)
 came-after_leaf tree log above first next k row stands rest =
-    record { got = λ i l. by_input i l; held = came-wider tree log row (leaf k row) (in-after_leaf k row) (traced_heads log next row) rest.held }
+    record { got = λ i l. by_input i l; held = came-wider tree log row (leaf k row) (in-after_leaf k row) (row_heads log next row) rest.held }
   where
     by_input : (i : ℕ) → i < suc (width row) → AllFrom tree log (leaf k row) (gives log above first next (leaf k row) i)
     by_input zero l = came-here tree log above first next k row stands
@@ -135,7 +137,7 @@ came-node tree log above first next class inputs row pulled h obeys below rest =
       got = λ i l. by_input i l;
       held =
           all-append (CameFrom tree log (node class inputs row)) (own_heads log next inputs (manner class (width inputs))) _ (from_inputs _ own.1)
-          (all-append (CameFrom tree log (node class inputs row)) (traced_heads log (suc next) inputs) _ (from_inputs _ below.held)
+          (all-append (CameFrom tree log (node class inputs row)) (row_heads log (suc next) inputs) _ (from_inputs _ below.held)
           (came-wider tree log row (node class inputs row) (in-after_node class inputs row) _ rest.held));
     }
   where
@@ -167,5 +169,8 @@ all-came tree log (node class inputs row) above first next pulled stands h obeys
 
 pub makes-nothing : (tree : Tree) → MakesNothing tree
 makes-nothing tree log run =
-    let all = all-came tree log (root tree) 0 0 1 (pulls log) (stands-root tree) (pulled-root tree log run) run.below in
-    (subst (AllFrom tree log (root tree)) (device-emits tree log run) (all.got 0 (omega (arith, root-width tree))), all.held)
+    let all = all-came tree log (root tree) 0 0 1 (pulls log) (stands-root tree) (pulled-root tree log run) (run-rows tree log run) in
+    (
+      subst (AllFrom tree log (root tree)) (device-emits tree log run) (all.got 0 (omega (arith, root-width tree))),
+      subst (AllFrom tree log (root tree)) (sym (tree-heads tree log)) all.held,
+    )

@@ -12,8 +12,11 @@ use Rattle.clk_sched.specs.Turns.{Turn, EachAfter, all_visits, IsPlain}
 use Rattle.clk_sched.specs.Laws.{Manner, in_order, with_heads, Follows}
 use Rattle.clk_sched.specs.Laws.Device.{IsDeviceTurn}
 use Rattle.clk_sched.specs.Log.{visits_of, pulls, turn, pulls_below}
-use Rattle.clk_sched.specs.Run.{EachObeys, IsRun}
-use Rattle.clk_sched.specs.Results.{Traced, traced, leaf_packets, traced_emitted, traced_heads, own_heads, held_at, origin_in}
+use Rattle.clk_sched.specs.Run.{IsRun}
+use Rattle.clk_sched.proofs.Runs.Rows.{EachObeys}
+use Rattle.clk_sched.proofs.Runs.ByRows.{run-rows}
+use Rattle.clk_sched.specs.Results.{Traced, traced, leaf_packets, traced_emitted, own_heads, held_at, origin_in}
+use Rattle.clk_sched.proofs.Conservation.RowHeads.{row_heads, tree-heads}
 use Rattle.clk_sched.specs.Conservation.{from_queue, ConservesPackets}
 use Rattle.clk_sched.proofs.Lists.Members.{of-all}
 use Rattle.clk_sched.proofs.Runs.Allowed.{onto-reverse, each-follows, device-visit}
@@ -52,7 +55,7 @@ from_queue-one q f i a (suc n) h l m =
 record IsConservedBelow (tree : Tree) (log : List Visit) (q above first next : ℕ) (row : Row) : Type 0 where
   input : ℕ
   within : input < width row
-  conserved : leaf_packets tree q log ≡ from_queue q (gives log above first next row input) ++ from_queue q (traced_heads log next row)
+  conserved : leaf_packets tree q log ≡ from_queue q (gives log above first next row input) ++ from_queue q (row_heads log next row)
   alone : (j k : ℕ) → j ≢ input → is_number q (origin_in log next row j k) ≡ false
 
 -- the packets that a queue gave, in the log and among the visits of the node at which it stands
@@ -83,7 +86,7 @@ conserved-after_leaf tree log q above first next k row e rest =
     record {
       input = suc rest.input;
       within = let l = rest.within in omega arith;
-      conserved = rest.conserved ∙ ap (λ l. from_queue q l ++ from_queue q (traced_heads log next row)) (sym (gives-after_leaf log above first next k row rest.input));
+      conserved = rest.conserved ∙ ap (λ l. from_queue q l ++ from_queue q (row_heads log next row)) (sym (gives-after_leaf log above first next k row rest.input));
       alone = λ j p d. search rules;
     }
 
@@ -136,7 +139,7 @@ conserved-node tree log q above first next class inputs row pulled h obeys other
     passed = flat_map (passed_by (origin below.input) below.input (reverse visits)) visits
 
     inner : List Packet
-    inner = from_queue q (traced_heads log (suc next) inputs)
+    inner = from_queue q (row_heads log (suc next) inputs)
 
     kept : gives log next 0 (suc next) inputs below.input ≡ passed ++ held_at log next inputs below.input
     kept = gives-passed_and_held log above first next class inputs row pulled h obeys.0 below.input
@@ -144,7 +147,7 @@ conserved-node tree log q above first next class inputs row pulled h obeys other
     passed_results : from_queue q passed ≡ from_queue q (results log next inputs)
     passed_results = from_queue-same q _ _ visits (λ v. search rules)
 
-    heads : from_queue q (traced_heads log next (node class inputs row)) ≡ from_queue q (held_at log next inputs below.input) ++ inner
+    heads : from_queue q (row_heads log next (node class inputs row)) ≡ from_queue q (held_at log next inputs below.input) ++ inner
     heads = search (rules, from_queue-append, own-held, each-follows, heads-not, append-nil, turns, all, inner)
 
 conserved-below : (tree : Tree) (log : List Visit) (q : ℕ) (row : Row) (above first next : ℕ) (pulled : List (List Visit)) → IsPulledIn log above first next row pulled → EachObeys above pulled first next row
@@ -194,7 +197,7 @@ device-emits tree log run = flat_map-same _ _ (visits_of 0 log) (λ v m. one v (
 
 pub conserves-packets : (tree : Tree) → leaves_distinct tree ≡ true → ConservesPackets tree
 conserves-packets tree distinct log run q stands =
-    let all = conserved-below tree log q (root tree) 0 0 1 (pulls log) (pulled-root tree log run) run.below (λ x i. refl) stands distinct in
+    let all = conserved-below tree log q (root tree) 0 0 1 (pulls log) (pulled-root tree log run) (run-rows tree log run) (λ x i. refl) stands distinct in
     let first : all.input ≡ 0 = (let l = all.within in let w = root-width tree in omega (arith, l, w)) in
-    all.conserved ∙ ap (λ i. from_queue q (gives log 0 0 1 (root tree) i) ++ from_queue q (traced_heads log 1 (root tree))) first
-    ∙ ap (λ l. from_queue q l ++ from_queue q (traced_heads log 1 (root tree))) (device-emits tree log run)
+    all.conserved ∙ ap (λ i. from_queue q (gives log 0 0 1 (root tree) i) ++ from_queue q (row_heads log 1 (root tree))) first
+    ∙ ap₂ (λ l m. from_queue q l ++ from_queue q m) (device-emits tree log run) (sym (tree-heads tree log))

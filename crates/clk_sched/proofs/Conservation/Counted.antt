@@ -80,11 +80,11 @@ came-comes tree log t h = grind (arith, common_steps)
 
 -- What each queue gave came out or is held.
 given-counted : (tree : Tree) (log : List Visit) (qs : List ℕ) → ((q : ℕ) → stands_in q qs ≡ true → IsConserved tree log q)
-    → given_in_all tree qs log ≡ counted qs (traced_emitted tree log) + counted qs (traced_heads log 1 (root tree))
+    → given_in_all tree qs log ≡ counted qs (traced_emitted tree log) + counted qs (traced_heads tree log)
 given-counted tree log [] each = refl
 given-counted tree log (q ∷ qs) each =
     let out = from_queue q (traced_emitted tree log) in
-    let held = from_queue q (traced_heads log 1 (root tree)) in
+    let held = from_queue q (traced_heads tree log) in
     let here = ap length (each q (ap (λ (b : Bool). b || stands_in q qs) (same q))) ∙ length-append out held in
     let rest = given-counted tree log qs (λ r s. each r (or-right (q == r) (stands_in r qs) s)) in
     omega (arith, here, rest)
@@ -101,7 +101,7 @@ conserves-counts tree distinct log run =
     let came = makes-nothing tree log run in
     let given = given-counted tree log queues (conserves-packets tree distinct log run) in
     let out = counted-all queues distinct (traced_emitted tree log) (all-weaker _ (ComesFrom queues) (traced_emitted tree log) (came-comes tree log) came.0) in
-    let held = counted-all queues distinct (traced_heads log 1 (root tree)) (all-weaker _ (ComesFrom queues) (traced_heads log 1 (root tree)) (came-comes tree log) came.1) in
+    let held = counted-all queues distinct (traced_heads tree log) (all-weaker _ (ComesFrom queues) (traced_heads tree log) (came-comes tree log) came.1) in
     let emitted_are = emitted-counted tree log (visits_of 0 log) in
-    let heads_are = length-map (traced_heads log 1 (root tree)) (λ (t : Traced). t.0) in
+    let heads_are = length-map (traced_heads tree log) (λ (t : Traced). t.0) in
     omega (arith, given, out, held, emitted_are, heads_are)

@@ -1,5 +1,5 @@
 -- A tree holds no more heads of a queue than DRRScheds stand above the queue.
-use Rattle.std.proofs.Common.{◌≡◌, ℕ, zero, suc, ◌+◌, ◌<◌, ◌≤◌, ◌==◌, Bool, true, false, List, [], ◌++◌, length, length-append, reverse, Option, refl, sym, ap, ◌∙◌, arith, rules}
+use Rattle.std.proofs.Common.{◌≡◌, ℕ, zero, suc, ◌+◌, ◌<◌, ◌≤◌, ◌==◌, Bool, true, false, List, [], ◌++◌, length, length-append, reverse, Option, refl, sym, ap, ◌∙◌, subst, arith, rules}
 use Rattle.std.specs.List.{flat_map, range_with_len}
 use Rattle.std.proofs.lemmas.Bool.{false≢true}
 use Rattle.clk_packet.specs.declared.packet.Packet.{Packet}
@@ -11,7 +11,8 @@ use Rattle.clk_packet.specs.Scheduler.{Scheduler, drr}
 use Rattle.clk_sched.specs.Tree.{Row, end, leaf, node, Tree, root, nodes, width, leaves, leaves_distinct, is_number}
 use Rattle.clk_sched.specs.Log.{visits_of}
 use Rattle.clk_sched.specs.Laws.{manner}
-use Rattle.clk_sched.specs.Results.{Traced, traced, origin_in, held_at, own_heads, traced_heads}
+use Rattle.clk_sched.specs.Results.{Traced, traced, origin_in, held_at, own_heads}
+use Rattle.clk_sched.proofs.Conservation.RowHeads.{row_heads, tree-heads}
 use Rattle.clk_sched.specs.Conservation.{from_queue}
 use Rattle.clk_sched.specs.FewHeads.{most_heads, drrs_above, HoldsFewHeads}
 use Rattle.clk_sched.proofs.Conservation.Origins.{latest-not, passed-not, origin-not, from_queue-append, traced-not, heads-not, node-not}
@@ -68,7 +69,7 @@ own-few q log x (drr quanta) inputs distinct =
     (one-held q (held_at log x inputs) one.input (λ i. one-traced q _ _) (λ i other. traced-not q _ _ (latest-not q (origin_in log (suc x) inputs i) i (reverse (visits_of x log)) (λ k. one.others i k other))) 0 (width inputs)).0
 own-few q log x class inputs distinct = omega arith
 
-few-heads : (q : ℕ) (log : List Visit) (next : ℕ) (row : Row) → are_distinct (leaves row) ≡ true → length (from_queue q (traced_heads log next row)) ≤ drrs_above q row
+few-heads : (q : ℕ) (log : List Visit) (next : ℕ) (row : Row) → are_distinct (leaves row) ≡ true → length (from_queue q (row_heads log next row)) ≤ drrs_above q row
 few-heads q log next end distinct = omega arith
 few-heads q log next (leaf p row) distinct = few-heads q log next row (first-parts p (leaves row) distinct).1
 few-heads q log next (node class inputs row) distinct = search (rules, own-few, heads-not, from_queue-append, length-append, node-not, parts, (stands_in q (leaves inputs)), (few-heads q log (suc next) inputs parts.0), (few-heads q log (suc (next + nodes inputs)) row parts.1))
@@ -77,4 +78,5 @@ few-heads q log next (node class inputs row) distinct = search (rules, own-few, 
     parts = distinct-parts q (leaves inputs) (leaves row) distinct
 
 pub holds-few_heads : (tree : Tree) → leaves_distinct tree ≡ true → HoldsFewHeads tree
-holds-few_heads tree distinct log q = few-heads q log 1 (root tree) distinct
+holds-few_heads tree distinct log q =
+    subst (λ held. length (from_queue q held) ≤ drrs_above q (root tree)) (sym (tree-heads tree log)) (few-heads q log 1 (root tree) distinct)

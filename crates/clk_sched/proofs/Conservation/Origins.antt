@@ -10,7 +10,8 @@ use Rattle.clk_packet.specs.Scheduler.{Scheduler}
 use Rattle.clk_sched.specs.Tree.{Row, end, leaf, node, Tree, nodes, width, queue_in, queue_at, leaves, is_number}
 use Rattle.clk_sched.specs.Laws.{Manner, manner}
 use Rattle.clk_sched.specs.Log.{visits_of}
-use Rattle.clk_sched.specs.Results.{Traced, traced, asked_pull, latest_origin, passed_origin, origin_in, own_heads, traced_heads}
+use Rattle.clk_sched.specs.Results.{Traced, traced, asked_pull, latest_origin, passed_origin, origin_in, own_heads}
+use Rattle.clk_sched.proofs.Conservation.RowHeads.{row_heads}
 use Rattle.clk_sched.specs.Conservation.{from_queue}
 use Rattle.clk_sched.proofs.Trees.Numbering.{queue_in-before, queue_in-after, queue_in-earlier, or_none}
 use Rattle.clk_sched.proofs.Trees.Distinct.{or-neither, stands-neither}
@@ -56,18 +57,18 @@ flat_map-not q f (x ∷ xs) h = from_queue-append q (f x) (flat_map f xs) ∙ ap
 own-not : (q : ℕ) (log : List Visit) (x : ℕ) (inputs : Row) (m : Manner) → stands_in q (leaves inputs) ≡ false → from_queue q (own_heads log x inputs m) ≡ []
 own-not q log x inputs m h = search (rules, flat_map-not, traced-not, latest-not, origin-not)
 
-pub heads-not : (q : ℕ) (log : List Visit) (next : ℕ) (row : Row) → stands_in q (leaves row) ≡ false → from_queue q (traced_heads log next row) ≡ []
+pub heads-not : (q : ℕ) (log : List Visit) (next : ℕ) (row : Row) → stands_in q (leaves row) ≡ false → from_queue q (row_heads log next row) ≡ []
 heads-not q log next end h = refl
 heads-not q log next (leaf k row) h = heads-not q log next row (or-neither (k == q) (stands_in q (leaves row)) h).1
 heads-not q log next (node class inputs row) h =
     let parts = stands-neither q (leaves inputs) (leaves row) h in
     from_queue-append q (own_heads log next inputs (manner class (width inputs))) _
     ∙ ap₂ (λ l m. l ++ m) (own-not q log next inputs (manner class (width inputs)) parts.0)
-    (from_queue-append q (traced_heads log (suc next) inputs) _ ∙ ap₂ (λ l m. l ++ m) (heads-not q log (suc next) inputs parts.0) (heads-not q log (suc (next + nodes inputs)) row parts.1))
+    (from_queue-append q (row_heads log (suc next) inputs) _ ∙ ap₂ (λ l m. l ++ m) (heads-not q log (suc next) inputs parts.0) (heads-not q log (suc (next + nodes inputs)) row parts.1))
 
 -- the heads of a scheduler over inputs from which the queue doesn't come are none of its
 pub node-not : (q : ℕ) (log : List Visit) (next : ℕ) (class : Scheduler) (inputs row : Row) → stands_in q (leaves inputs) ≡ false
-    → from_queue q (traced_heads log next (node class inputs row)) ≡ from_queue q (traced_heads log (suc (next + nodes inputs)) row)
+    → from_queue q (row_heads log next (node class inputs row)) ≡ from_queue q (row_heads log (suc (next + nodes inputs)) row)
 node-not q log next class inputs row h = search (rules, from_queue-append, own-not, heads-not)
 
 -- a queue stands in a tree just where it stands in a row

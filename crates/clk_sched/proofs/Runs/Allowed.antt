@@ -13,8 +13,8 @@ use Rattle.clk_sched.specs.Turns.{Turn, EachAfter, all_visits, visits_before, Is
 use Rattle.clk_sched.specs.Heads.{LooksAtHeads}
 use Rattle.clk_sched.specs.Log.{visits_of, turn, asks, pulls_below}
 use Rattle.clk_sched.specs.Laws.{with_heads, manner, Follows, AllowsTurn, Obeys}
-use Rattle.clk_sched.specs.Run.{GetsResult, EachObeys}
-use Rattle.clk_sched.specs.Step.{EachAllows}
+use Rattle.clk_sched.specs.Run.{GetsResult}
+use Rattle.clk_sched.proofs.Runs.Rows.{EachObeys, EachAllows}
 pub use Rattle.clk_sched.specs.inside.Making.{onto}
 use Rattle.clk_sched.proofs.Lists.Members.{all-append, each-from_all, each-weaker, each-both, each-mapped, each-filtered}
 

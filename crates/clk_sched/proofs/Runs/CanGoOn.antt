@@ -6,12 +6,15 @@ use Rattle.std.proofs.lemmas.List.{map-append}
 use Rattle.clk_sched.specs.declared.visit.Visit.{Visit}
 use Rattle.clk_sched.specs.Tree.{Tree, root, nodes}
 use Rattle.clk_sched.specs.Turns.{AsksInOrder}
-use Rattle.clk_sched.specs.Log.{visits_of, pulls, block_at, moment_of, NeverFalls, asking}
+use Rattle.clk_sched.specs.Log.{visits_of, pulls, block_at, block, moment_of, NeverFalls, asking}
 use Rattle.clk_sched.specs.inside.Pulling.{with_asked}
-use Rattle.clk_sched.specs.Step.{EachAllows, IsPullWith, CanGoOn}
+use Rattle.clk_sched.specs.Run.{IsRun}
+use Rattle.clk_sched.specs.Step.{IsPullWith, CanGoOn}
 use Rattle.clk_packet.specs.Lists.{In}
 use Rattle.clk_sched.proofs.Lists.Members.{of-all, all-weaker}
 use Rattle.clk_sched.proofs.Trees.Numbering.{stands-root}
+use Rattle.clk_sched.proofs.Runs.Rows.{EachAllows}
+use Rattle.clk_sched.proofs.Runs.ByRows.{run-rows, rows-next}
 use Rattle.clk_sched.proofs.Runs.Allowed.{each-allowed}
 use Rattle.clk_sched.proofs.Runs.PullByPull.{asked}
 use Rattle.clk_sched.proofs.Lists.Apart.{all-reverse, each-some}
@@ -19,18 +22,18 @@ use Rattle.clk_sched.proofs.Runs.WithAsked.{with_asked-all, with_asked-self, wit
 use Rattle.clk_sched.proofs.Runs.Made.{Given, IsVisitOf, IsAsked, IsMade, make}
 
 -- the device asks what stands at its input
-pull-made : (g : Given) (log : List Visit) → g.number ≡ length (pulls log) → NeverFalls 0 (map moment_of (pulls log) ++ g.moment ∷ []) → IsMade g 0 0 1 (root g.tree) (reverse (pulls log))
+pull-made : (g : Given) (log : List Visit) → IsRun g.tree log → g.number ≡ length (pulls log) → NeverFalls 0 (map moment_of (pulls log) ++ g.moment ∷ []) → IsMade g 0 0 1 (root g.tree) (reverse (pulls log))
     → IsPullWith g.tree log g.moment g.answer
-pull-made g log number moments offer =
+pull-made g log run number moments offer =
     record {
       pull = pull;
       next = record {
         number = all-weaker (IsVisitOf g) (λ (v : Visit). v.pull ≡ length (pulls log)) pull (λ v h. h.number ∙ number) all;
-        whole = sym (ap (flat_map (asked pull 1 (root g.tree))) only ∙ ap (λ l. (l ++ device ∷ []) ++ []) (holds.1 device (subst (In device) (sym only) (inl refl)) refl));
+        whole = whole;
         one_moment = all-weaker (IsVisitOf g) (λ (v : Visit). v.moment ≡ moment_of pull) pull (λ v h. h.moment ∙ sym at_moment) all;
         moments = subst (NeverFalls 0) (sym (map-append moment_of (pulls log) (pull ∷ []) ∙ ap (λ m. map moment_of (pulls log) ++ m ∷ []) at_moment)) moments;
         device = subst (AsksInOrder (0 ∷ [])) (sym only) (record { plain = (record { fresh = refl; passed = refl }, tt); in_order = (refl, (search rules)) });
-        below = holds.0;
+        below = rows-next g.tree log pull run whole holds.0;
       };
       at_moment = at_moment;
       answered = all-weaker (IsVisitOf g) _ pull (λ v h. h.answered) all;
@@ -60,8 +63,11 @@ pull-made g log number moments offer =
     holds : EachAllows 0 0 1 (root g.tree) (reverse (pulls log)) pull × ((v : Visit) → In v (visits_of 0 pull) → v.fresh ≡ true → block_at pull 0 1 (root g.tree) v.input ≡ offer.made v.input)
     holds = offer.holds pull is_asked
 
+    whole : pull ≡ block g.tree pull
+    whole = sym (ap (flat_map (asked pull 1 (root g.tree))) only ∙ ap (λ l. (l ++ device ∷ []) ++ []) (holds.1 device (subst (In device) (sym only) (inl refl)) refl))
+
 pub can-go_on : (tree : Tree) → CanGoOn tree
-can-go_on tree formed log moment answer run moments = pull-made g log refl moments (make g (root tree) 0 0 1 (reverse (pulls log)) formed (stands-root tree) were)
+can-go_on tree formed log moment answer run moments = pull-made g log run refl moments (make g (root tree) 0 0 1 (reverse (pulls log)) formed (stands-root tree) were)
   where
     g : Given
     g = record { tree = tree; number = length (pulls log); moment = moment; answer = answer }
@@ -70,4 +76,4 @@ can-go_on tree formed log moment answer run moments = pull-made g log refl momen
     Was p = (e : List (List Visit)) × EachAllows 0 0 1 (root tree) e p
 
     were : (p : List Visit) → In p (reverse (pulls log)) → Was p
-    were p m = of-all Was p (reverse (pulls log)) (all-reverse Was (pulls log) (each-some (EachAllows 0 0 1 (root tree)) [] (pulls log) (each-allowed 0 0 1 (root tree) (pulls log) run.below))) m
+    were p m = of-all Was p (reverse (pulls log)) (all-reverse Was (pulls log) (each-some (EachAllows 0 0 1 (root tree)) [] (pulls log) (each-allowed 0 0 1 (root tree) (pulls log) (run-rows tree log run)))) m

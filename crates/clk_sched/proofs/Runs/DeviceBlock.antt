@@ -8,11 +8,13 @@ use Rattle.clk_sched.specs.declared.visit.Visit.{Visit}
 use Rattle.clk_packet.specs.Scheduler.{Scheduler, prio}
 use Rattle.clk_sched.specs.Tree.{Row, end, leaf, node, Tree, root, nodes, width}
 use Rattle.clk_sched.specs.Turns.{AsksInOrder}
-use Rattle.clk_sched.specs.Log.{visits_of, pulls, block_at, moment_of, NeverFalls, turn, asks, pulls_below, result_of}
+use Rattle.clk_sched.specs.Log.{visits_of, pulls, block_at, block, moment_of, NeverFalls, turn, asks, pulls_below, result_of}
 use Rattle.clk_sched.specs.Laws.{AllowsTurn}
 use Rattle.clk_sched.specs.Laws.Priority.{priority_order}
 use Rattle.clk_sched.specs.Run.{IsRun}
-use Rattle.clk_sched.specs.Step.{EachAllows, IsNextPull}
+use Rattle.clk_sched.specs.Step.{IsNextPull}
+use Rattle.clk_sched.proofs.Runs.Rows.{EachAllows}
+use Rattle.clk_sched.proofs.Runs.ByRows.{rows-next}
 use Rattle.clk_sched.specs.inside.Pulling.{Now, History, as_turn, asked_of, with_asked, input_of, IsVisitAt, IsAskedAt, IsBlock}
 use Rattle.clk_sched.specs.inside.Session.{history_of}
 use Rattle.clk_packet.specs.Lists.{In}
@@ -203,11 +205,11 @@ next-pull tree log pull now got run number moments b =
     record {
       next = record {
         number = all-weaker (IsVisitBelow now 0 whole_row 0) (λ (v : Visit). v.pull ≡ length (pulls log)) pull (λ v h. h.number ∙ number) all;
-        whole = sym (block-whole now history 0 prio (root tree) pull got pull has (λ v m f. made-whole (root tree) now history 0 0 1 b.made pull made v.input v m f (omega arith)));
+        whole = whole;
         one_moment = all-weaker (IsVisitBelow now 0 whole_row 0) (λ (v : Visit). v.moment ≡ moment_of pull) pull (λ v h. h.moment ∙ sym at_moment) all;
         moments = subst (NeverFalls 0) (sym (map-append moment_of (pulls log) (pull ∷ []) ∙ ap (λ m. map moment_of (pulls log) ++ m ∷ []) at_moment)) moments;
         device = device;
-        below = each-allows (root tree) now history 0 0 1 (reverse (pulls log)) b.made pull (are-past tree log run) at_moment made;
+        below = rows-next tree log pull run whole (each-allows (root tree) now history 0 0 1 (reverse (pulls log)) b.made pull (are-past tree log run) at_moment made);
       };
       at_moment = at_moment;
       result = b.result ∙ ap result_of (sym own);
@@ -230,6 +232,9 @@ next-pull tree log pull now got run number moments b =
 
     made : IsMadeIn now history 0 0 1 (root tree) b.made pull
     made = block-made now history 0 prio (root tree) pull got pull has
+
+    whole : pull ≡ block tree pull
+    whole = sym (block-whole now history 0 prio (root tree) pull got pull has (λ v m f. made-whole (root tree) now history 0 0 1 b.made pull made v.input v m f (omega arith)))
 
     one_input : (t : Tree) → width (root t) ≡ 1
     one_input t = search rules

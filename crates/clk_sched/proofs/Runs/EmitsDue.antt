@@ -11,13 +11,15 @@ use Rattle.clk_sched.specs.Turns.{Turn, EachAfter, IsPlain, visits_before}
 use Rattle.clk_sched.specs.Heads.{head_at, is_covered, LooksAtHeads}
 use Rattle.clk_sched.specs.Laws.{Manner, in_order, with_heads, manner, Follows, AllowsTurn}
 use Rattle.clk_sched.specs.Log.{visits_of, pulls, moment_of, turn, asks, pulls_below, result_of}
-use Rattle.clk_sched.specs.Step.{EachAllows, IsOnePullLess}
+use Rattle.clk_sched.specs.Step.{IsOnePullLess}
 use Rattle.clk_sched.specs.Due.{turns_in, lets_through, holds_head, could_emit, GetsFromBacklogged, EmitsOnceDue}
 use Rattle.clk_sched.specs.inside.Pulling.{History}
 use Rattle.clk_sched.specs.inside.Session.{history_of}
 use Rattle.clk_sched.proofs.Lists.Members.{of-all, to-all, filter-in, any-in, in-filter}
 use Rattle.clk_sched.proofs.Classes.BusyTurns.{busy, history-busy, busy-visits, busy-room}
 use Rattle.clk_sched.proofs.Trees.Numbering.{StandsAt, stands-root, stands-after_leaf, stands-after_node, stands-inputs, at-leaf}
+use Rattle.clk_sched.proofs.Runs.Rows.{EachAllows}
+use Rattle.clk_sched.proofs.Runs.ByRows.{next-rows}
 use Rattle.clk_sched.proofs.Runs.Allowed.{device-visit}
 use Rattle.clk_sched.proofs.Runs.Blocks.{node-is}
 use Rattle.clk_sched.proofs.Runs.GoesOn.{goes-on}
@@ -171,7 +173,7 @@ emits-due tree log pull backlogged more gets none = none-results (visits_of 0 pu
     never = could-busy history (turns_in log) backlogged (moment_of pull) 1 (root tree) (λ x. history-busy (reverse (pulls log)) x) ∙ none
 
     gave : GaveNone pull 0 0 (root tree)
-    gave = gave-none tree history backlogged pull (root tree) 0 0 1 (reverse (pulls log)) (stands-root tree) (are-past tree log less.run) gets less.next.below never
+    gave = gave-none tree history backlogged pull (root tree) 0 0 1 (reverse (pulls log)) (stands-root tree) (are-past tree log less.run) gets (next-rows tree log pull less.run less.next) never
 
     passed : NonePassed (visits_of 0 pull)
     passed = plain-none (visits_of 0 pull) less.next.device.plain (to-all _ (visits_of 0 pull) (λ v m fresh. gave v m fresh (omega arith) (search (rules, device-visit, of-all, root-width, less))))

@@ -6,15 +6,15 @@ use Rattle.std.proofs.lemmas.List.Concat.{flat_map-append}
 use Rattle.std.proofs.lemmas.List.Elements.{filter-append}
 use Rattle.std.proofs.lemmas.List.FromFn.{map-range_with_len_more, length-map-range_with_len}
 use Rattle.clk_sched.specs.declared.visit.Visit.{Visit}
-use Rattle.clk_sched.specs.Tree.{Row, end, leaf, node, Tree, root, nodes, width}
+use Rattle.clk_sched.specs.Tree.{Tree, PlacedScheduler, schedulers_of, width}
 use Rattle.clk_sched.specs.Turns.{EachAfter}
 use Rattle.clk_sched.specs.Log.{visits_of, in_pull, pulls, block, moment_of, HasOneMoment, NeverFalls, turn, asks, pulls_below}
 use Rattle.clk_sched.specs.Laws.{AllowsTurn, Obeys}
 use Rattle.clk_sched.specs.Laws.Device.{IsDeviceTurn}
-use Rattle.clk_sched.specs.Run.{GetsResult, EachObeys, IsRun}
-use Rattle.clk_sched.specs.Step.{EachAllows, IsNextPull, IsOnePullMore, GoesOn, IsOnePullLess, IsRunOf}
-use Rattle.clk_sched.proofs.Lists.Members.{all-append, all-weaker, filter-all, filter-none, all-split, of-all}
-use Rattle.clk_sched.proofs.Runs.Allowed.{onto, onto-reverse, each-split, each-join, each-allowed, device-visit}
+use Rattle.clk_sched.specs.Run.{GetsResult, ObeysIn, IsRun, own_turns}
+use Rattle.clk_sched.specs.Step.{AllowsIn, IsNextPull, IsOnePullMore, GoesOn, IsOnePullLess, IsRunOf}
+use Rattle.clk_sched.proofs.Lists.Members.{all-append, all-weaker, filter-all, filter-none, all-split, of-all, to-all}
+use Rattle.clk_sched.proofs.Runs.Allowed.{onto, onto-reverse, each-split, each-join, device-visit}
 use Rattle.clk_sched.proofs.Runs.PullByPull.{in_pull-number, IsNumbered, each-numbered, each-whole}
 use Rattle.clk_sched.proofs.Runs.Blocks.{flat_map-same}
 use Rattle.clk_sched.proofs.Runs.Pulled.{joined}
@@ -34,37 +34,48 @@ pub map-reverse : {X Y : Type 0} (f : X → Y) (xs : List X) → map f (reverse 
 map-reverse f [] = refl
 map-reverse f (x ∷ xs) = ap (map f) (reverse-more x xs) ∙ map-append f (reverse xs) (x ∷ []) ∙ ap (λ l. l ++ f x ∷ []) (map-reverse f xs) ∙ sym (reverse-more (f x) (map f xs))
 
-each-obeys : (row : Row) (above first next : ℕ) (pulled : List (List Visit)) (pull : List Visit) → EachObeys above pulled first next row → EachAllows above first next row (reverse pulled) pull
-    → EachObeys above (pulled ++ pull ∷ []) first next row
-each-obeys end above first next pulled pull h k = tt
-each-obeys (leaf q row) above first next pulled pull h k = each-obeys row above (suc first) next pulled pull h k
-each-obeys (node class inputs row) above first next pulled pull h k =
-    let here = by_asked (asked pull) k.0 (λ m. each-obeys inputs next 0 (suc next) (pulls_below above first pulled) pull h.2 m) in (
-      subst (λ ps. Obeys class (width inputs) (map (turn next) ps)) (sym more) here.0,
-      all-append (GetsResult above first next) pulled (pull ∷ []) h.1 (k.1, tt),
-      subst (λ ps. EachObeys next ps 0 (suc next) inputs) (sym more) here.1,
-      each-obeys row above (suc first) (suc (next + nodes inputs)) pulled pull h.3 k.2,
-    )
+-- The pulls of a scheduler among some pulls and one more: that one too, if the node above asked for it.
+own-more : (n : PlacedScheduler) (pulled : List (List Visit)) (pull : List Visit)
+    → pulls_below n.above n.input (pulled ++ pull ∷ []) ≡ pulls_below n.above n.input pulled ++ (if list_any (asks n.input) (visits_of n.above pull) then pull ∷ [] else [])
+own-more n pulled pull = filter-append (λ p. list_any (asks n.input) (visits_of n.above p)) pulled (pull ∷ [])
+
+-- its turns before a pull, the latest first
+turns-back : (n : PlacedScheduler) (pulled : List (List Visit)) → own_turns (reverse pulled) n ≡ reverse (own_turns pulled n)
+turns-back n pulled =
+    ap (map (turn n.number)) (filter-reverse (λ p. list_any (asks n.input) (visits_of n.above p)) pulled) ∙ map-reverse (turn n.number) (pulls_below n.above n.input pulled)
+
+-- A scheduler that obeys its law goes on obeying it by a pull that allows it, and by no other.
+obeys-more : (n : PlacedScheduler) (pulled : List (List Visit)) (pull : List Visit) → ObeysIn pulled n → AllowsIn (reverse pulled) pull n → ObeysIn (pulled ++ pull ∷ []) n
+obeys-more n pulled pull h k = (
+  subst (λ ps. Obeys n.class (width n.inputs) (map (turn n.number) ps)) (sym (own-more n pulled pull)) (by_asked (list_any (asks n.input) (visits_of n.above pull)) k.0),
+  all-append (GetsResult n.above n.input n.number) pulled (pull ∷ []) h.1 (k.1, tt),
+)
   where
-    asked : List Visit → Bool
-    asked p = list_any (asks first) (visits_of above p)
-
     before : List (List Visit)
-    before = pulls_below above first pulled
+    before = pulls_below n.above n.input pulled
 
-    more : pulls_below above first (pulled ++ pull ∷ []) ≡ before ++ (if asked pull then pull ∷ [] else [])
-    more = filter-append asked pulled (pull ∷ [])
+    by_asked : (b : Bool) → (b ≡ true → AllowsTurn n.class (width n.inputs) (own_turns (reverse pulled) n) (turn n.number pull))
+        → Obeys n.class (width n.inputs) (map (turn n.number) (before ++ (if b then pull ∷ [] else [])))
+    by_asked true allows =
+        subst (Obeys n.class (width n.inputs)) (sym (map-append (turn n.number) before (pull ∷ [])))
+        (each-more (AllowsTurn n.class (width n.inputs)) (own_turns pulled n) (turn n.number pull) h.0
+        (subst (λ e. AllowsTurn n.class (width n.inputs) e (turn n.number pull)) (turns-back n pulled) (allows refl)))
+    by_asked false allows = subst (λ ps. Obeys n.class (width n.inputs) (map (turn n.number) ps)) (sym (append-nil before)) h.0
 
-    turned : pulls_below above first (reverse pulled) ≡ reverse before
-    turned = filter-reverse asked pulled
+obeys-last : (n : PlacedScheduler) (pulled : List (List Visit)) (pull : List Visit) → ObeysIn (pulled ++ pull ∷ []) n → AllowsIn (reverse pulled) pull n
+obeys-last n pulled pull h = (
+  λ asked. by_turns (own-more n pulled pull ∙ ap (λ b. before ++ (if b then pull ∷ [] else [])) asked),
+  (all-split (GetsResult n.above n.input n.number) pulled (pull ∷ []) h.1).1.0,
+)
+  where
+    before : List (List Visit)
+    before = pulls_below n.above n.input pulled
 
-    After : List (List Visit) → Type 0
-    After ps = Obeys class (width inputs) (map (turn next) ps) × EachObeys next ps 0 (suc next) inputs
-
-    by_asked : (b : Bool)
-        → (b ≡ true → AllowsTurn class (width inputs) (map (turn next) (pulls_below above first (reverse pulled))) (turn next pull) × EachAllows next 0 (suc next) inputs (pulls_below above first (reverse pulled)) pull)
-        → (EachAllows next 0 (suc next) inputs (reverse before) pull → EachObeys next (before ++ pull ∷ []) 0 (suc next) inputs) → After (before ++ (if b then pull ∷ [] else []))
-    by_asked b a rest = search (rules, append-nil, map-append, each-more, map-reverse, After, before, turned)
+    by_turns : pulls_below n.above n.input (pulled ++ pull ∷ []) ≡ before ++ pull ∷ [] → AllowsTurn n.class (width n.inputs) (own_turns (reverse pulled) n) (turn n.number pull)
+    by_turns are =
+        subst (λ e. AllowsTurn n.class (width n.inputs) e (turn n.number pull)) (onto-reverse (own_turns pulled n) ∙ sym (turns-back n pulled))
+        (each-split (AllowsTurn n.class (width n.inputs)) [] (own_turns pulled n) (turn n.number pull ∷ [])
+        (subst (Obeys n.class (width n.inputs)) (ap (map (turn n.number)) are ∙ map-append (turn n.number) before (pull ∷ [])) h.0)).1.0
 
 -- the visits of the pulls before one are of pulls numbered below it
 numbers-below : (log : List Visit) (a n total : ℕ) → a + n ≤ total → AllByRecursion (λ (v : Visit). v.pull < total) (flat_map (λ p. p) (map (λ k. in_pull k log) (range_with_len a n)))
@@ -111,7 +122,9 @@ one-more tree log pull run is =
         device =
             subst (AllByRecursion IsDeviceTurn) (sym (ap (map (turn 0)) last ∙ map-append (turn 0) (pulls log) (pull ∷ [])))
             (all-append IsDeviceTurn (map (turn 0) (pulls log)) (turn 0 pull ∷ []) run.device (is.device, tt));
-        below = subst (λ ps. EachObeys 0 ps 0 1 (root tree)) (sym last) (each-obeys (root tree) 0 0 1 (pulls log) pull run.below is.below);
+        below =
+            subst (λ ps. AllByRecursion (ObeysIn ps) (schedulers_of tree)) (sym last)
+            (to-all (ObeysIn (pulls log ++ pull ∷ [])) (schedulers_of tree) (λ n m. obeys-more n (pulls log) pull (of-all (ObeysIn (pulls log)) n (schedulers_of tree) run.below m) (of-all (AllowsIn (reverse (pulls log)) pull) n (schedulers_of tree) is.below m)));
       };
       last = last;
     }
@@ -128,24 +141,19 @@ one-more tree log pull run is =
     last : pulls (log ++ pull) ≡ pulls log ++ pull ∷ []
     last = pulls-more log pull count refl before (subst (λ n. AllByRecursion (λ (v : Visit). v.pull ≡ n) pull) counted is.number) (ap length (device-visit (visits_of 0 pull) is.device).only)
 
--- nothing has happened yet
-each-none : (row : Row) (above first next : ℕ) → EachObeys above [] first next row
-each-none end above first next = tt
-each-none (leaf q row) above first next = each-none row above (suc first) next
-each-none (node class inputs row) above first next = (tt, tt, each-none inputs next 0 (suc next), each-none row above (suc first) (suc (next + nodes inputs)))
-
 -- and back: what holds of the pulls up to one holds of those before it
-each-less : (row : Row) (above first next : ℕ) (pulled later : List (List Visit)) → EachObeys above (pulled ++ later) first next row → EachObeys above pulled first next row
-each-less end above first next pulled later h = tt
-each-less (leaf q row) above first next pulled later h = each-less row above (suc first) next pulled later h
-each-less (node class inputs row) above first next pulled later h =
-    let split = filter-append (λ p. list_any (asks first) (visits_of above p)) pulled later in (
-      (each-split (AllowsTurn class (width inputs)) [] (map (turn next) (pulls_below above first pulled)) (map (turn next) (pulls_below above first later))
-          (subst (Obeys class (width inputs)) (ap (map (turn next)) split ∙ map-append (turn next) (pulls_below above first pulled) (pulls_below above first later)) h.0)).0,
-      (all-split (GetsResult above first next) pulled later h.1).0,
-      each-less inputs next 0 (suc next) (pulls_below above first pulled) (pulls_below above first later) (subst (λ ps. EachObeys next ps 0 (suc next) inputs) split h.2),
-      each-less row above (suc first) (suc (next + nodes inputs)) pulled later h.3,
-    )
+obeys-less : (n : PlacedScheduler) (pulled later : List (List Visit)) → ObeysIn (pulled ++ later) n → ObeysIn pulled n
+obeys-less n pulled later h = (
+  (each-split (AllowsTurn n.class (width n.inputs)) [] (own_turns pulled n) (own_turns later n)
+      (subst (Obeys n.class (width n.inputs))
+      (ap (map (turn n.number)) (filter-append (λ p. list_any (asks n.input) (visits_of n.above p)) pulled later) ∙ map-append (turn n.number) (pulls_below n.above n.input pulled) (pulls_below n.above n.input later))
+      h.0)).0,
+  (all-split (GetsResult n.above n.input n.number) pulled later h.1).0,
+)
+
+-- nothing has happened yet
+none-yet : (tree : Tree) → AllByRecursion (ObeysIn []) (schedulers_of tree)
+none-yet tree = to-all (ObeysIn []) (schedulers_of tree) (λ n m. (tt, tt))
 
 never-less : (least : ℕ) (ms later : List ℕ) → NeverFalls least (ms ++ later) → NeverFalls least ms
 never-less least [] later h = tt
@@ -186,7 +194,9 @@ front tree log before after run are =
           moments = subst (λ ps. NeverFalls 0 (map moment_of ps)) (sym them) (never-less 0 (map moment_of before) (map moment_of after) (subst (NeverFalls 0) (ap (map moment_of) are ∙ map-append moment_of before after) run.shape.moments));
         };
         device = subst (λ ps. AllByRecursion IsDeviceTurn (map (turn 0) ps)) (sym them) devices;
-        below = subst (λ ps. EachObeys 0 ps 0 1 (root tree)) (sym them) (each-less (root tree) 0 0 1 before after (subst (λ ps. EachObeys 0 ps 0 1 (root tree)) are run.below));
+        below =
+            subst (λ ps. AllByRecursion (ObeysIn ps) (schedulers_of tree)) (sym them)
+            (all-weaker (ObeysIn (before ++ after)) (ObeysIn before) (schedulers_of tree) (λ n h. obeys-less n before after h) (subst (λ ps. AllByRecursion (ObeysIn ps) (schedulers_of tree)) are run.below));
       };
       are = them;
     }
@@ -211,9 +221,8 @@ one-less tree log pull more =
         moments = moments;
         device = devices.1.0;
         below =
-            subst (λ e. EachAllows 0 0 1 (root tree) e pull) (onto-reverse (pulls log))
-            (each-split (EachAllows 0 0 1 (root tree)) [] (pulls log) (pull ∷ [])
-            (subst (EachAfter (EachAllows 0 0 1 (root tree)) []) more.last (each-allowed 0 0 1 (root tree) (pulls (log ++ pull)) more.run.below))).1.0;
+            all-weaker (ObeysIn (pulls log ++ pull ∷ [])) (AllowsIn (reverse (pulls log)) pull) (schedulers_of tree) (λ n h. obeys-last n (pulls log) pull h)
+            (subst (λ ps. AllByRecursion (ObeysIn ps) (schedulers_of tree)) more.last more.run.below);
       };
     }
   where
@@ -234,4 +243,4 @@ one-less tree log pull more =
     numbered = (each-split (IsNumbered tree) [] (pulls log) (pull ∷ []) (subst (EachAfter (IsNumbered tree) []) more.last (each-numbered tree (log ++ pull) more.run.shape))).1.0
 
 pub goes-on : (tree : Tree) → GoesOn tree
-goes-on tree = search (rules, each-none, one-more, one-less, front)
+goes-on tree = search (rules, none-yet, one-more, one-less, front)

@@ -12,11 +12,11 @@ use Rattle.clk_sched.specs.Laws.{AllowsTurn}
 use Rattle.clk_sched.specs.Log.{visits_of, block_at, moment_of, turn, asks, pulls_below, result_of}
 use Rattle.clk_sched.specs.Run.{GetsResult}
 use Rattle.clk_sched.specs.inside.Pulling.{AreApart, input_of, asked_of, with_asked}
-use Rattle.clk_sched.specs.Step.{EachAllows}
 use Rattle.clk_sched.proofs.Lists.Numbers.{equal, differs}
 use Rattle.clk_packet.specs.Lists.{In}
 use Rattle.clk_sched.proofs.Lists.Members.{of-all, to-all, in-filter, all-weaker}
 use Rattle.clk_sched.proofs.Trees.Numbering.{StandsAt, queue_in-before, queue_in-earlier, stands-after_leaf, stands-after_node, stands-inputs}
+use Rattle.clk_sched.proofs.Runs.Rows.{EachAllows}
 use Rattle.clk_sched.proofs.Runs.Allowed.{AreWithin}
 use Rattle.clk_sched.proofs.Runs.PullByPull.{asked}
 use Rattle.clk_sched.proofs.Runs.Blocks.{flat_map-same, asks-both}

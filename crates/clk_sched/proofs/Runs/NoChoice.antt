@@ -14,7 +14,8 @@ use Rattle.clk_sched.specs.Choice.{answers_of, LeavesNoChoice, PullsLeaveNoChoic
 use Rattle.clk_packet.specs.Lists.{In}
 use Rattle.clk_sched.proofs.Lists.Members.{of-all, in-filter, filter-in, any-in, each-from_all, each-weaker, each-both, each-mapped}
 use Rattle.clk_sched.proofs.Trees.Numbering.{StandsAt, stands-root, stands-after_leaf, stands-after_node, stands-inputs}
-use Rattle.clk_sched.specs.Step.{EachAllows}
+use Rattle.clk_sched.proofs.Runs.Rows.{EachAllows}
+use Rattle.clk_sched.proofs.Runs.ByRows.{run-rows}
 use Rattle.clk_sched.proofs.Runs.Allowed.{AreWithin, each-allowed, device-visit, onto, each-split}
 use Rattle.clk_sched.proofs.Runs.PullByPull.{asked, IsNumbered, each-numbered}
 use Rattle.clk_sched.proofs.Runs.SameTurns.{AnswerAlike, begin-alike, go_on-alike, Sides, AreLike, GetAlike, plain-same, turn-same}
@@ -127,7 +128,7 @@ pulls-of_run : (tree : Tree) (log : List Visit) → IsRun tree log → EachAfter
 pulls-of_run tree log run =
     each-weaker _ (IsPullOfRun tree) (λ e p h. record { device = h.0; below = h.1.0; numbered = h.1.1 }) [] (pulls log)
     (each-both _ _ [] (pulls log) (each-mapped (λ e t. IsDeviceTurn t) (turn 0) [] (pulls log) (each-from_all IsDeviceTurn [] (map (turn 0) (pulls log)) run.device))
-    (each-both _ _ [] (pulls log) (each-allowed 0 0 1 (root tree) (pulls log) run.below) (each-numbered tree log run.shape)))
+    (each-both _ _ [] (pulls log) (each-allowed 0 0 1 (root tree) (pulls log) (run-rows tree log run)) (each-numbered tree log run.shape)))
 
 pub root-width : (tree : Tree) → width (root tree) ≡ 1
 root-width tree = search rules

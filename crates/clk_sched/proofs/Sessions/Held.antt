@@ -18,7 +18,8 @@ use Rattle.clk_sched.specs.Heads.{head_at}
 use Rattle.clk_sched.specs.Log.{visits_of, pulls}
 use Rattle.clk_sched.specs.Laws.{manner}
 use Rattle.clk_sched.specs.inside.Holds.OfClass.{Holds}
-use Rattle.clk_sched.specs.Results.{heads, Traced, traced, held_at, own_heads, traced_heads}
+use Rattle.clk_sched.specs.Results.{heads, Traced, traced, held_at, own_heads}
+use Rattle.clk_sched.proofs.Conservation.RowHeads.{row_heads, tree-heads}
 use Rattle.clk_sched.specs.Run.{IsRun}
 use Rattle.clk_sched.specs.inside.Pulling.{History, EachHolds}
 use Rattle.clk_sched.specs.inside.Session.{history_of, IsAfterRun}
@@ -111,7 +112,7 @@ held-there log x class inputs turns o e h = search (rules, heads-of_node)
 
 -- the heads of a row
 heads-of_row : (log : List Visit) (states : List State) (history : History) (next : ℕ) (row : Row) → ((x : ℕ) → visits_before (history x) ≡ reverse (visits_of x log))
-    → EachHolds states history next row → heads_from states next (nodes row) ≡ without_origins (traced_heads log next row)
+    → EachHolds states history next row → heads_from states next (nodes row) ≡ without_origins (row_heads log next row)
 heads-of_row log states history next end e h = refl
 heads-of_row log states history next (leaf q row) e h = heads-of_row log states history next row e h
 heads-of_row log states history next (node class inputs row) e h =
@@ -119,8 +120,8 @@ heads-of_row log states history next (node class inputs row) e h =
     (from-split states (suc next) (nodes inputs) (nodes row)
     ∙ ap₂ (λ l m. l ++ m) (heads-of_row log states history (suc next) inputs e h.1)
     (ap (λ k. heads_from states k (nodes row)) (omega arith) ∙ heads-of_row log states history (suc (next + nodes inputs)) row e h.2)
-    ∙ sym (map-append (λ (t : Traced). t.0) (traced_heads log (suc next) inputs) (traced_heads log (suc (next + nodes inputs)) row)))
-    ∙ sym (map-append (λ (t : Traced). t.0) (own_heads log next inputs (manner class (width inputs))) (traced_heads log (suc next) inputs ++ traced_heads log (suc (next + nodes inputs)) row))
+    ∙ sym (map-append (λ (t : Traced). t.0) (row_heads log (suc next) inputs) (row_heads log (suc (next + nodes inputs)) row)))
+    ∙ sym (map-append (λ (t : Traced). t.0) (own_heads log next inputs (manner class (width inputs))) (row_heads log (suc next) inputs ++ row_heads log (suc (next + nodes inputs)) row))
 
 -- After a run the states of the nodes hold the heads that its log tells of.
 pub heads-after_run : (tree : Tree) (n : Nodes) → IsAfterRun tree n → heads_of_all n.states.items ≡ heads tree n.log.items
@@ -128,6 +129,7 @@ heads-after_run tree n h =
     sym (from-all n.states.items) ∙ ap (heads_from n.states.items 0) (h.fit.lengths ∙ h.size)
     ∙ ap₂ (λ l m. l ++ m) (held-there n.log.items 0 prio (root tree) (history 0) (slice_get n.states.items 0) (visits 0) h.holds.here)
     (heads-of_row n.log.items n.states.items history 1 (root tree) visits h.holds.below)
+    ∙ ap without_origins (sym (tree-heads tree n.log.items))
   where
     history : History
     history = history_of (reverse (pulls n.log.items))

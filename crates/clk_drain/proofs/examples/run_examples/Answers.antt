@@ -155,7 +155,7 @@ returns-clause-not_of_wider_plan c =
 -- A scheduler that gave a packet was visited.
 unvisited : (tree : Tree) → IsTreeOf scheduled_plan 0 tree → IsRun tree log_a → ⊥
 unvisited (queue n) is run = let number = is.0 in absurd (cc)
-unvisited (scheduler class inputs) is run = let got = run.below.1.1.0.0 in absurd (cc)
+unvisited (scheduler class inputs) is run = let got = run.below.0.1.1.0.0 in absurd (cc)
 
 pub returns-clause-not_of_scheduled_plan : goal.returns-clause-not_of_scheduled_plan
 returns-clause-not_of_scheduled_plan c =

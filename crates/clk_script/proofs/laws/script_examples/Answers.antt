@@ -29,7 +29,7 @@ returns-clause-not_moment_ahead c = λ can.
 pub returns-clause-not_second_first : goal.returns-clause-not_second_first
 returns-clause-not_second_first c = λ can.
     let runs = can.runs 0 in
-    let asked = runs.run.below.0.0.follows.in_order in
+    let asked = runs.run.below.0.0.0.follows.in_order in
     absurd (omega (arith, asked.0))
 
 pub returns-clause-not_swapped : goal.returns-clause-not_swapped
