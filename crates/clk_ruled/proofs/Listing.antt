@@ -1,6 +1,6 @@
 -- The packets that a queue accepted, listed one by one from their lengths and from the packets that it refused.
 use Rattle.std.proofs.Common.{◌≡◌, ℕ, zero, suc, ◌+◌, ◌-◌, ◌<◌, ◌≤◌, inl, inr, List, [], ◌∷◌, ◌++◌, length, map, take, drop, get_or, append_assoc, append-nil, refl, sym, ap, ◌∙◌, subst, arith}
-use Rattle.std.proofs.lemmas.List.{length-append, length-map, map-append, take_all}
+use Rattle.std.proofs.lemmas.List.{length-append, length-map, take_all}
 use Rattle.std.specs.List.{AllByRecursion}
 use Rattle.clk_packet.specs.Dealt.{AreNumbered, IsDealt}
 use Rattle.clk_packet.specs.declared.packet.Packet.{Packet}
@@ -115,7 +115,3 @@ all-listed sender next number all packets rest end h = by_offered h.offered h.de
     by_offered : (offered : List Packet) → IsDealt offered h.left rest → number + length offered ≡ next → packets ≡ all
     by_offered [] d many = sym (h.all_are ∙ ap (λ l. packets ++ l) d.0 ∙ append-nil packets)
     by_offered (p ∷ more) d many = absurd (omega (arith, end, many))
-
--- One length more belongs to one packet more.
-pub lengths-more : (packets new : List Packet) (lengths after : List ℕ) (p : Packet) → HaveLengths packets lengths → new ≡ packets ++ p ∷ [] → after ≡ lengths ++ p.length ∷ [] → HaveLengths new after
-lengths-more packets new lengths after p have are is = ap (map (λ (q : Packet). q.length)) are ∙ map-append (λ (q : Packet). q.length) packets (p ∷ []) ∙ ap (λ l. l ++ p.length ∷ []) have ∙ sym is

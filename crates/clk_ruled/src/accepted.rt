@@ -3,7 +3,7 @@
 ghost use Rattle.std.specs.Prelude.{◌≡◌, ◌++◌, ◌∷◌, List, [], None, IfSome};
 ghost use Rattle.std.specs.Borrow.{ftrue};
 ghost use Rattle.clk_packet.specs.declared.packet.Packet.{Packet};
-ghost use Rattle.clk_ruled.specs.inside.Parts.{IsFirst, IsNotFirst};
+ghost use Rattle.clk_ruled.specs.inside.Parts.{HaveLengths, IsFirst, IsNotFirst};
 
 use crate::seat::note;
 use clk_packet::{Fault, Packet};
@@ -16,6 +16,7 @@ use std::marker::Model;
 pub struct AcceptedPackets {
     pub lengths: Vec<u16>,
     pub all: AllAccepted,
+    pub ghost lengths_are: { HaveLengths all.items lengths.items },
 }
 
 /// The packets as ghost state: they occupy no memory.
@@ -45,7 +46,6 @@ impl AllAccepted {
 impl AcceptedPackets {
     ghost use Rattle.std.specs.Prelude.{◌≡◌, ◌++◌, ◌∷◌, ◌<◌, ◌≤◌, [], length, vec_capacity, IfOk, IsOkUnless};
     ghost use Rattle.clk_ruled.specs.Queue.{IsShared};
-    ghost use Rattle.clk_ruled.specs.inside.Parts.{HaveLengths};
 
     /// No packets yet, with room for so many. Fault 1 if an allocation fails.
     pub fn none(alloc: Global, room: usize) -> Result<AcceptedPackets, Fault>
@@ -73,7 +73,6 @@ impl AcceptedPackets {
 
     /// How many they are.
     pub fn len(&self) -> usize
-        requires lengths { HaveLengths self.now.all.items self.now.lengths.items }
         ensures { result ≡ length self.now.all.items }
     {
         self.lengths.len()
@@ -87,7 +86,6 @@ impl AcceptedPackets {
         next: u32,
         refused: &[Packet],
     ) -> Result<Vec<Packet>, Fault>
-        requires lengths { HaveLengths self.now.all.items self.now.lengths.items }
         requires shared { IsShared sender next self.now.all.items refused.now }
         ensures list { IfOk result (λ list. list.items ≡ self.now.all.items) }
         ensures fault { IsOkUnless result Fault.Memory }

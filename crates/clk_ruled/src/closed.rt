@@ -28,13 +28,13 @@ impl Model for ClosedSeat {
     ghost use Rattle.crossbeam_queue.specs.Passes.{view as known};
     ghost use Rattle.clk_packet.specs.declared.packet.Kind.TheVariants.{FrontDrop};
     ghost use Rattle.clk_ruled.specs.Queue.{ClosedLists, IsShared};
-    ghost use Rattle.clk_ruled.specs.inside.Parts.{HaveLengths, SeatFits};
+    ghost use Rattle.clk_ruled.specs.inside.Parts.{SeatFits};
 
     ghost Value = { ClosedLists };
 
     ghost view = { λ c. record { lists = record { id = c.pass.table_id; setup = (known c.pass).setup; sender = c.sender; room = c.room; next = c.next; accepted = c.accepted.all.items; refused = c.refused.items; evicted = c.evicted.items }; is_gathered = c.gathered } };
 
-    ghost invariant = { λ c. (c.gathered ≡ false → SeatFits (known c.pass) c.sender c.room c.next c.accepted.all.items c.refused.items c.evicted.items) × (c.pass.me.1 ≡ []) × (c.next ≤ c.room) × IsShared c.sender c.next c.accepted.all.items c.refused.items × ((known c.pass).setup.kind ≡ FrontDrop → c.refused.items ≡ []) × HaveLengths c.accepted.all.items c.accepted.lengths.items };
+    ghost invariant = { λ c. (c.gathered ≡ false → SeatFits (known c.pass) c.sender c.room c.next c.accepted.all.items c.refused.items c.evicted.items) × (c.pass.me.1 ≡ []) × (c.next ≤ c.room) × IsShared c.sender c.next c.accepted.all.items c.refused.items × ((known c.pass).setup.kind ≡ FrontDrop → c.refused.items ≡ []) };
 }
 
 impl ClosedSeat {

@@ -30,13 +30,13 @@ impl Model for Seat {
     ghost use Rattle.std.specs.Prelude.{◌≡◌, ◌≤◌, [], vec_capacity};
     ghost use Rattle.crossbeam_queue.specs.Passes.{view as known};
     ghost use Rattle.clk_ruled.specs.Queue.{SeatLists};
-    ghost use Rattle.clk_ruled.specs.inside.Parts.{HaveLengths, SeatFits};
+    ghost use Rattle.clk_ruled.specs.inside.Parts.{SeatFits};
 
     ghost Value = { SeatLists };
 
     ghost view = { λ s. record { id = s.pass.table_id; setup = (known s.pass).setup; sender = s.sender; room = s.room; next = s.next; accepted = s.accepted.all.items; refused = s.refused.items; evicted = s.evicted.items } };
 
-    ghost invariant = { λ s. SeatFits (known s.pass) s.sender s.room s.next s.accepted.all.items s.refused.items s.evicted.items × (s.pass.me.1 ≡ []) × (s.room ≤ vec_capacity s.accepted.lengths) × (s.room ≤ vec_capacity s.refused) × (s.room ≤ vec_capacity s.evicted) × HaveLengths s.accepted.all.items s.accepted.lengths.items };
+    ghost invariant = { λ s. SeatFits (known s.pass) s.sender s.room s.next s.accepted.all.items s.refused.items s.evicted.items × (s.pass.me.1 ≡ []) × (s.room ≤ vec_capacity s.accepted.lengths) × (s.room ≤ vec_capacity s.refused) × (s.room ≤ vec_capacity s.evicted) };
 }
 
 impl Seat {

@@ -28,7 +28,7 @@ next c =
 pub index-requires : goal.index-requires
 index-requires c =
     let p = next c in
-    let inside = place-within c.args.self.now.all.items c.loop-number.packets.items p.more p.packet c.args.self.now.lengths.items c.requires.lengths p.all_are in
+    let inside = place-within c.args.self.now.all.items c.loop-number.packets.items p.more p.packet c.args.self.now.lengths.items c.args.self.now.lengths_are p.all_are in
     let place = c.len-in-loop-number.ensures in omega (arith, inside, place)
 
 -- its length
@@ -37,7 +37,7 @@ length-is c =
     let p = next c.before.before in
     let place : c.len-in-loop-number.result ≡ length c.loop-number.packets.items = (let is = c.len-in-loop-number.ensures in omega (arith, is)) in
     c.index.ensures ∙ ap (λ n. get_or c.args.self.now.lengths.items n c.index.result.now) place
-    ∙ length-next c.args.self.now.all.items c.loop-number.packets.items p.more p.packet c.args.self.now.lengths.items c.index.result.now c.requires.lengths p.all_are
+    ∙ length-next c.args.self.now.all.items c.loop-number.packets.items p.more p.packet c.args.self.now.lengths.items c.index.result.now c.args.self.now.lengths_are p.all_are
 
 pub invariant_of-push : goal.invariant_of-push
 invariant_of-push c =

@@ -5,7 +5,6 @@ use Rattle.clk_ruled.specs.declared.view.View.{View}
 use Rattle.clk_ruled.specs.Queue.{SeatLists}
 use Rattle.clk_ruled.specs.inside.Rule.{seat_view}
 use Rattle.clk_ruled.proofs.SeatSteps.{offers-after, may-offer, may-evict, places-within, fits-accepted, fits-refused, fits-evicted, refused-alone}
-use Rattle.clk_ruled.proofs.Listing.{lengths-more}
 use Rattle.clk_ruled.proofs.Offering.{offering, room-lengths, room-refused, room-evicted}
 use Rattle.clk_ruled.proofs.Steps.{accepts, evicts, learns}
 use Rattle.clk_ruled.proofs.seat.Seat.offer.Goals as goal
@@ -42,7 +41,6 @@ invariant_of-self g c =
       le_trans c.self.invariant.2 c.add.ensures.capacity,
       c.self.invariant.3,
       c.self.invariant.4,
-      lengths-more _ _ _ _ c.args.packet c.self.invariant.5 c.add.ensures.items c.add.ensures.lengths,
     )
 
 pub invariant_of-self-in-Err : goal.invariant_of-self-in-Err
@@ -68,7 +66,6 @@ invariant_of-self-in-None g c =
       le_trans c.self.invariant.2 c.add-in-None.ensures.capacity,
       c.self.invariant.3,
       c.self.invariant.4,
-      lengths-more _ _ _ _ c.args.packet c.self.invariant.5 c.add-in-None.ensures.items c.add-in-None.ensures.lengths,
     )
 
 pub invariant_of-self-in-Some : goal.invariant_of-self-in-Some
@@ -82,7 +79,6 @@ invariant_of-self-in-Some g c =
       le_trans c.self.invariant.2 c.add-in-Some.ensures.capacity,
       c.self.invariant.3,
       search rules,
-      lengths-more _ _ _ _ c.args.packet c.self.invariant.5 c.add-in-Some.ensures.items c.add-in-Some.ensures.lengths,
     )
 
 pub returns-in-Err-clause-lone : goal.returns-in-Err-clause-lone
