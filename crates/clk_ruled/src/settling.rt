@@ -103,12 +103,22 @@ fn take_seat(alloc: Global, seat: ClosedSeat, marks: &mut Marks) -> Result<Tally
     ensures shared { IsSharedOut seat.lists }
     ensures fault { IsOkUnless result Fault.Memory }
 {
-    marks.mark_all(alloc, seat.evicted())?;
-    let accepted = seat.accepted(alloc)?;
-    Ok(Tally {
-        sender: seat.sender,
+    let ClosedSeat {
+        sender,
+        next,
         accepted,
-        refused: Packets::from(seat.refused),
+        refused,
+        evicted,
+        ..
+    } = seat;
+    marks.mark_all(alloc, evicted.as_slice())?;
+    // This list is freed before that of the accepted packets is allocated.
+    drop(evicted);
+    let accepted = accepted.list(alloc, sender, next, refused.as_slice())?;
+    Ok(Tally {
+        sender,
+        accepted: Packets::from(accepted),
+        refused: Packets::from(refused),
         evicted: Packets::new(alloc),
     })
 }
