@@ -1,5 +1,5 @@
 -- A shared queue, its seats and its tap, as their callers see them.
-use Rattle.std.specs.Prelude.{◌≡◌, ℕ, ◌+◌, ◌≤◌, Bool, true, List, [], ◌∷◌, ◌++◌, length, min, max, map, ⊤, suc, Option, Some, None}
+use Rattle.std.specs.Prelude.{◌≡◌, ℕ, ◌+◌, ◌≤◌, Bool, true, List, [], ◌∷◌, ◌++◌, length, min, max, map, Option, Some, None}
 use Rattle.atomic_table.specs.Seated.{TableId}
 use Rattle.clk_packet.specs.declared.packet.Packet.{Packet}
 use Rattle.clk_packet.specs.declared.packet.Kind.{Kind}
