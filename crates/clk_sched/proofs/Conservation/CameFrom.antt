@@ -169,8 +169,7 @@ all-came tree log (node class inputs row) above first next pulled stands h obeys
 
 pub makes-nothing : (tree : Tree) → MakesNothing tree
 makes-nothing tree log run =
-    let all = all-came tree log (root tree) 0 0 1 (pulls log) (stands-root tree) (pulled-root tree log run) (run-rows tree log run) in
-    (
+    let all = all-came tree log (root tree) 0 0 1 (pulls log) (stands-root tree) (pulled-root tree log run) (run-rows tree log run) in (
       subst (AllFrom tree log (root tree)) (device-emits tree log run) (all.got 0 (omega (arith, root-width tree))),
       subst (AllFrom tree log (root tree)) (sym (tree-heads tree log)) all.held,
     )
