@@ -34,3 +34,15 @@ fn a_trace_goes_through_a_plan(rt: HostRuntime) -> Result<(), Fault> {
     }
     Ok(())
 }
+
+#[test]
+fn a_run_is_by_the_laws(rt: HostRuntime) -> Result<(), Fault> {
+    let plan = Plan::read(rt.alloc(), TREE.as_bytes())?;
+    let mut trace = FromRead::new(b"1,1500\n".as_slice());
+    let traces = Traces::read_csv(rt.alloc(), &mut trace)?;
+    let outcome = drain::run_by_the_laws(&rt, rt.alloc(), &rt, &plan, &traces)?;
+    for emitted in &outcome.emitted {
+        assert_eq!(rt; emitted.len(), 1);
+    }
+    Ok(())
+}

@@ -1,8 +1,8 @@
 //! The report: how many packets of each sender were sent, accepted, refused, evicted and emitted.
 
-ghost use Rattle.std.specs.Prelude.{◌≡◌, ℕ, ◌+◌, ◌*◌, ◌<◌, ◌≤◌, ◌++◌, List, All, drop, length};
+ghost use Rattle.std.specs.Prelude.{◌≡◌, ℕ, ◌+◌, ◌*◌, ◌<◌, ◌≤◌, ◌++◌, List, All, drop, length, IsOkUnless};
 ghost use Rattle.std.specs.List.{flat_map};
-ghost use Rattle.clk_packet.specs.Bytes.{Wrote};
+ghost use Rattle.clk_packet.specs.Bytes.{Wrote, write_failures};
 ghost use Rattle.clk_packet.specs.declared.packet.Packet.{Packet};
 ghost use Rattle.clk_packet.specs.Counts.{counts_of};
 ghost use Rattle.clk_report.specs.Counts.{counts_text};
@@ -60,8 +60,11 @@ pub fn report<W: Sink>(
 ///
 /// Fault 20 if the sink fails. It has then taken a front of the report.
 pub fn report_tallies<W: Sink>(tallies: &[Tally], writer: &mut W) -> Result<(), Fault>
-    ensures { (emitted : List Packet) → AccountFor emitted tallies.now → Wrote (W.Sink.taken writer.old) (W.Sink.taken writer.new)
+    ensures report { (emitted : List Packet) → AccountFor emitted tallies.now → Wrote (W.Sink.taken writer.old) (W.Sink.taken writer.new)
         (W.Sink.failures writer.old) (W.Sink.failures writer.new) result (report_text emitted tallies.now) }
+    // Whatever the tallies account for.
+    ensures fault { IsOkUnless result Fault.Write }
+    ensures failures { W.Sink.failures writer.new ≡ write_failures result (W.Sink.failures writer.old) }
 {
     // No sender stands in a table of no totals.
     write_lines::<0, W>(tallies, &[], writer)
@@ -106,9 +109,11 @@ fn write_lines<const N: usize, W: Sink>(
 ) -> Result<(), Fault>
     requires size { N ≤ SENDERS }
     requires few { length emitted.now ≤ MAX_DEVICES }
-    ensures { (out : List Packet) → TellsBelow N (all_emitted emitted.now) out → All (AccountsBeyond N out) tallies.now → Wrote (W.Sink.taken writer.old) (W.Sink.taken writer.new)
+    ensures lines { (out : List Packet) → TellsBelow N (all_emitted emitted.now) out → All (AccountsBeyond N out) tallies.now → Wrote (W.Sink.taken writer.old) (W.Sink.taken writer.new)
         (W.Sink.failures writer.old) (W.Sink.failures writer.new) result
         (flat_map (λ t. counts_text (counts_of out t)) tallies.now) }
+    ensures fault { IsOkUnless result Fault.Write }
+    ensures failures { W.Sink.failures writer.new ≡ write_failures result (W.Sink.failures writer.old) }
 {
     let mut totals = [NONE; N];
     count_by_sender(&mut totals, emitted);

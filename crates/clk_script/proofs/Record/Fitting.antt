@@ -13,7 +13,7 @@ use Rattle.clk_script.specs.Script.{Names, most_lines, most_moment, most_device,
 use Rattle.clk_script.specs.Meaning.{names_of, command_of}
 use Rattle.clk_script.specs.Record.{record_text, drain_count, IsSmall, FitsNames, OnlyFittingRecordsMean}
 use Rattle.clk_script.specs.inside.ScriptRouter.{IsSound}
-use Rattle.clk_script.proofs.ScriptLemmas.{each-command-sound}
+use Rattle.clk_script.proofs.Meanings.ScriptLemmas.{each-command-sound}
 use Rattle.clk_script.proofs.Record.Lines.{CanSay, line_said, drain_said, line-again, lines-record}
 use Rattle.clk_script.proofs.Record.Sound.{commands-are}
 

@@ -10,7 +10,7 @@ use Rattle.clk_script.specs.declared.script.ScriptLine.{ScriptLine}
 use Rattle.clk_script.specs.declared.script.ScriptLine.TheVariants as line
 use Rattle.clk_script.specs.Script.{send_of, pull_of, drain_of, lines_of, most_moment, most_device}
 use Rattle.clk_script.specs.Record.{command_text, drain_text, record_text, IsSmall}
-use Rattle.clk_script.proofs.PlainLines.{IsField, digits-field, line-spaced}
+use Rattle.clk_script.proofs.Texts.PlainLines.{IsField, digits-field, line-spaced}
 
 -- what the line of a command is read as: the command, or a malformed line where a number is out of range
 abbrev pub line_said : Command → ScriptLine

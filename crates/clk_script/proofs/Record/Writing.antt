@@ -12,7 +12,7 @@ use Rattle.clk_script.specs.declared.writer.ScriptWriter.{ScriptWriter}
 use Rattle.clk_script.specs.Record.{command_text, drain_text, record_text}
 use Rattle.clk_script.specs.Records.{Records}
 use Rattle.clk_script.specs.inside.Lines.{PassesOn}
-use Rattle.clk_script.proofs.PassLemmas.{front-after}
+use Rattle.clk_script.proofs.Texts.PassLemmas.{front-after}
 use Rattle.clk_script.proofs.Callers.Records.{command-more, drain-more}
 
 -- what was recorded, and a text after it

@@ -1,6 +1,6 @@
 use Rattle.std.proofs.Common.{rules}
 use Rattle.std.proofs.lemmas.List.Sorted.{answers_always}
-use Rattle.clk_drain.proofs.AtLeaf.{place-found, not-found}
+use Rattle.clk_drain.proofs.Leaves.AtLeaf.{place-found, not-found}
 use Rattle.clk_drain.proofs.at_leaf.place_of.Goals as goal
 
 pub returns-in-Ok : goal.returns-in-Ok

@@ -5,9 +5,9 @@ use Rattle.clk_sched.specs.Results.{emitted}
 use Rattle.clk_sched.specs.Session.{progress_of}
 use Rattle.clk_drain.specs.Line.{AreLinesOf}
 use Rattle.clk_drain.specs.Closing.{accepted_over, left_over}
-use Rattle.clk_drain.proofs.Still.{still-accepted, gathered-lines}
-use Rattle.clk_drain.proofs.Left.{fault-unsettled, drained-reached}
-use Rattle.clk_drain.proofs.Closed.{drained-over, emitted-told}
+use Rattle.clk_drain.proofs.Leaves.Still.{still-accepted, gathered-lines}
+use Rattle.clk_drain.proofs.Drains.Left.{fault-unsettled, drained-reached}
+use Rattle.clk_drain.proofs.Drains.Closed.{drained-over, emitted-told}
 use Rattle.clk_drain.proofs.closing.close.Goals as goal
 
 pub left-left-requires-clause-lines : goal.left-left-requires-clause-lines

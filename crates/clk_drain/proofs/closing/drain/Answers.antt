@@ -5,7 +5,7 @@ use Rattle.clk_sched.specs.Session.{progress_of, newly}
 use Rattle.clk_sched.specs.Answers.{tree_queue}
 use Rattle.clk_drain.specs.Line.{LineLists, PullsAt}
 use Rattle.clk_drain.specs.inside.Parts.{held_at}
-use Rattle.clk_drain.proofs.PulledLines.{answers-weaker, lines-drained}
+use Rattle.clk_drain.proofs.Leaves.PulledLines.{answers-weaker, lines-drained}
 use Rattle.clk_drain.proofs.closing.drain.Goals as goal
 
 -- an answer of a gathered line, which is one of a line

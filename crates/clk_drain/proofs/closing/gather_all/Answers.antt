@@ -1,5 +1,5 @@
 use Rattle.std.proofs.Common.{rules}
-use Rattle.clk_drain.proofs.LineSteps.{line-gathered, lines-gathered}
+use Rattle.clk_drain.proofs.Leaves.LineSteps.{line-gathered, lines-gathered}
 use Rattle.clk_drain.proofs.closing.gather_all.Goals as goal
 
 pub loop-line-preserved : goal.loop-line-preserved

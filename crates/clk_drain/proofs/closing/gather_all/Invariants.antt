@@ -1,4 +1,4 @@
-use Rattle.clk_drain.proofs.LineSteps.{AreGathering}
+use Rattle.clk_drain.proofs.Leaves.LineSteps.{AreGathering}
 use Rattle.clk_drain.proofs.closing.gather_all.Given as goal
 
 abbrev pub invariant-loop-line : goal.invariant-loop-line

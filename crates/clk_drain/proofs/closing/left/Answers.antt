@@ -1,6 +1,6 @@
 use Rattle.std.proofs.Common.{rules}
 use Rattle.clk_sched.specs.Session.{progress_of}
-use Rattle.clk_drain.proofs.Left.{rest-held}
+use Rattle.clk_drain.proofs.Drains.Left.{rest-held}
 use Rattle.clk_drain.proofs.closing.left.Goals as goal
 
 pub evicted-requires : goal.evicted-requires

@@ -1,6 +1,6 @@
 use Rattle.std.specs.Vec.Iter.{into_iter_items}
 use Rattle.std.proofs.lemmas.Result.{err_from_is_err_and}
-use Rattle.clk_drain.proofs.SettleSteps.{unsettled-next}
+use Rattle.clk_drain.proofs.Drains.SettleSteps.{unsettled-next}
 use Rattle.clk_drain.proofs.closing.settle_each.Goals as goal
 
 pub returns-in_err-more-clause-fault : goal.returns-in_err-more-clause-fault

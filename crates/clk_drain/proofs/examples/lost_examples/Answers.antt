@@ -5,7 +5,7 @@ use Rattle.clk_ruled.specs.Settle.{accepted_of, evicted_of, accepted_count, lost
 use Rattle.clk_sched.specs.Examples.Priority.{p0_0}
 use Rattle.clk_drain.specs.Lost.{SeatedQueue, HasReached}
 use Rattle.clk_drain.specs.LostExamples.{refusing, evicting, none_lost, evicting_another}
-use Rattle.clk_drain.proofs.WorkedLost.{refusing-lost, evicting-lost, named-alone, of-two, told}
+use Rattle.clk_drain.proofs.Runs.WorkedLost.{refusing-lost, evicting-lost, named-alone, of-two, told}
 use Rattle.clk_drain.proofs.examples.lost_examples.Goals as goal
 
 pub returns-clause-is_alone : goal.returns-clause-is_alone

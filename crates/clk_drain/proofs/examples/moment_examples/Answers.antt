@@ -7,7 +7,7 @@ use Rattle.clk_sched.specs.Session.{given_in, LastGives}
 use Rattle.clk_sched.specs.Tree.{queue}
 use Rattle.clk_drain.specs.Moments.{HasMoments}
 use Rattle.clk_drain.specs.RunExamples.{log_a, log_b, only_closing, pull_too_many, step_skipped, closing_late, closing_pauses, closing_goes_on, closing_waits}
-use Rattle.clk_drain.proofs.WorkedMoments.{moments-are, too-many, skipped, late, pauses, one-running, closing-is}
+use Rattle.clk_drain.proofs.Runs.WorkedMoments.{moments-are, too-many, skipped, late, pauses, one-running, closing-is}
 use Rattle.clk_drain.proofs.examples.moment_examples.Goals as goal
 
 pub returns-clause-is_two_steps : goal.returns-clause-is_two_steps

@@ -20,7 +20,7 @@ use Rattle.clk_drain.specs.Moments.{HasMoments}
 use Rattle.clk_drain.specs.Outcome.{SharedQueue, Device, senders_to, IsSettledOutcome, IsQueueSettled}
 use Rattle.clk_drain.specs.Run.{IsDeviceOf, AreDevicesFrom, IsRunOutcome}
 use Rattle.clk_drain.specs.RunExamples.{plan, wider_plan, scheduled_plan, traces, Lists, HasLists, log_a, log_b, pull_too_many, closing_late, closing_goes_on, run_lists, device_missing, device_too_many, log_missing, emitted_missing, logs_swapped, devices_swapped, in_other_list, tally_left_out, with_pull_too_many, with_closing_late, with_closing_goes_on}
-use Rattle.clk_drain.proofs.WorkedMoments.{moments-are, too-many, late, one-running, closing-is}
+use Rattle.clk_drain.proofs.Runs.WorkedMoments.{moments-are, too-many, late, one-running, closing-is}
 use Rattle.clk_drain.proofs.examples.run_examples.Goals as goal
 
 -- What a run of a plan with two devices came to, device by device.

@@ -1,8 +1,8 @@
 use Rattle.std.proofs.Common.{map, subst}
 use Rattle.clk_packet.specs.Lists.{AreRising}
 use Rattle.clk_tree.specs.PlanParts.{number_of}
-use Rattle.clk_drain.proofs.PlanSenders.{queues-apart}
-use Rattle.clk_drain.proofs.NoHeads.{runs-none}
+use Rattle.clk_drain.proofs.Plans.PlanSenders.{queues-apart}
+use Rattle.clk_drain.proofs.Runs.NoHeads.{runs-none}
 use Rattle.clk_drain.proofs.laws.runs_hold_nothing.Goals as goal
 
 pub returns : goal.returns

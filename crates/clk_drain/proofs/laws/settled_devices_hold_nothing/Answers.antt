@@ -1,4 +1,4 @@
-use Rattle.clk_drain.proofs.NoHeads.{settled-none}
+use Rattle.clk_drain.proofs.Runs.NoHeads.{settled-none}
 use Rattle.clk_drain.proofs.laws.settled_devices_hold_nothing.Goals as goal
 
 pub returns : goal.returns

@@ -1,5 +1,5 @@
 use Rattle.std.proofs.Common.{rules}
-use Rattle.clk_drain.proofs.GatherSteps.{gathering-more, gathered-all}
+use Rattle.clk_drain.proofs.Leaves.GatherSteps.{gathering-more, gathered-all}
 use Rattle.clk_drain.proofs.line.gather_seats.Goals as goal
 
 pub loop-seat-preserved : goal.loop-seat-preserved

@@ -1,4 +1,4 @@
-use Rattle.clk_drain.proofs.GatherSteps.{IsGathering}
+use Rattle.clk_drain.proofs.Leaves.GatherSteps.{IsGathering}
 use Rattle.clk_drain.proofs.line.gather_seats.Given as goal
 
 abbrev pub invariant-loop-seat : goal.invariant-loop-seat

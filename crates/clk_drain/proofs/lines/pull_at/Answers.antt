@@ -2,8 +2,8 @@ use Rattle.std.proofs.Common.{◌≡◌, false, Some, set, slice_get, rules}
 use Rattle.std.specs.List.{AllByRecursion}
 use Rattle.clk_drain.specs.Line.{has_line, leaves_of}
 use Rattle.clk_drain.specs.inside.Parts.{IsGathered}
-use Rattle.clk_drain.proofs.Placing.{IsAsked, unanswered, asked-at}
-use Rattle.clk_drain.proofs.Taking.{AreTaken, taken-at, none-taken}
+use Rattle.clk_drain.proofs.Leaves.Placing.{IsAsked, unanswered, asked-at}
+use Rattle.clk_drain.proofs.Leaves.Taking.{AreTaken, taken-at, none-taken}
 use Rattle.clk_drain.proofs.lines.pull_at.Given as given
 use Rattle.clk_drain.proofs.lines.pull_at.Goals as goal
 use Rattle.clk_drain.proofs.lines.pull_at.Goals.{After-lines-1}

@@ -8,8 +8,8 @@ use Rattle.clk_gate.specs.Known.{AreKnown}
 use Rattle.clk_drain.specs.declared.running.opening.LeafQueue.{LeafQueue}
 use Rattle.clk_drain.specs.inside.Threads.{Terms, Feed}
 use Rattle.clk_drain.specs.inside.Handed.{FitPlaces, AreAllUnused, IsReadyToClose, AreApartDevices}
-use Rattle.clk_drain.proofs.Opened.{unused-opened, unpulled-opened}
-use Rattle.clk_drain.proofs.WholeRun.{HasEnded, run-joined, answered-ok, answered-err}
+use Rattle.clk_drain.proofs.Threads.Opened.{unused-opened, unpulled-opened}
+use Rattle.clk_drain.proofs.Runs.WholeRun.{HasEnded, run-joined, answered-ok, answered-err}
 use Rattle.clk_drain.proofs.running.run_keeping.Given as given
 use Rattle.clk_drain.proofs.running.run_keeping.Goals as goal
 

@@ -15,11 +15,11 @@ none-beyond emitted tallies len n few within =
 pub returns-then-table_len-le-FEW : goal.returns-then-table_len-le-FEW
 returns-then-table_len-le-FEW g c =
     let emitted = all_emitted c.args.emitted.now in
-    let wrote = c.write_lines.ensures emitted (λ s within. refl) (none-beyond emitted c.args.tallies.now c.table_len.result 256 (omega arith) c.table_len.ensures.within) in
+    let wrote = c.write_lines.ensures.lines emitted (λ s within. refl) (none-beyond emitted c.args.tallies.now c.table_len.result 256 (omega arith) c.table_len.ensures.within) in
     rw (lines-are emitted c.args.tallies.now) at wrote
 
 pub returns-else-table_len-le-FEW : goal.returns-else-table_len-le-FEW
 returns-else-table_len-le-FEW g c =
     let emitted = all_emitted c.args.emitted.now in
-    let wrote = c.write_lines-else-table_len-le-FEW.ensures emitted (λ s within. refl) (none-beyond emitted c.args.tallies.now c.table_len.result 65536 c.table_len.ensures.limit c.table_len.ensures.within) in
+    let wrote = c.write_lines-else-table_len-le-FEW.ensures.lines emitted (λ s within. refl) (none-beyond emitted c.args.tallies.now c.table_len.result 65536 c.table_len.ensures.limit c.table_len.ensures.within) in
     rw (lines-are emitted c.args.tallies.now) at wrote

@@ -2,7 +2,7 @@ use Rattle.std.proofs.Common.{ℕ, arith}
 use Rattle.clk_report.proofs.ReportLemmas.{lines-are, all-account}
 use Rattle.clk_report.proofs.reports.report_tallies.Goals as goal
 
-pub returns : goal.returns
-returns g c emitted account =
-    let wrote = c.write_lines.ensures emitted (λ s within. absurd (omega (arith, within))) (all-account emitted c.args.tallies.now account) in
+pub returns-clause-report : goal.returns-clause-report
+returns-clause-report g c emitted account =
+    let wrote = c.write_lines.ensures.lines emitted (λ s within. absurd (omega (arith, within))) (all-account emitted c.args.tallies.now account) in
     rw (lines-are emitted c.args.tallies.now) at wrote

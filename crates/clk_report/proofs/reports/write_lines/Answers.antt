@@ -11,8 +11,8 @@ use Rattle.clk_report.proofs.TotalLemmas.{part-counted}
 use Rattle.clk_packet.specs.declared.tally.Tally.{Tally}
 use Rattle.clk_report.proofs.reports.write_lines.Goals as goal
 
-pub returns-in_err-write_all : goal.returns-in_err-write_all
-returns-in_err-write_all g c out told accounts =
+pub returns-in_err-write_all-clause-lines : goal.returns-in_err-write_all-clause-lines
+returns-in_err-write_all-clause-lines g c out told accounts =
     let p = err_from_is_err_and c.from_residual.result c.from_residual.ensures.1 in
     let part = c.split_at.result.0.now in
     let after = c.split_at.result.1.now in

@@ -6,7 +6,7 @@ use Rattle.std.proofs.lemmas.List.{with_items_is}
 use Rattle.clk_script.specs.Script.{most_lines}
 use Rattle.clk_script.specs.inside.ScriptRouter.{names_in}
 use Rattle.clk_script.specs.inside.Rows.{asked_by, Answers, IsToDo}
-use Rattle.clk_script.proofs.AnswerLemmas.{IsReady-answered, Answers-all, closings-kept}
+use Rattle.clk_script.proofs.Carrying.AnswerLemmas.{IsReady-answered, Answers-all, closings-kept}
 use Rattle.clk_script.proofs.answer.answer_script.Goals as goal
 
 pub close-requires-clause-ready : goal.close-requires-clause-ready

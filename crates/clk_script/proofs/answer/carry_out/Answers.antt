@@ -1,4 +1,4 @@
-use Rattle.clk_script.proofs.AnswerLemmas.{IsCarriedTo-ready, IsCarriedTo-more}
+use Rattle.clk_script.proofs.Carrying.AnswerLemmas.{IsCarriedTo-ready, IsCarriedTo-more}
 use Rattle.clk_script.proofs.answer.carry_out.Goals as goal
 
 pub carry_out_one-requires-clause-ready : goal.carry_out_one-requires-clause-ready

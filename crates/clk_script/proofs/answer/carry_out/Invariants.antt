@@ -1,5 +1,5 @@
 use Rattle.std.proofs.Common.{◌-◌, length}
-use Rattle.clk_script.proofs.AnswerLemmas.{IsCarriedTo}
+use Rattle.clk_script.proofs.Carrying.AnswerLemmas.{IsCarriedTo}
 use Rattle.clk_script.proofs.answer.carry_out.Given as goal
 
 abbrev pub invariant-loop-i : goal.invariant-loop-i

@@ -2,7 +2,7 @@ use Rattle.std.proofs.Common.{sym, subst}
 use Rattle.clk_router.specs.Course.{CanPull}
 use Rattle.clk_script.specs.inside.ScriptRouter.{names_in}
 use Rattle.clk_script.specs.inside.Rows.{IsToDo}
-use Rattle.clk_script.proofs.ScriptRouterLemmas.{can-pull}
+use Rattle.clk_script.proofs.Carrying.ScriptRouterLemmas.{can-pull}
 use Rattle.clk_script.proofs.answer.carry_out_one.Goals as goal
 
 pub pull-requires : goal.pull-requires

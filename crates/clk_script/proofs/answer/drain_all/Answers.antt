@@ -1,7 +1,7 @@
 use Rattle.std.proofs.Common.{◌+◌, [], ◌∷◌, ap, subst, sym, ◌∙◌, arith}
 use Rattle.std.proofs.lemmas.List.{map-append}
 use Rattle.clk_report.specs.Devices.{lists_of}
-use Rattle.clk_script.proofs.DrainLemmas.{IsClosedTo, IsClosedTo-none, IsClosedTo-can, IsClosedTo-more, all-closed}
+use Rattle.clk_script.proofs.Carrying.DrainLemmas.{IsClosedTo, IsClosedTo-none, IsClosedTo-can, IsClosedTo-more, all-closed}
 use Rattle.clk_script.proofs.answer.drain_all.Goals as goal
 
 pub loop-alloc-init : goal.loop-alloc-init

@@ -1,6 +1,6 @@
 use Rattle.std.proofs.Common.{◌-◌, length}
 use Rattle.clk_report.specs.Devices.{lists_of}
-use Rattle.clk_script.proofs.DrainLemmas.{IsClosedTo}
+use Rattle.clk_script.proofs.Carrying.DrainLemmas.{IsClosedTo}
 use Rattle.clk_script.proofs.answer.drain_all.Given as goal
 
 abbrev pub invariant-loop-alloc : goal.invariant-loop-alloc

@@ -1,7 +1,7 @@
 use Rattle.std.proofs.Common.{arith, ◌<◌, ◌==◌, length, rules}
 use Rattle.std.specs.List.{position_or_len}
 use Rattle.std.proofs.lemmas.List.{nil_from_length, take_all, take_rest, drop-drop}
-use Rattle.clk_script.proofs.FieldLemmas.{lines-first, lines-last}
+use Rattle.clk_script.proofs.Texts.FieldLemmas.{lines-first, lines-last}
 use Rattle.clk_script.proofs.fields.first_line.Goals as goal
 
 pub returns-in-empty-clause-line : goal.returns-in-empty-clause-line

@@ -1,7 +1,7 @@
 use Rattle.std.proofs.Common.{arith, ◌≡◌, ◌<◌, ◌*◌, ◌+◌, ◌-◌, ◌∷◌, [], ◌∙◌, ap, sym, subst, refl, drop, length, slice_index_or, rules}
 use Rattle.std.proofs.lemmas.Bool.Decides.{nat_tests}
 use Rattle.std.proofs.lemmas.List.{drop_more, drop_all}
-use Rattle.clk_script.proofs.NumberLemmas.{Reads, Reads-none, Reads-digit, field_of, field_of-blank, number-missing, number-read, number-too_large}
+use Rattle.clk_script.proofs.Texts.NumberLemmas.{Reads, Reads-none, Reads-digit, field_of, field_of-blank, number-missing, number-read, number-too_large}
 use Rattle.clk_script.proofs.fields.first_number.Goals.{else-loop-byte-test, then-loop-byte-test+then-not-is_ascii_digit+else-not-is_blank}
 use Rattle.clk_script.proofs.fields.first_number.Goals as goal
 

@@ -1,5 +1,5 @@
 use Rattle.std.proofs.Common.{◌≡◌, ◌≤◌, drop}
-use Rattle.clk_script.proofs.NumberLemmas.{Reads}
+use Rattle.clk_script.proofs.Texts.NumberLemmas.{Reads}
 use Rattle.clk_script.proofs.fields.first_number.Given as goal
 
 abbrev pub invariant-loop-byte : goal.invariant-loop-byte

@@ -1,5 +1,5 @@
 use Rattle.std.proofs.Common.{Some, None}
-use Rattle.clk_script.proofs.FieldLemmas.{first-feed}
+use Rattle.clk_script.proofs.Texts.FieldLemmas.{first-feed}
 use Rattle.clk_script.proofs.fields.line_len.Goals as goal
 
 pub returns-in-Some-clause-place : goal.returns-in-Some-clause-place

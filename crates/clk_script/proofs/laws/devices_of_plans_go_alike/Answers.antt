@@ -4,7 +4,7 @@ use Rattle.clk_packet.specs.Lists.{AreRising}
 use Rattle.clk_tree.specs.PlanParts.{queues_of, number_of, SendsWithin}
 use Rattle.clk_router.specs.Events.{plan_setup}
 use Rattle.clk_router.proofs.Callers.Plans.{plan-wired, plan-apart}
-use Rattle.clk_script.proofs.Apart.{devices-alike}
+use Rattle.clk_script.proofs.Meanings.Apart.{devices-alike}
 use Rattle.clk_script.proofs.laws.devices_of_plans_go_alike.Goals as goal
 
 pub returns : goal.returns

@@ -1,4 +1,4 @@
-use Rattle.clk_script.proofs.Apart.{devices-apart}
+use Rattle.clk_script.proofs.Meanings.Apart.{devices-apart}
 use Rattle.clk_script.proofs.laws.devices_stand_apart.Goals as goal
 
 pub returns : goal.returns

@@ -1,5 +1,5 @@
 use Rattle.std.proofs.Common.{refl}
-use Rattle.clk_script.proofs.OneDevice.{meaning-alone, meaning-several}
+use Rattle.clk_script.proofs.Meanings.OneDevice.{meaning-alone, meaning-several}
 use Rattle.clk_script.proofs.laws.one_device_needs_no_number.Goals as goal
 
 pub returns-clause-alone : goal.returns-clause-alone

@@ -3,7 +3,7 @@ use Rattle.std.specs.List.{AllByRecursion}
 use Rattle.clk_tree.specs.PlanParts.{queues_of, SendsWithin}
 use Rattle.clk_router.specs.Events.{plan_setup}
 use Rattle.clk_router.proofs.Callers.Plans.{plan-wired}
-use Rattle.clk_script.proofs.OneTree.{plan-one_meaning, plan-one_log}
+use Rattle.clk_script.proofs.Meanings.OneTree.{plan-one_meaning, plan-one_log}
 use Rattle.clk_script.proofs.laws.plans_have_at_most_one_meaning.Goals as goal
 
 pub returns-clause-texts : goal.returns-clause-texts

@@ -1,5 +1,5 @@
 use Rattle.clk_script.specs.Examples.{two_queues}
-use Rattle.clk_script.proofs.OneMeaning.{has-one_meaning, has-one_log, two_queues-wired}
+use Rattle.clk_script.proofs.Meanings.OneMeaning.{has-one_meaning, has-one_log, two_queues-wired}
 use Rattle.clk_script.proofs.laws.scripts_have_at_most_one_meaning.Goals as goal
 
 pub returns-clause-wired : goal.returns-clause-wired

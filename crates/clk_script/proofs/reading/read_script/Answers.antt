@@ -3,7 +3,7 @@ use Rattle.std.proofs.lemmas.Bool.Decides.{nat_tests}
 use Rattle.std.proofs.lemmas.List.{take-append-le}
 use Rattle.clk_script.specs.inside.ScriptRouter.{named_by}
 use Rattle.clk_script.specs.inside.Reading.{HasCome}
-use Rattle.clk_script.proofs.SourceLemmas.{front-is, front-put, piece-fits, consumed-piece, consumed-takes, consumed-ended, not-read-long, ended, ended-failures}
+use Rattle.clk_script.proofs.Texts.SourceLemmas.{front-is, front-put, piece-fits, consumed-piece, consumed-takes, consumed-ended, not-read-long, ended, ended-failures}
 use Rattle.clk_script.proofs.reading.read_script.Goals as goal
 
 pub returns-then-count-eq0-clause-read : goal.returns-then-count-eq0-clause-read

@@ -1,5 +1,5 @@
 use Rattle.std.proofs.Common.{rules}
-use Rattle.clk_script.proofs.ReadingLemmas.{known-at}
+use Rattle.clk_script.proofs.Texts.ReadingLemmas.{known-at}
 use Rattle.clk_script.proofs.reading.row_asked.Goals as goal
 
 pub returns-in-Some : goal.returns-in-Some

@@ -1,7 +1,7 @@
 use Rattle.std.proofs.Common.{rules}
 use Rattle.std.proofs.lemmas.List.{take_all}
 use Rattle.std.proofs.lemmas.Result.{err_from_is_err_and}
-use Rattle.clk_script.proofs.HeldLemmas.{held-more, held-none-left, held-lost}
+use Rattle.clk_script.proofs.Carrying.HeldLemmas.{held-more, held-none-left, held-lost}
 use Rattle.clk_script.proofs.replay.hold.Goals as goal
 
 pub returns-then-visits-capacity : goal.returns-then-visits-capacity

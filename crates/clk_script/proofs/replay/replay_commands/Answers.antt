@@ -3,8 +3,8 @@ use Rattle.std.proofs.lemmas.Result.{err_from_is_err_and}
 use Rattle.clk_packet.specs.Lists.{AreRising}
 use Rattle.clk_router.specs.Course.{Course}
 use Rattle.clk_router.specs.Events.{Setup, sender_numbers}
-use Rattle.clk_script.proofs.CarriedLemmas.{few-rows, none-left, carried-then, carried-elsewhere}
-use Rattle.clk_script.proofs.ReplayLemmas.{rows-written, left-asked, none-drained, all-drained}
+use Rattle.clk_script.proofs.Carrying.CarriedLemmas.{few-rows, none-left, carried-then, carried-elsewhere}
+use Rattle.clk_script.proofs.Carrying.ReplayLemmas.{rows-written, left-asked, none-drained, all-drained}
 use Rattle.clk_script.proofs.replay.replay_commands.Goals as goal
 
 pub returns-in_err-replay_rows-clause-visits : goal.returns-in_err-replay_rows-clause-visits

@@ -1,5 +1,5 @@
 use Rattle.std.proofs.lemmas.Result.{err_from_is_err_and}
-use Rattle.clk_script.proofs.HeldLemmas.{held-all}
+use Rattle.clk_script.proofs.Carrying.HeldLemmas.{held-all}
 use Rattle.clk_script.proofs.replay.replay_device.Goals as goal
 
 pub returns-in_err-visit_rows-clause-wrote : goal.returns-in_err-visit_rows-clause-wrote

@@ -7,7 +7,7 @@ use Rattle.clk_sched.specs.declared.visit.Visit.{Visit}
 use Rattle.clk_router.specs.Course.{events_of}
 use Rattle.clk_router.specs.Events.{Setup, log_of}
 use Rattle.clk_script.specs.inside.Replay.{device_rows}
-use Rattle.clk_script.proofs.ReplayLemmas.{rows-then, rows-cut, replay-still}
+use Rattle.clk_script.proofs.Carrying.ReplayLemmas.{rows-then, rows-cut, replay-still}
 use Rattle.clk_script.proofs.replay.replay_devices.Goals as goal
 
 pub returns-in_err-replay_device : goal.returns-in_err-replay_device

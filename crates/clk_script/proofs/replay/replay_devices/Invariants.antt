@@ -3,7 +3,7 @@ use Rattle.clk_packet.specs.Bytes.{Wrote}
 use Rattle.clk_router.specs.Course.{events_of}
 use Rattle.clk_router.specs.Events.{log_of}
 use Rattle.clk_script.specs.inside.Replay.{CanReplay}
-use Rattle.clk_script.proofs.ReplayLemmas.{rows_to}
+use Rattle.clk_script.proofs.Carrying.ReplayLemmas.{rows_to}
 use Rattle.clk_script.proofs.replay.replay_devices.Given as goal
 
 abbrev pub invariant-loop-column : goal.invariant-loop-column

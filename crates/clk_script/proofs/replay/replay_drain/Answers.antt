@@ -1,6 +1,6 @@
 use Rattle.std.proofs.Common.{ap, ◌∙◌, arith, rules}
 use Rattle.std.proofs.lemmas.Result.{err_from_is_err_and}
-use Rattle.clk_script.proofs.CarriedLemmas.{carried-none, can-pull-on, pulled-on, pulls-all, pulls-failed}
+use Rattle.clk_script.proofs.Carrying.CarriedLemmas.{carried-none, can-pull-on, pulled-on, pulls-all, pulls-failed}
 use Rattle.clk_script.proofs.replay.replay_drain.Goals as goal
 
 pub loop-moment-init : goal.loop-moment-init

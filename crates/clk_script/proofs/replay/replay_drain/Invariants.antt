@@ -1,5 +1,5 @@
 use Rattle.std.proofs.Common.{◌-◌, ◌≤◌}
-use Rattle.clk_script.proofs.CarriedLemmas.{PulledTo}
+use Rattle.clk_script.proofs.Carrying.CarriedLemmas.{PulledTo}
 use Rattle.clk_script.proofs.replay.replay_drain.Given as goal
 
 abbrev pub invariant-loop-moment : goal.invariant-loop-moment

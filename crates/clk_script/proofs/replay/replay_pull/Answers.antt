@@ -1,7 +1,7 @@
 use Rattle.std.proofs.Common.{ap, subst, ◌∙◌}
 use Rattle.clk_router.specs.Course.{IsPulled}
 use Rattle.clk_script.specs.inside.Replay.{HeldOn}
-use Rattle.clk_script.proofs.CarriedLemmas.{latest-pulled}
+use Rattle.clk_script.proofs.Carrying.CarriedLemmas.{latest-pulled}
 use Rattle.clk_script.proofs.replay.replay_pull.Goals as goal
 
 pub returns : goal.returns

@@ -4,7 +4,7 @@ use Rattle.clk_router.specs.Course.{events_of, sender_at, CanPull}
 use Rattle.clk_script.specs.Meaning.{names_of}
 use Rattle.clk_script.specs.Script.{most_lines}
 use Rattle.clk_script.specs.inside.Rows.{IsToDo}
-use Rattle.clk_script.proofs.CarriedLemmas.{asked-send, asked-elsewhere, pull-elsewhere, can-offer-there, can-pull-there, carried-none, carried-offer, sends-there}
+use Rattle.clk_script.proofs.Carrying.CarriedLemmas.{asked-send, asked-elsewhere, pull-elsewhere, can-offer-there, can-pull-there, carried-none, carried-offer, sends-there}
 use Rattle.clk_script.proofs.replay.replay_row.Goals as goal
 
 pub offer-requires-clause-can : goal.offer-requires-clause-can

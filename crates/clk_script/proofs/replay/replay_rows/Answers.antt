@@ -1,6 +1,6 @@
 use Rattle.std.proofs.Common.{refl, arith}
 use Rattle.std.proofs.lemmas.Result.{err_from_is_err_and}
-use Rattle.clk_script.proofs.CarriedLemmas.{carried-none, carried-next, carried-row, carried-all, carried-failed}
+use Rattle.clk_script.proofs.Carrying.CarriedLemmas.{carried-none, carried-next, carried-row, carried-all, carried-failed}
 use Rattle.clk_script.proofs.replay.replay_rows.Goals as goal
 
 pub loop-row-init : goal.loop-row-init

@@ -1,4 +1,4 @@
-use Rattle.clk_script.proofs.CarriedLemmas.{CarriedTo}
+use Rattle.clk_script.proofs.Carrying.CarriedLemmas.{CarriedTo}
 use Rattle.clk_script.proofs.replay.replay_rows.Given as goal
 
 abbrev pub invariant-loop-row : goal.invariant-loop-row

@@ -1,4 +1,4 @@
-use Rattle.clk_script.proofs.ReportLemmas.{accounts-tell}
+use Rattle.clk_script.proofs.Carrying.ReportLemmas.{accounts-tell}
 use Rattle.clk_script.proofs.report.accounts_tell.Goals as goal
 
 pub returns : goal.returns

@@ -5,7 +5,7 @@ use Rattle.clk_report.proofs.Callers.Texts.{HasWritten-part, Wrote-part}
 use Rattle.clk_packet.specs.declared.counts.Total.{Total}
 use Rattle.clk_router.specs.declared.accounts.Account.{Account}
 use Rattle.clk_script.specs.AccountLines.{account_line}
-use Rattle.clk_script.proofs.ReportLemmas.{accounts-more}
+use Rattle.clk_script.proofs.Carrying.ReportLemmas.{accounts-more}
 use Rattle.clk_script.proofs.report.write_accounts.Goals as goal
 
 -- what would stand beyond the accounts

@@ -8,8 +8,8 @@ use Rattle.clk_script.specs.declared.answer.Answer.{Answer}
 use Rattle.clk_script.specs.inside.ScriptRouter.{names_in, Starts}
 use Rattle.clk_script.specs.inside.Rows.{asked_by, Answers, CanBeRun}
 use Rattle.clk_script.specs.inside.Replay.{IsAnswerOver}
-use Rattle.clk_script.proofs.RefusalLemmas.{not-read-why, names-told, names-opened, answer-over}
-use Rattle.clk_script.proofs.SourceLemmas.{source-sound}
+use Rattle.clk_script.proofs.Meanings.RefusalLemmas.{not-read-why, names-told, names-opened, answer-over}
+use Rattle.clk_script.proofs.Texts.SourceLemmas.{source-sound}
 use Rattle.clk_script.proofs.run.answer_over.Goals as goal
 
 pub answer_script-requires-clause-sound : goal.answer_script-requires-clause-sound

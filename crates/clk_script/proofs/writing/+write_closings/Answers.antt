@@ -1,7 +1,7 @@
 use Rattle.std.proofs.lemmas.List.{take_rest}
 use Rattle.std.proofs.lemmas.Result.{err_from_is_err_and}
-use Rattle.clk_script.proofs.RowLemmas.{closings-first}
-use Rattle.clk_script.proofs.PassLemmas.{PassesOn-then, PassesOn-cut}
+use Rattle.clk_script.proofs.Carrying.RowLemmas.{closings-first}
+use Rattle.clk_script.proofs.Texts.PassLemmas.{PassesOn-then, PassesOn-cut}
 use Rattle.clk_script.proofs.writing.+write_closings.Goals as goal
 
 pub returns-in_err-write_departures : goal.returns-in_err-write_departures

@@ -6,7 +6,7 @@ use Rattle.clk_report.specs.Devices.{lists_of}
 use Rattle.clk_script.specs.AccountLines.{account_line}
 use Rattle.clk_script.specs.Meaning.{has_several}
 use Rattle.clk_script.specs.inside.Rows.{given_of, rows_text, closings_text, closings_of, ending_of}
-use Rattle.clk_script.proofs.PassLemmas.{PassesOn-then, Wrote-passed, Wrote-front}
+use Rattle.clk_script.proofs.Texts.PassLemmas.{PassesOn-then, Wrote-passed, Wrote-front}
 use Rattle.clk_script.proofs.writing.write_answer.Goals as goal
 
 pub returns-in_err-write_rows : goal.returns-in_err-write_rows

@@ -1,7 +1,7 @@
 use Rattle.std.proofs.Common.{◌∙◌, arith}
 use Rattle.std.proofs.lemmas.Result.{err_from_is_err_and}
 use Rattle.clk_script.specs.inside.ScriptRouter.{departure_text}
-use Rattle.clk_script.proofs.PassLemmas.{HasPassed-more, HasPassed-cut, line-alone, pieces-left}
+use Rattle.clk_script.proofs.Texts.PassLemmas.{HasPassed-more, HasPassed-cut, line-alone, pieces-left}
 use Rattle.clk_script.proofs.writing.write_departures.Goals as goal
 
 pub returns-in_err-add : goal.returns-in_err-add

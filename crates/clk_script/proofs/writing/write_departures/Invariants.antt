@@ -1,7 +1,7 @@
 use Rattle.std.proofs.Common.{◌≡◌, drop, length}
 use Rattle.std.specs.List.{flat_map}
 use Rattle.clk_script.specs.inside.ScriptRouter.{departure_text}
-use Rattle.clk_script.proofs.PassLemmas.{HasPassed}
+use Rattle.clk_script.proofs.Texts.PassLemmas.{HasPassed}
 use Rattle.clk_script.proofs.writing.write_departures.Given as goal
 
 -- the lines of the departures before this place are passed on

@@ -1,8 +1,8 @@
 use Rattle.std.proofs.Common.{◌+◌, ◌∙◌, drop, ap₂, sym, ◌++◌, arith}
 use Rattle.std.proofs.lemmas.Result.{err_from_is_err_and}
 use Rattle.clk_script.specs.inside.Rows.{row_text, rows_text}
-use Rattle.clk_script.proofs.PassLemmas.{HasPassed-more, HasPassed-cut, line-alone}
-use Rattle.clk_script.proofs.RowLemmas.{rows-left}
+use Rattle.clk_script.proofs.Texts.PassLemmas.{HasPassed-more, HasPassed-cut, line-alone}
+use Rattle.clk_script.proofs.Carrying.RowLemmas.{rows-left}
 use Rattle.clk_script.proofs.writing.write_rows.Goals as goal
 
 pub returns-in_err-add : goal.returns-in_err-add

@@ -1,6 +1,6 @@
 use Rattle.std.proofs.Common.{◌≡◌, drop, length}
 use Rattle.clk_script.specs.inside.Rows.{rows_text}
-use Rattle.clk_script.proofs.PassLemmas.{HasPassed}
+use Rattle.clk_script.proofs.Texts.PassLemmas.{HasPassed}
 use Rattle.clk_script.proofs.writing.write_rows.Given as goal
 
 -- the lines of the rows before this place are passed on, and these packets are left to name

@@ -6,7 +6,7 @@ use Rattle.std.proofs.lemmas.Result.{err_from_is_err_and}
 use Rattle.clk_packet.specs.declared.tally.Tally.{Tally}
 use Rattle.clk_sched.specs.Session.{progress_of}
 use Rattle.clk_drain.specs.inside.Threads.{Feed}
-use Rattle.clk_drain.proofs.ClosingSteps.{AreClosing, closing-more, next-ready, next-fault, all-closed}
+use Rattle.clk_drain.proofs.Drains.ClosingSteps.{AreClosing, closing-more, next-ready, next-fault, all-closed}
 use Rattle.clk_drain.proofs.running.closing.close_devices.Goals as goal
 
 pub returns-in_err-with_capacity-clause-fault : goal.returns-in_err-with_capacity-clause-fault

@@ -1,5 +1,5 @@
 use Rattle.std.specs.Vec.Iter.{into_iter_items}
-use Rattle.clk_drain.proofs.ClosingSteps.{AreClosing}
+use Rattle.clk_drain.proofs.Drains.ClosingSteps.{AreClosing}
 use Rattle.clk_drain.proofs.running.closing.close_devices.Given as goal
 
 abbrev pub invariant-loop-session : goal.invariant-loop-session

@@ -1,6 +1,6 @@
 use Rattle.std.proofs.Common.{ap, ◌∙◌, rules}
 use Rattle.clk_sched.specs.Session.{SessionLists}
-use Rattle.clk_drain.proofs.DeviceSteps.{opened-device}
+use Rattle.clk_drain.proofs.Threads.DeviceSteps.{opened-device}
 use Rattle.clk_drain.proofs.running.devices.open_device.Goals as goal
 
 pub returns-clause-opened : goal.returns-clause-opened

@@ -1,5 +1,5 @@
 use Rattle.std.proofs.Common.{rules}
-use Rattle.clk_drain.proofs.DeviceSteps.{open-below}
+use Rattle.clk_drain.proofs.Threads.DeviceSteps.{open-below}
 use Rattle.clk_drain.proofs.running.devices.open_devices.Goals as goal
 use Rattle.clk_packet.proofs.Callers.Lists.{all-append}
 

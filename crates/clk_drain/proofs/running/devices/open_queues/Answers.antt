@@ -1,6 +1,6 @@
 use Rattle.std.proofs.Common.{◌≡◌, sym, subst, arith, rules}
 use Rattle.clk_tree.specs.PlanParts.{queued, queues_of}
-use Rattle.clk_drain.proofs.DeviceSteps.{IsQueueOf, queue-of, opened-more, opened-same}
+use Rattle.clk_drain.proofs.Threads.DeviceSteps.{IsQueueOf, queue-of, opened-more, opened-same}
 use Rattle.clk_drain.proofs.running.devices.open_queues.Goals.{then-queue-device+in_ok-open_queue, else-queue-device}
 use Rattle.clk_drain.proofs.running.devices.open_queues.Goals as goal
 

@@ -1,6 +1,6 @@
 use Rattle.std.proofs.Common.{◌≡◌}
 use Rattle.clk_tree.specs.PlanParts.{queues_of}
-use Rattle.clk_drain.proofs.DeviceSteps.{AreOpening}
+use Rattle.clk_drain.proofs.Threads.DeviceSteps.{AreOpening}
 use Rattle.clk_drain.proofs.running.devices.open_queues.Given as goal
 
 abbrev pub invariant-loop-queue : goal.invariant-loop-queue

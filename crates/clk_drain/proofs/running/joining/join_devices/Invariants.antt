@@ -1,6 +1,6 @@
 use Rattle.std.specs.Vec.Iter.{into_iter_items}
 use Rattle.clk_drain.specs.inside.Handed.{joined_feeds}
-use Rattle.clk_drain.proofs.JoinSteps.{AreJoiningDevices}
+use Rattle.clk_drain.proofs.Threads.JoinSteps.{AreJoiningDevices}
 use Rattle.clk_drain.proofs.running.joining.join_devices.Given as goal
 
 abbrev pub invariant-loop-its_queues : goal.invariant-loop-its_queues

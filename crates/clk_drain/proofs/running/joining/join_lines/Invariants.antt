@@ -1,6 +1,6 @@
 use Rattle.std.specs.Vec.Iter.{into_iter_items}
 use Rattle.clk_drain.specs.inside.Handed.{joined_lines}
-use Rattle.clk_drain.proofs.JoinSteps.{AreJoining}
+use Rattle.clk_drain.proofs.Threads.JoinSteps.{AreJoining}
 use Rattle.clk_drain.proofs.running.joining.join_lines.Given as goal
 
 abbrev pub invariant-loop-leaf : goal.invariant-loop-leaf

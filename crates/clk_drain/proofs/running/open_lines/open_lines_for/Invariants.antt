@@ -1,5 +1,5 @@
 use Rattle.std.specs.Vec.Iter.{into_iter_items}
-use Rattle.clk_drain.proofs.HandSteps.{AreOpenLines}
+use Rattle.clk_drain.proofs.Threads.HandSteps.{AreOpenLines}
 use Rattle.clk_drain.proofs.running.open_lines.open_lines_for.Given as goal
 
 abbrev pub invariant-loop-tap : goal.invariant-loop-tap

@@ -1,6 +1,6 @@
 use Rattle.std.proofs.Common.{rules, ap, ◌∙◌}
 use Rattle.clk_drain.specs.inside.Opening.{rooms_for}
-use Rattle.clk_drain.proofs.Rooms.{rooms-named, rooms-few}
+use Rattle.clk_drain.proofs.Plans.Rooms.{rooms-named, rooms-few}
 use Rattle.clk_drain.proofs.running.opening.open_queue.Goals as goal
 
 pub open_keeping-requires-clause-rising : goal.open_keeping-requires-clause-rising

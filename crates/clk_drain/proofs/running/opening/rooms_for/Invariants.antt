@@ -1,4 +1,4 @@
-use Rattle.clk_drain.proofs.Rooms.{AreRooms}
+use Rattle.clk_drain.proofs.Plans.Rooms.{AreRooms}
 use Rattle.clk_drain.proofs.running.opening.rooms_for.Given as goal
 
 abbrev pub invariant-loop-sender : goal.invariant-loop-sender

@@ -1,6 +1,6 @@
 use Rattle.std.proofs.Common.{slice_get, ap, sym, ◌∙◌, rules}
 use Rattle.clk_packet.specs.Trace.{sent_by}
-use Rattle.clk_drain.proofs.Offered.{offered-next, next-is, none-past}
+use Rattle.clk_drain.proofs.Leaves.Offered.{offered-next, next-is, none-past}
 use Rattle.clk_drain.proofs.running.producer.offer_next.Goals as goal
 
 pub returns-in-Some-clause-offered : goal.returns-in-Some-clause-offered

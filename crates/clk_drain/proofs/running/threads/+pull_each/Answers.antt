@@ -1,7 +1,7 @@
 use Rattle.std.proofs.Common.{List, sym, subst, rules, arith}
 use Rattle.clk_drain.specs.inside.Threads.{EndLists}
 use Rattle.clk_drain.specs.inside.Handed.{AreTapsOf, IsUnpulledOver, HavePulled}
-use Rattle.clk_drain.proofs.Ended.{placed-of, unpulled-at, pulled-at}
+use Rattle.clk_drain.proofs.Threads.Ended.{placed-of, unpulled-at, pulled-at}
 use Rattle.clk_drain.proofs.running.threads.+pull_each.Goals as goal
 
 pub bounds-queues-len : goal.bounds-queues-len

@@ -1,5 +1,5 @@
 use Rattle.std.proofs.Common.{◌≡◌, [], rules, arith}
-use Rattle.clk_drain.proofs.Ended.{pairs-of, next-seat, next-queue, next-device, fewer-queues, fewer-devices}
+use Rattle.clk_drain.proofs.Threads.Ended.{pairs-of, next-seat, next-queue, next-device, fewer-queues, fewer-devices}
 use Rattle.clk_drain.proofs.running.threads.+send_and_pull.Goals as goal
 
 pub start_sending-requires-clause-unused : goal.start_sending-requires-clause-unused

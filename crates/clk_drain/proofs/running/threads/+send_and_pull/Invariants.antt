@@ -1,4 +1,4 @@
-use Rattle.clk_drain.proofs.Ended.{steps_left}
+use Rattle.clk_drain.proofs.Threads.Ended.{steps_left}
 use Rattle.clk_drain.proofs.running.threads.+send_and_pull.Given as goal
 
 abbrev pub decreases-send_and_pull : goal.decreases-send_and_pull

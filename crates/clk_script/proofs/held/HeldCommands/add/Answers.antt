@@ -4,7 +4,7 @@ use Rattle.std.specs.List.{flat_map}
 use Rattle.std.proofs.lemmas.Result.{err_from_is_err_and}
 use Rattle.clk_script.specs.declared.script.Command.{Command}
 use Rattle.clk_script.specs.Record.{command_text}
-use Rattle.clk_script.proofs.PassLemmas.{PassesOn-failed}
+use Rattle.clk_script.proofs.Texts.PassLemmas.{PassesOn-failed}
 use Rattle.clk_script.proofs.held.HeldCommands.add.Goals as goal
 
 -- the line of a command that is held alone

@@ -1,6 +1,6 @@
 use Rattle.std.proofs.lemmas.Result.{err_from_is_err_and}
 use Rattle.clk_packet.proofs.Callers.Bytes.{Wrote-then}
-use Rattle.clk_script.proofs.PassLemmas.{PassesOn-wrote, PassesOn-failed}
+use Rattle.clk_script.proofs.Texts.PassLemmas.{PassesOn-wrote, PassesOn-failed}
 use Rattle.clk_script.proofs.lines.LineBuffer.add.Goals as goal
 
 pub returns-in_err-write : goal.returns-in_err-write

@@ -1,7 +1,7 @@
 use Rattle.std.proofs.Common.{inr}
 use Rattle.clk_script.specs.Script.{lines_of}
 use Rattle.clk_script.specs.inside.ScriptRouter.{named_by}
-use Rattle.clk_script.proofs.ReadingLemmas.{reading-end, reading-sound, ends-read, ends-wrong, ends-wrong-text}
+use Rattle.clk_script.proofs.Texts.ReadingLemmas.{reading-end, reading-sound, ends-read, ends-wrong, ends-wrong-text}
 use Rattle.clk_script.proofs.reading.Reading.end.Goals as goal
 
 pub returns-in-Some : goal.returns-in-Some

@@ -2,7 +2,7 @@ use Rattle.std.proofs.Common.{◌+◌, ◌++◌, take, sym, ap, ◌∙◌, subst
 use Rattle.std.proofs.lemmas.List.{take-append-drop}
 use Rattle.clk_script.specs.inside.ScriptRouter.{named_by}
 use Rattle.clk_script.specs.inside.Reading.{HasCome}
-use Rattle.clk_script.proofs.ReadingLemmas.{come-line}
+use Rattle.clk_script.proofs.Texts.ReadingLemmas.{come-line}
 use Rattle.clk_script.proofs.reading.Reading.go_on.Goals as goal
 
 pub go_on_from_line-requires-clause-come : goal.go_on_from_line-requires-clause-come

@@ -1,7 +1,7 @@
 use Rattle.std.proofs.Common.{◌++◌, [], sym, ap₂, ◌∙◌, subst}
 use Rattle.clk_script.specs.inside.ScriptRouter.{named_by}
 use Rattle.clk_script.specs.inside.Reading.{HasCome}
-use Rattle.clk_script.proofs.ReadingLemmas.{come-lines}
+use Rattle.clk_script.proofs.Texts.ReadingLemmas.{come-lines}
 use Rattle.clk_script.proofs.reading.Reading.go_on_from_line.Goals as goal
 
 pub returns-clause-come : goal.returns-clause-come

@@ -3,7 +3,7 @@ use Rattle.std.specs.Option.{option_or}
 use Rattle.clk_script.specs.declared.script.ScriptLine.TheVariants.{Drain}
 use Rattle.clk_script.specs.Script.{fault_at, drain_in}
 use Rattle.clk_script.specs.inside.ScriptRouter.{named_by}
-use Rattle.clk_script.proofs.ReadingLemmas.{reading-row, undrained-command, undrained-other, drained-first}
+use Rattle.clk_script.proofs.Texts.ReadingLemmas.{reading-row, undrained-command, undrained-other, drained-first}
 use Rattle.clk_script.proofs.reading.Reading.read_line.Goals as goal
 
 pub returns-in_ok-push-in-Ok-Some-clause-read : goal.returns-in_ok-push-in-Ok-Some-clause-read

@@ -2,8 +2,8 @@ use Rattle.std.proofs.Common.{◌∷◌, ◌++◌, [], ◌∙◌, sym, subst, ap
 use Rattle.clk_script.specs.Script.{lines_of}
 use Rattle.clk_script.specs.inside.ScriptRouter.{named_by}
 use Rattle.clk_script.specs.inside.Reading.{AreRead, IsReading}
-use Rattle.clk_script.proofs.ScriptLemmas.{readable-first}
-use Rattle.clk_script.proofs.ReadingLemmas.{reading-wrong, reading-sound, none-wrong, lines-whole, lines-left}
+use Rattle.clk_script.proofs.Meanings.ScriptLemmas.{readable-first}
+use Rattle.clk_script.proofs.Texts.ReadingLemmas.{reading-wrong, reading-sound, none-wrong, lines-whole, lines-left}
 use Rattle.clk_script.proofs.reading.Reading.read_lines.Goals as goal
 
 pub read_line-requires-clause-readable : goal.read_line-requires-clause-readable

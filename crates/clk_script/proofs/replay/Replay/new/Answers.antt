@@ -1,4 +1,4 @@
-use Rattle.clk_script.proofs.ReplayLemmas.{replay-opened}
+use Rattle.clk_script.proofs.Carrying.ReplayLemmas.{replay-opened}
 use Rattle.clk_script.proofs.replay.Replay.new.Goals as goal
 
 pub invariant_of-result : goal.invariant_of-result

@@ -5,7 +5,7 @@ use Rattle.clk_packet.proofs.Callers.Bytes.{Wrote-then, Wrote-cut}
 use Rattle.clk_report.specs.VisitCsv.{header_of, visits_text}
 use Rattle.clk_router.specs.Events.{Setup}
 use Rattle.clk_script.specs.inside.Replay.{logs_in, device_rows}
-use Rattle.clk_script.proofs.ReplayLemmas.{rows-all}
+use Rattle.clk_script.proofs.Carrying.ReplayLemmas.{rows-all}
 use Rattle.clk_script.proofs.replay.Replay.write.Goals as goal
 
 pub returns-in_err-visits_header : goal.returns-in_err-visits_header

@@ -2,7 +2,7 @@ use Rattle.std.proofs.Common.{arith, ◌≡◌, ◌∙◌, ap, length, sym}
 use Rattle.std.proofs.lemmas.Bool.Decides.{nat_tests}
 use Rattle.clk_packet.specs.Numbers.{number_in}
 use Rattle.clk_script.specs.Script.{fields, most_device}
-use Rattle.clk_script.proofs.LineLemmas.{HaveBytes-fields, field_at-rest, line-pull, line-pull-of}
+use Rattle.clk_script.proofs.Texts.LineLemmas.{HaveBytes-fields, field_at-rest, line-pull, line-pull-of}
 use Rattle.clk_script.proofs.script.ScriptLine.pull.Goals as goal
 
 pub returns-then-is_empty : goal.returns-then-is_empty

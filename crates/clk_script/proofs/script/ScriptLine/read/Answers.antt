@@ -1,7 +1,7 @@
 use Rattle.std.proofs.Common.{arith, ◌≡◌, length, sym}
 use Rattle.std.proofs.lemmas.Bool.Decides.{nat_tests}
 use Rattle.clk_script.specs.Script.{fields}
-use Rattle.clk_script.proofs.LineLemmas.{HaveBytes-fields, line-none}
+use Rattle.clk_script.proofs.Texts.LineLemmas.{HaveBytes-fields, line-none}
 use Rattle.clk_script.proofs.script.ScriptLine.read.Goals as goal
 
 pub returns-then-is_empty : goal.returns-then-is_empty

@@ -3,7 +3,7 @@ use Rattle.std.proofs.lemmas.Bool.Decides.{nat_tests}
 use Rattle.clk_packet.specs.Limits.{most_length}
 use Rattle.clk_packet.specs.Numbers.{number_in}
 use Rattle.clk_script.specs.Script.{fields}
-use Rattle.clk_script.proofs.LineLemmas.{HaveBytes-fields, field_at-rest, line-send}
+use Rattle.clk_script.proofs.Texts.LineLemmas.{HaveBytes-fields, field_at-rest, line-send}
 use Rattle.clk_script.proofs.script.ScriptLine.send.Goals as goal
 
 pub returns : goal.returns

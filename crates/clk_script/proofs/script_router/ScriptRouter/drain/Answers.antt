@@ -1,6 +1,6 @@
 use Rattle.std.proofs.Common.{refl}
 use Rattle.clk_router.proofs.Callers.Accounts.{course-few}
-use Rattle.clk_script.proofs.ScriptRouterLemmas.{StaysElsewhere-closed, LeadsOnByDrain-closed}
+use Rattle.clk_script.proofs.Carrying.ScriptRouterLemmas.{StaysElsewhere-closed, LeadsOnByDrain-closed}
 use Rattle.clk_script.proofs.script_router.ScriptRouter.drain.Goals as goal
 
 pub returns-clause-leads : goal.returns-clause-leads

@@ -2,7 +2,7 @@ use Rattle.std.proofs.Common.{refl, sym, subst}
 use Rattle.clk_router.proofs.Callers.Accounts.{course-few}
 use Rattle.clk_script.specs.declared.script_router.ScriptRouter.{ScriptRouter}
 use Rattle.clk_script.specs.inside.ScriptRouter.{LeadsOnByPull}
-use Rattle.clk_script.proofs.ScriptRouterLemmas.{LeadsOnByPull-pulled}
+use Rattle.clk_script.proofs.Carrying.ScriptRouterLemmas.{LeadsOnByPull-pulled}
 use Rattle.clk_script.proofs.script_router.ScriptRouter.pull.Goals as goal
 
 pub returns-clause-leads : goal.returns-clause-leads

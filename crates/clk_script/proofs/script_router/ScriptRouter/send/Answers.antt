@@ -3,7 +3,7 @@ use Rattle.clk_router.specs.Events.{offered}
 use Rattle.clk_router.proofs.Callers.Accounts.{course-few}
 use Rattle.clk_script.specs.declared.script_router.ScriptRouter.{ScriptRouter}
 use Rattle.clk_script.specs.inside.ScriptRouter.{IsAt}
-use Rattle.clk_script.proofs.ScriptRouterLemmas.{can-offer, IsAt-offered}
+use Rattle.clk_script.proofs.Carrying.ScriptRouterLemmas.{can-offer, IsAt-offered}
 use Rattle.clk_script.proofs.script_router.ScriptRouter.send.Goals as goal
 
 pub offer-outcome-requires-clause-can : goal.offer-outcome-requires-clause-can

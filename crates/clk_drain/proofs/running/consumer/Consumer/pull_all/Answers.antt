@@ -1,5 +1,5 @@
 use Rattle.std.proofs.Common.{rules}
-use Rattle.clk_drain.proofs.Pulling.{pulled-none, pulled-more}
+use Rattle.clk_drain.proofs.Leaves.Pulling.{pulled-none, pulled-more}
 use Rattle.clk_drain.proofs.running.consumer.Consumer.pull_all.Goals as goal
 
 pub loop-made-init : goal.loop-made-init

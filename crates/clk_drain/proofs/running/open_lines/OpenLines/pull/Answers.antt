@@ -1,5 +1,5 @@
 use Rattle.std.proofs.Common.{rules}
-use Rattle.clk_drain.proofs.PulledLines.{lines-pulled, lines-taken}
+use Rattle.clk_drain.proofs.Leaves.PulledLines.{lines-pulled, lines-taken}
 use Rattle.clk_drain.proofs.running.open_lines.OpenLines.pull.Goals as goal
 
 pub returns-clause-lines : goal.returns-clause-lines

@@ -1,5 +1,5 @@
 use Rattle.std.proofs.Common.{set, rules}
-use Rattle.clk_drain.proofs.Placing.{IsAsked, unanswered, asked-at}
+use Rattle.clk_drain.proofs.Leaves.Placing.{IsAsked, unanswered, asked-at}
 use Rattle.clk_drain.proofs.running.open_lines.OpenLinesAsk.ask.Given as given
 use Rattle.clk_drain.proofs.running.open_lines.OpenLinesAsk.ask.Goals as goal
 

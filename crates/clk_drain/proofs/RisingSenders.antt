@@ -1,1 +1,0 @@
--- Senders that rise are told by which they are.

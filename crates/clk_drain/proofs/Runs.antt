@@ -1,0 +1,7 @@
+-- What a whole run comes to.
+pub mod ManyDevices
+pub mod WholeRun
+pub mod NoHeads
+pub mod Accounted
+pub mod WorkedMoments
+pub mod WorkedLost
