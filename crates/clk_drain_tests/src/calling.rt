@@ -1,6 +1,7 @@
 //! A caller of each library, which its page CALLING.md shows: what follows from the library's contracts.
 
 mod drain;
+mod laws;
 mod ruled;
 
 use clk_packet::{Fault, FromRead, Packet, Traces};
@@ -40,7 +41,7 @@ fn a_run_is_by_the_laws(rt: HostRuntime) -> Result<(), Fault> {
     let plan = Plan::read(rt.alloc(), TREE.as_bytes())?;
     let mut trace = FromRead::new(b"1,1500\n".as_slice());
     let traces = Traces::read_csv(rt.alloc(), &mut trace)?;
-    let outcome = drain::run_by_the_laws(&rt, rt.alloc(), &rt, &plan, &traces)?;
+    let outcome = laws::run_by_the_laws(&rt, rt.alloc(), &rt, &plan, &traces)?;
     for emitted in &outcome.emitted {
         assert_eq!(rt; emitted.len(), 1);
     }

@@ -1,5 +1,5 @@
 -- A session that is pulled once each step.
-use Rattle.std.proofs.Common.{◌≡◌, ℕ, ◌+◌, ◌*◌, zero, suc, Bool, List, [], ◌∷◌, ◌++◌, length, reverse, Option, refl, length-append, rules}
+use Rattle.std.proofs.Common.{◌≡◌, ℕ, ◌+◌, ◌*◌, zero, suc, List, [], ◌∷◌, ◌++◌, length, reverse, Option, refl, length-append, rules}
 use Rattle.std.proofs.Math.Nat.{zero-mul}
 use Rattle.std.proofs.lemmas.List.{reverse-append, map-append}
 use Rattle.clk_packet.specs.declared.packet.Packet.{Packet}

@@ -1,5 +1,5 @@
 -- After a run, the tallies account for what all devices emitted.
-use Rattle.std.proofs.Common.{◌≡◌, ℕ, suc, ◌+◌, ◌==◌, ◌||◌, ⊎_elim, Bool, true, false, true≢false, List, [], ◌∷◌, ◌++◌, length, map, filter, Option, Some, MatchOption, refl, sym, ap, ◌∙◌, subst, arith, append-nil, if◌then◌else◌}
+use Rattle.std.proofs.Common.{◌≡◌, ℕ, suc, ◌+◌, ◌==◌, ◌||◌, ⊎_elim, Bool, true, false, true≢false, List, [], ◌∷◌, ◌++◌, length, map, Some, MatchOption, refl, sym, ap, ◌∙◌, subst, arith, append-nil, if◌then◌else◌}
 use Rattle.std.proofs.lemmas.Bool.{eqb-true, false_from_ne_true}
 use Rattle.std.proofs.lemmas.List.Elements.{filter-append}
 use Rattle.std.specs.List.{flat_map, AllByRecursion}
@@ -8,7 +8,7 @@ use Rattle.clk_packet.specs.declared.tally.Tally.{Tally}
 use Rattle.clk_packet.specs.Dealt.{IsDealt}
 use Rattle.clk_packet.specs.Lists.{of_sender, stands_in, are_distinct}
 use Rattle.clk_packet.specs.Trace.{sent_by}
-use Rattle.clk_packet.proofs.Callers.Lists.{stands-left, stands-right, stands-either}
+use Rattle.clk_packet.proofs.Callers.Lists.{stands-right, stands-either}
 use Rattle.clk_tree.specs.Plan.{Planned}
 use Rattle.clk_tree.specs.PlanParts.{Queued, queues_of}
 use Rattle.clk_drain.specs.Laws.{RunsAccountForEmitted}

@@ -1,4 +1,4 @@
-use Rattle.std.proofs.Common.{ℕ, arith}
+use Rattle.std.proofs.Common.{arith}
 use Rattle.clk_report.proofs.ReportLemmas.{lines-are, all-account}
 use Rattle.clk_report.proofs.reports.report_tallies.Goals as goal
 

@@ -5,7 +5,7 @@ use Rattle.std.proofs.lemmas.Result.{IfOk-weaker}
 use Rattle.clk_packet.specs.Dealt.{AccountFor}
 use Rattle.clk_packet.specs.declared.packet.Packet.{Packet}
 use Rattle.clk_drain.specs.Run.{IsRunOutcome}
-use Rattle.clk_drain_tests.proofs.calling.drain.run_by_the_laws.Goals as goal
+use Rattle.clk_drain_tests.proofs.calling.laws.run_by_the_laws.Goals as goal
 
 pub returns-clause-laws : goal.returns-clause-laws
 returns-clause-laws g c =
