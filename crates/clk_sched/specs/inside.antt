@@ -14,6 +14,7 @@ pub mod Marks
 pub mod Places
 pub mod Pulling
 pub mod Ranks
+pub mod Quanta
 pub mod QueuesFrom
 pub mod Resting
 pub mod Session

@@ -15,7 +15,7 @@ use Rattle.clk_sched.specs.Laws.{AllowsTurn}
 use Rattle.clk_sched.specs.Laws.Device.{IsDeviceTurn}
 use Rattle.clk_sched.specs.Run.{IsRun}
 use Rattle.clk_sched.specs.Step.{IsNextPull, IsOnePullMore, IsRunOf}
-use Rattle.clk_sched.specs.Bound.{least_quantum, rounds, closing_bound}
+use Rattle.clk_sched.specs.Bound.{rounds, closing_bound}
 use Rattle.clk_sched.specs.Results.{asks_queue, traced_heads}
 use Rattle.clk_sched.proofs.Conservation.RowHeads.{tree-heads}
 use Rattle.clk_sched.specs.Choice.{answers_of}
@@ -232,7 +232,7 @@ rising-latest (p ∷ ps) earlier h = search (rules, (rising-latest ps (p ∷ ear
 pub record IsEmptied (tree : Tree) (log : List Visit) (held : ℕ → ℕ) (left made given : ℕ) : Type 0 where
   pub all : ℕ
   pub within : all ≤ closing_bound tree left
-  pub emptying : IsEmptying (rounds_less (least_quantum (root tree))) tree log held left all made given
+  pub emptying : IsEmptying (rounds_less tree) tree log held left all made given
 
 bounded : (left high n : ℕ) → left + left * (high * n + n) ≤ left * (high + 1) * (n + 1)
 bounded left high n = omega arith
@@ -244,16 +244,16 @@ emptied-first tree log held left sound run is =
       within =
           let bound = start.bound in
           let within = bounded start.now.left (height (root tree)) k in
-          let closing = ap (λ n. n * (height (root tree) + 1) * rounds (least_quantum (root tree))) (sym left_is) ∙ ap (λ n. start.now.left * (height (root tree) + 1) * n) (rounds-more (least_quantum (root tree))) in
+          let closing = ap (λ n. n * (height (root tree) + 1) * rounds tree) (sym left_is) ∙ ap (λ n. start.now.left * (height (root tree) + 1) * n) (rounds-more tree) in
           omega (arith, bound, within, closing);
       emptying = record { now = start.now; costs = start.costs; conserved = let e = left_is in omega (arith, e); spent = λ _. omega arith };
     }
   where
     k : ℕ
-    k = rounds_less (least_quantum (root tree))
+    k = rounds_less tree
 
     start : IsRowFirst k (height (root tree)) held log prio 0 0 1 (root tree)
-    start = row-first (root tree) k (height (root tree)) 1 held log prio 0 0 1 (pulls log) (let w = root-width tree in omega (arith, w)) (omega arith) tt (pulled-root tree log run) (run-rows tree log run) sound (each-enough (root tree) sound)
+    start = row-first (root tree) k (height (root tree)) 1 held log prio 0 0 1 (pulls log) (let w = root-width tree in omega (arith, w)) (omega arith) tt (pulled-root tree log run) (run-rows tree log run) sound (each-enough tree sound)
 
     left_is : start.now.left ≡ left
     left_is = let e = start.left_is in let f = length-map (traced_heads tree log) (λ t. t.0) in let g = ap length (tree-heads tree log) in omega (arith, e, f, g, is)
@@ -267,7 +267,7 @@ moments-before tree log moment run latest =
 pub bound-is_enough : (tree : Tree) → IsSound (root tree) → leaves_distinct tree ≡ true → BoundIsEnough tree
 bound-is_enough tree sound distinct log moment held rest more run latest closes short =
     let start = emptied-first tree log held (left_in tree log held) sound run refl in
-    let fewer = closes-within more (rounds_less (least_quantum (root tree))) tree log held rest moment (left_in tree log held) start.all 0 0 sound distinct (each-enough (root tree) sound) run (moments-before tree log moment run latest) closes
+    let fewer = closes-within more (rounds_less tree) tree log held rest moment (left_in tree log held) start.all 0 0 sound distinct (each-enough tree sound) run (moments-before tree log moment run latest) closes
     start.emptying (omega (arith, short)) in
     let within = start.within in
     omega (arith, fewer, within)
@@ -279,6 +279,6 @@ emptied-more tree log pull held rest moment left made given sound distinct run l
     record {
       all = h.all;
       within = h.within;
-      emptying = pull-empties (rounds_less (least_quantum (root tree))) tree log pull held rest moment left h.all made given sound distinct (each-enough (root tree) sound) run (moments-before tree log moment run latest)
+      emptying = pull-empties (rounds_less tree) tree log pull held rest moment left h.all made given sound distinct (each-enough tree sound) run (moments-before tree log moment run latest)
           ((goes-on tree).back log pull closing.goes_on).next closing.at_moment closing.gives h.emptying;
     }

@@ -1,50 +1,82 @@
--- The least quantum of a tree, and the bound of its closing.
-use Rattle.std.proofs.Common.{◌≡◌, ℕ, ◌+◌, ◌*◌, ◌<◌, ◌≤◌, ◌^◌, List, [], ◌∷◌, Option, Some, None, sym, ◌∙◌, subst, rules}
-use Rattle.std.specs.Bool.{⊤}
-use Rattle.std.specs.List.{AllByRecursion}
+-- The quanta of a tree, and the bound of its closing.
+use Rattle.std.proofs.lemmas.Grind.{common_steps}
+use Rattle.std.proofs.Common.{◌≡◌, ℕ, suc, ◌+◌, ◌*◌, ◌-◌, ◌/◌, ◌<◌, ◌≤◌, ◌^◌, List, [], ◌∷◌, ◌++◌, length, map, fold, max, get_or, refl, sym, ap, ap₂, ◌∙◌, subst, append_assoc, arith, rules}
+use Rattle.std.specs.List.{AllByRecursion, flat_map}
+use Rattle.std.proofs.lemmas.List.{map-append}
+use Rattle.std.proofs.lemmas.List.Sums.{fold-append}
 use Rattle.std.proofs.Math.Nat.{mul-le-mul}
 use Rattle.clk_packet.specs.Limits.{most_quantum, most_length, most_levels}
 use Rattle.clk_sched.specs.Limits.{most_left}
-use Rattle.clk_packet.specs.Scheduler.{Scheduler, HasArguments}
-use Rattle.clk_sched.specs.Tree.{Row, end, leaf, node, Tree, root, width, IsWellFormed, IsSound}
-use Rattle.clk_sched.specs.Built.{levels}
-use Rattle.clk_sched.proofs.Trees.TreeLemmas.{sound-formed}
-use Rattle.clk_sched.specs.Bound.{lesser, least, quanta_of, least_quantum, rounds, closing_bound}
+use Rattle.clk_packet.specs.Scheduler.{Scheduler, HasArguments, drr}
+use Rattle.clk_sched.specs.Tree.{Row, end, leaf, node, Tree, queue, scheduler, PlacedScheduler, schedulers_in, schedulers_of, root, nodes, width, IsWellFormed, IsSound}
+use Rattle.clk_sched.specs.Built.{levels, row}
+use Rattle.clk_sched.specs.Bound.{quanta_of, rounds_for, rounds, closing_bound}
+use Rattle.clk_sched.specs.inside.Quanta.{quanta_below, quanta_in, most_rounds}
+use Rattle.std.proofs.lemmas.List.Concat.{flat_map-append}
+use Rattle.clk_sched.proofs.Lists.Members.{all-append, all-weaker}
+use Rattle.clk_sched.proofs.Trees.TreeLemmas.{rest, sound-formed}
 
--- where there is a number it is at least 1
-abbrev pub IsPositive : Option ℕ → Type 0
-IsPositive None = ⊤
-IsPositive (Some n) = 1 ≤ n
+-- the most rounds for some quanta, and then for others
+pub most-append : (most : ℕ) (these those : List ℕ) → most_rounds most (these ++ those) ≡ most_rounds (most_rounds most these) those
+most-append most these those = ap (fold max most) (map-append rounds_for these those) ∙ fold-append max most (map rounds_for these) (map rounds_for those)
 
-positive-lesser : (a b : Option ℕ) → IsPositive a → IsPositive b → IsPositive (lesser a b)
-positive-lesser a b h k = search rules
+-- the quanta of a row of trees: those of the first, and those of the others
+pub quanta-row : (trees : List Tree) (first : Tree) → 1 ≤ length trees → first ≡ get_or trees 0 first → quanta_below (row trees) ≡ quanta_in first ++ quanta_below (row (rest trees))
+quanta-row trees first some is = grind (arith, common_steps, append_assoc)
 
-positive-least : (ns : List ℕ) → AllByRecursion (λ n. (1 ≤ n) × (n ≤ most_quantum)) ns → IsPositive (least ns)
-positive-least [] h = tt
-positive-least (n ∷ ns) h = positive-lesser (Some n) (least ns) h.0.0 (positive-least ns h.1)
+-- the quanta of the schedulers that are listed in a row
+quanta-listed : (r : Row) (above first next : ℕ) → flat_map (λ (n : PlacedScheduler). quanta_of n.class) (schedulers_in above first next r) ≡ quanta_below r
+quanta-listed end above first next = refl
+quanta-listed (leaf q r) above first next = quanta-listed r above (suc first) next
+quanta-listed (node class inputs r) above first next =
+    ap (λ l. quanta_of class ++ l)
+    (flat_map-append (λ (n : PlacedScheduler). quanta_of n.class) (schedulers_in next 0 (suc next) inputs) (schedulers_in above (suc first) (suc (next + nodes inputs)) r)
+    ∙ ap₂ (λ these those. these ++ those) (quanta-listed inputs next 0 (suc next)) (quanta-listed r above (suc first) (suc (next + nodes inputs))))
 
-positive-class : (class : Scheduler) (inputs : ℕ) → HasArguments class inputs → IsPositive (least (quanta_of class))
-positive-class class inputs h = search (rules, positive-least)
+-- the rounds of a tree, row by row
+pub rounds-below : (tree : Tree) → rounds tree ≡ most_rounds 1 (quanta_below (root tree))
+rounds-below tree = ap (most_rounds 1) (quanta-listed (root tree) 0 0 1)
 
-pub positive-row : (r : Row) → IsSound r → IsPositive (least_quantum r)
+pub rounds-in : (tree : Tree) → rounds tree ≡ most_rounds 1 (quanta_in tree)
+rounds-in tree = rounds-below tree ∙ by_tree tree
+  where
+    by_tree : (t : Tree) → most_rounds 1 (quanta_below (root t)) ≡ most_rounds 1 (quanta_in t)
+    by_tree (queue q) = refl
+    by_tree (scheduler class inputs) = search rules
+
+-- a quantum that can be divided by
+abbrev pub IsQuantum : ℕ → Type 0
+IsQuantum n = (1 ≤ n) × (n ≤ most_quantum)
+
+pub class-positive : (class : Scheduler) (inputs : ℕ) → HasArguments class inputs → AllByRecursion (λ n. 1 ≤ n) (quanta_of class)
+class-positive (drr quanta) inputs h = all-weaker IsQuantum (λ n. 1 ≤ n) quanta (λ n k. k.0) h.1
+class-positive class inputs h = tt
+
+pub positive-row : (r : Row) → IsSound r → AllByRecursion (λ n. 1 ≤ n) (quanta_below r)
 positive-row end h = tt
 positive-row (leaf q r) h = positive-row r h
 positive-row (node class inputs r) h =
-    positive-lesser (least (quanta_of class)) (lesser (least_quantum inputs) (least_quantum r)) (positive-class class (width inputs) h.1)
-    (positive-lesser (least_quantum inputs) (least_quantum r) (positive-row inputs h.2) (positive-row r h.3))
-
--- the least quantum of a well-formed tree can be divided by
-pub quantum-positive : (tree : Tree) (o : Option ℕ) (quantum : ℕ) → IsWellFormed (root tree) → o ≡ least_quantum (root tree) → o ≡ Some quantum → 1 ≤ quantum
-quantum-positive tree o quantum h e f = subst IsPositive (sym e ∙ f) (positive-row (root tree) (sound-formed (root tree) h))
+    all-append (λ n. 1 ≤ n) (quanta_of class) (quanta_below inputs ++ quanta_below r) (class-positive class (width inputs) h.1)
+    (all-append (λ n. 1 ≤ n) (quanta_below inputs) (quanta_below r) (positive-row inputs h.2) (positive-row r h.3))
 
 -- the closing's bound is a number of pulls for each packet
-pub bound-each : (tree : Tree) (left high many : ℕ) → high ≡ levels tree → many ≡ rounds (least_quantum (root tree)) → closing_bound tree left ≡ left * ((high + 1) * many)
+pub bound-each : (tree : Tree) (left high many : ℕ) → high ≡ levels tree → many ≡ rounds tree → closing_bound tree left ≡ left * ((high + 1) * many)
 bound-each tree left high many e f = search rules
 
--- the rounds of a well-formed tree are no more than the greatest length, and one
-pub rounds-few : (r : Row) → IsWellFormed r → rounds (least_quantum r) ≤ most_length + 1
-rounds-few r h = search rules
+-- no quantum needs more rounds than the greatest length, and one
+rounds-for-few : (quantum : ℕ) → 1 ≤ quantum → rounds_for quantum ≤ most_length + 1
+rounds-for-few quantum some = search rules
+
+most-few : (most : ℕ) (quanta : List ℕ) → most ≤ most_length + 1 → AllByRecursion (λ n. 1 ≤ n) quanta → most_rounds most quanta ≤ most_length + 1
+most-few most [] few some = few
+most-few most (n ∷ quanta) few some = most-few (max most (rounds_for n)) quanta (let here = rounds-for-few n some.0 in omega (arith, few, here)) some.1
+
+pub rounds-few : (tree : Tree) → IsWellFormed (root tree) → rounds tree ≤ most_length + 1
+rounds-few tree h = subst (λ n. n ≤ most_length + 1) (sym (rounds-below tree)) (most-few 1 (quanta_below (root tree)) (omega arith) (positive-row (root tree) (sound-formed (root tree) h)))
 
 -- the closing's bound where no more packets are left than a drain is given
+low-product : (left high many : ℕ) → left ≤ most_left → high ≤ most_levels → many ≤ most_length + 1 → left * ((high + 1) * many) < 2 ^ 42
+low-product left high many few low short = search (rules, mul-le-mul)
+
 pub bound-low : (tree : Tree) → IsWellFormed (root tree) → levels tree ≤ most_levels → (left : ℕ) → left ≤ most_left → closing_bound tree left < 2 ^ 42
-bound-low tree formed low left few = search (rules, bound-each, mul-le-mul, rounds-few)
+bound-low tree formed low left few = subst (λ n. n < 2 ^ 42) (sym (bound-each tree left (levels tree) (rounds tree) refl refl)) (low-product left (levels tree) (rounds tree) few low (rounds-few tree formed))

@@ -1,10 +1,12 @@
 //! How many pulls a drain of a tree makes at most.
 
 ghost use Rattle.std.specs.Prelude.{◌≡◌, ◌+◌, ◌*◌, ◌<◌, ◌≤◌, ◌^◌, ℕ};
+ghost use Rattle.std.specs.List.{AllByRecursion};
 ghost use Rattle.clk_packet.specs.Scheduler.{scheduler_view};
 ghost use Rattle.clk_sched.specs.Tree.{root, IsSound};
 ghost use Rattle.clk_sched.specs.Built.{row};
-ghost use Rattle.clk_sched.specs.Bound.{lesser, least, least_quantum, quanta_of};
+ghost use Rattle.clk_sched.specs.Bound.{quanta_of, rounds_for};
+ghost use Rattle.clk_sched.specs.inside.Quanta.{quanta_below, quanta_in, most_rounds};
 
 use super::{Node, Tree};
 use clk_packet::{MAX_LENGTH, Scheduler};
@@ -39,76 +41,68 @@ impl Tree {
         (levels + 1) * self.rounds()
     }
 
-    // The rounds that a packet may need: the greatest length over the least quantum, rounded up, plus 1; and 1 without a DRRSched.
+    // The most rounds that a packet may need at an input of this tree: 1 without a DRRSched.
     fn rounds(&self) -> u64
-        ensures value { result ≡ rounds (least_quantum (root self.now)) }
+        ensures value { result ≡ rounds self.now }
         ensures limit { result ≤ most_length + 1 }
     {
         // Reading a field brings the type invariant into scope: the arguments are within their limits.
         let _ = &self.node;
-        match self.least_quantum() {
-            None => 1,
-            Some(quantum) => {
-                let quantum = u64::from(quantum);
-                1 + (MAX_LENGTH + (quantum - 1)) / quantum
-            }
-        }
+        self.most_rounds(1)
     }
 
-    // The least quantum of any input of a DRRSched in this tree, if there is one.
-    #[cycle(least_quantum)]
-    fn least_quantum(&self) -> Option<u32>
-        ensures { result ≡ least_quantum (root self.now) }
+    // The most rounds that a packet may need at an input of this tree, or `most` if that is more.
+    #[cycle(most_rounds)]
+    fn most_rounds(&self, most: u64) -> u64
+        ensures { result ≡ most_rounds most (quanta_in self.now) }
     {
         match &self.node {
-            Node::Leaf(_) => None,
-            Node::Inner(scheduler, inputs) => {
-                let own = own_least(scheduler);
-                lesser(own, least_quantum(inputs))
-            }
+            Node::Leaf(_) => most,
+            Node::Inner(scheduler, inputs) => most_rounds(inputs, own_rounds(scheduler, most)),
         }
     }
 }
 
-/// The least quantum of any input of a DRRSched in these trees, if there is one.
-#[cycle(least_quantum)]
-fn least_quantum(trees: &[Tree]) -> Option<u32>
-    ensures { result ≡ least_quantum (row trees.now) }
+/// The most rounds that a packet may need at an input of these trees, or `most` if that is more.
+#[cycle(most_rounds)]
+fn most_rounds(trees: &[Tree], most: u64) -> u64
+    ensures { result ≡ most_rounds most (quanta_below (row trees.now)) }
 {
     let [first, rest @ ..] = trees else {
-        return None;
+        return most;
     };
-    let least = first.least_quantum();
-    lesser(least, least_quantum(rest))
+    let most = first.most_rounds(most);
+    most_rounds(rest, most)
 }
 
-// The least quantum of a DRRSched; other schedulers have none.
-fn own_least(scheduler: &Scheduler) -> Option<u32>
-    ensures { result ≡ least (quanta_of (scheduler_view scheduler.now)) }
+// The most rounds that a packet may need at an input of a DRRSched, or `most` if that is more, as for any other scheduler.
+fn own_rounds(scheduler: &Scheduler, most: u64) -> u64
+    requires some { AllByRecursion (λ n. 1 ≤ n) (quanta_of (scheduler_view scheduler.now)) }
+    ensures { result ≡ most_rounds most (quanta_of (scheduler_view scheduler.now)) }
 {
     match scheduler {
-        Scheduler::Drr(quanta) => least(quanta),
-        _ => None,
+        Scheduler::Drr(quanta) => rounds_of(quanta, most),
+        _ => most,
     }
 }
 
-fn least(numbers: &[u32]) -> Option<u32>
-    ensures { result ≡ least numbers.now }
+// The most rounds that a packet may need for one of these quanta, or `most` if that is more.
+fn rounds_of(quanta: &[u32], most: u64) -> u64
+    requires some { AllByRecursion (λ n. 1 ≤ n) quanta.now }
+    ensures { result ≡ most_rounds most quanta.now }
 {
-    let mut least = None;
-    for number in numbers {
-        least = lesser(least, Some(*number));
+    let mut most = most;
+    for quantum in quanta {
+        most = most.max(rounds_for(*quantum));
     }
-    least
+    most
 }
 
-// The lesser of two numbers, or the one that is there.
-fn lesser(one: Option<u32>, other: Option<u32>) -> Option<u32>
-    ensures { result ≡ lesser one other }
+// The rounds that a packet may need for a quantum: the greatest length over it, rounded up, plus 1.
+fn rounds_for(quantum: u32) -> u64
+    requires some { 1 ≤ quantum }
+    ensures { result ≡ rounds_for quantum }
 {
-    match (one, other) {
-        (None, _) => other,
-        (_, None) => one,
-        (Some(one), Some(other)) => Some(one.min(other)),
-    }
+    let quantum = u64::from(quantum);
+    1 + (MAX_LENGTH + (quantum - 1)) / quantum
 }

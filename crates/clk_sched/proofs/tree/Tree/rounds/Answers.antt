@@ -1,13 +1,13 @@
-use Rattle.std.proofs.Common.{◌≤◌, arith, rules}
-use Rattle.clk_sched.proofs.Trees.TreeBound.{quantum-positive}
+use Rattle.std.proofs.Common.{◌≡◌, ◌+◌, ◌≤◌, sym, ◌∙◌, subst}
+use Rattle.clk_packet.specs.Limits.{most_length}
+use Rattle.clk_sched.specs.Tree.{root, IsWellFormed}
+use Rattle.clk_sched.proofs.Trees.TreeBound.{rounds-in, rounds-few}
 use Rattle.clk_sched.proofs.tree.Tree.rounds.Goals as goal
-use Rattle.clk_sched.proofs.tree.Tree.rounds.Goals.{After-from-quantum}
 
-positive : (c : After-from-quantum) → 1 ≤ c.in-Some.quantum
-positive c = search (rules, quantum-positive)
+pub returns-clause-value : goal.returns-clause-value
+returns-clause-value c = c.most_rounds.ensures ∙ sym (rounds-in c.args.self.now)
 
-pub overflow_sub-result : goal.overflow_sub-result
-overflow_sub-result c = omega (arith, positive c)
-
-pub nonzero_div-result : goal.nonzero_div-result
-nonzero_div-result c = omega (arith, positive c)
+pub returns-clause-limit : goal.returns-clause-limit
+returns-clause-limit c =
+    subst (λ n. n ≤ most_length + 1) (sym (c.most_rounds.ensures ∙ sym (rounds-in c.args.self.now)))
+    (rounds-few c.args.self.now (subst (λ t. IsWellFormed (root t)) c.self.view_is c.self.invariant.1))
