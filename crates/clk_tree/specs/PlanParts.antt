@@ -1,6 +1,6 @@
 -- The senders and the queues of a plan (their numbers as this project chose them).
 use Rattle.std.specs.Prelude.{◌≡◌, ℕ, ◌+◌, ◌<◌, ◌≤◌, List, [], ◌∷◌, map, take, filter, nat_lt, ◌==◌, Bool, false, if◌then◌else◌, Option, Some, None}
-use Rattle.std.specs.List.{cons_option}
+use Rattle.std.specs.List.{filter_map, enumerate_from}
 use Rattle.clk_packet.specs.Limits.{most_sender, most_capacity}
 use Rattle.clk_packet.specs.declared.packet.Kind.{Kind}
 use Rattle.clk_packet.specs.Lists.{stands_in}
@@ -22,11 +22,6 @@ abbrev pub sender_of : List Planned → ℕ → Class → Option SenderSpec
 sender_of plan i (sender n) = Some (record { number = n; queue = queue_fed plan i })
 sender_of plan i class = None
 
--- the senders of a plan among the elements from a place on, in order of declaration
-abbrev pub senders_from : List Planned → ℕ → List Planned → List SenderSpec
-senders_from plan i [] = []
-senders_from plan i (e ∷ more) = cons_option (sender_of plan i e.class) (senders_from plan (i + 1) more)
-
 -- a sender put into a list before the first of a greater number
 abbrev pub placed : SenderSpec → List SenderSpec → List SenderSpec
 placed s [] = s ∷ []
@@ -39,7 +34,7 @@ by_number (s ∷ more) = placed s (by_number more)
 
 -- the senders of a plan, by rising number
 abbrev pub senders_of : List Planned → List SenderSpec
-senders_of plan = by_number (senders_from plan 0 plan)
+senders_of plan = by_number (filter_map (λ (e : ℕ × Planned). sender_of plan e.0 e.1.class) (enumerate_from 0 plan))
 
 -- the number of a sender
 abbrev pub number_of : SenderSpec → ℕ
@@ -84,14 +79,9 @@ queue_of plan i (queue kind capacity) = Some (record {
 })
 queue_of plan i class = None
 
--- the queues of a plan among the elements from a place on, in order of declaration
-abbrev pub queues_from : List Planned → ℕ → List Planned → List Queued
-queues_from plan i [] = []
-queues_from plan i (e ∷ more) = cons_option (queue_of plan i e.class) (queues_from plan (i + 1) more)
-
--- the queues of a plan, by their numbers
+-- the queues of a plan, by their numbers: in order of declaration
 abbrev pub queues_of : List Planned → List Queued
-queues_of plan = queues_from plan 0 plan
+queues_of plan = filter_map (λ (e : ℕ × Planned). queue_of plan e.0 e.1.class) (enumerate_from 0 plan)
 
 -- there is a queue, and the path from it ends at this device
 abbrev pub leads_to : ℕ → Option Queued → Bool

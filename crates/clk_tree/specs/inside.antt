@@ -1,3 +1,4 @@
 -- What the code's own parts say to one another: no contract of a public call stands on it.
+pub mod FromPlace
 pub mod Kept
 pub mod PlanTree

@@ -4,7 +4,8 @@ use Rattle.std.specs.List.{AllByRecursion}
 use Rattle.clk_packet.specs.Limits.{most_elements}
 use Rattle.clk_tree.specs.declared.plan.parts.SenderSpec.{SenderSpec}
 use Rattle.clk_tree.specs.Plan.{Planned, Denotes}
-use Rattle.clk_tree.specs.PlanParts.{Queued, number_of, senders_of, queues_from, queues_of}
+use Rattle.clk_tree.specs.PlanParts.{Queued, number_of, senders_of, queues_of}
+use Rattle.clk_tree.specs.inside.FromPlace.{queues_from}
 use Rattle.clk_packet.specs.Lists.{AreRising}
 use Rattle.clk_tree.proofs.Distinct.DistinctPlans.{denoted-small}
 use Rattle.clk_tree.proofs.Denoted.PartLemmas.{senders-rising}

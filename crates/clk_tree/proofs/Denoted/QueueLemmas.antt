@@ -8,7 +8,8 @@ use Rattle.clk_tree.specs.Plan.{Planned}
 use Rattle.clk_tree.specs.PlanTree.{is_queue, queue_count, number_if, queue_number}
 use Rattle.clk_tree.specs.inside.PlanTree.{is_queue_at}
 use Rattle.clk_tree.specs.PlanPaths.{device_of}
-use Rattle.clk_tree.specs.PlanParts.{Queued, queue_of, queues_from, queues_of}
+use Rattle.clk_tree.specs.PlanParts.{Queued, queue_of, queues_of}
+use Rattle.clk_tree.specs.inside.FromPlace.{queues_from}
 use Rattle.clk_tree.proofs.Sound.SoundChecks.{at-more}
 use Rattle.clk_tree.proofs.Distinct.DistinctQueues.{number-of}
 

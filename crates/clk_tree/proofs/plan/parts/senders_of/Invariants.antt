@@ -1,6 +1,7 @@
 use Rattle.std.proofs.Common.{◌≡◌, ◌-◌, map, length, drop}
 use Rattle.clk_tree.specs.Elements.{planned}
-use Rattle.clk_tree.specs.PlanParts.{senders_from, by_number}
+use Rattle.clk_tree.specs.PlanParts.{by_number}
+use Rattle.clk_tree.specs.inside.FromPlace.{senders_from}
 use Rattle.clk_tree.proofs.plan.parts.senders_of.Given as goal
 
 -- those among the elements that were looked at, which are the last
