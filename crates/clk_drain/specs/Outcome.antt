@@ -1,5 +1,5 @@
 -- A settled outcome: which packets were accepted, refused, evicted and emitted, in lists alone (this project's own definition).
-use Rattle.std.specs.Prelude.{◌≡◌, ℕ, ◌+◌, ◌<◌, ◌≤◌, ◌==◌, true, List, [], ◌∷◌, length, map, filter, Option, Some, None, MatchOption, if◌then◌else◌}
+use Rattle.std.specs.Prelude.{◌≡◌, ℕ, ◌+◌, ◌<◌, ◌≤◌, ◌==◌, true, List, length, map, filter, find, filter_map, sum_by, Option, MatchOption}
 use Rattle.std.specs.List.{flat_map, AllByRecursion}
 use Rattle.clk_packet.specs.declared.packet.Packet.{Packet}
 use Rattle.clk_packet.specs.declared.packet.Kind.{Kind}
@@ -36,23 +36,11 @@ IsTallied sent d q t = IsTallyOf (sent t.sender) (of_sender t.sender d.emitted) 
 
 -- the tally of a sender, if there is one
 abbrev pub tally_for : List Tally → ℕ → Option Tally
-tally_for [] s = None
-tally_for (t ∷ tallies) s = if t.sender == s then Some t else tally_for tallies s
+tally_for tallies s = find (λ (t : Tally). t.sender == s) tallies
 
--- how many packets this tally has as accepted; 0 without a tally
-abbrev pub accepted_by : Option Tally → ℕ
-accepted_by None = 0
-accepted_by (Some t) = length t.accepted
-
--- how many packets this tally has as refused or evicted; 0 without a tally
-abbrev pub lost_by : Option Tally → ℕ
-lost_by None = 0
-lost_by (Some t) = length t.refused + length t.evicted
-
--- the sum of a count over the tallies of these senders
-abbrev pub in_all : (Option Tally → ℕ) → List Tally → List ℕ → ℕ
-in_all count tallies [] = 0
-in_all count tallies (s ∷ senders) = count (tally_for tallies s) + in_all count tallies senders
+-- how many packets the tallies of these senders have in all, by a count of each
+abbrev pub in_all : (Tally → ℕ) → List Tally → List ℕ → ℕ
+in_all count tallies senders = sum_by count (filter_map (tally_for tallies) senders)
 
 -- A queue is settled: each of its senders has a tally that fits, it gave what the device emitted of them, and it lost packets only if it
 -- accepted at least as many as it may hold.
@@ -61,7 +49,7 @@ pub record IsQueueSettled (sent : ℕ → List Packet) (tallies : List Tally) (d
   -- it gave exactly the packets of its senders that the device emitted, in that order
   pub given : leaf_packets d.tree q.leaf d.log ≡ filter (λ (p : Packet). stands_in p.sender q.senders) d.emitted
   -- it refused or evicted packets only if it accepted at least as many as it may hold
-  pub reached : 0 < in_all lost_by tallies q.senders → q.capacity ≤ in_all accepted_by tallies q.senders
+  pub reached : 0 < in_all (λ t. length t.refused + length t.evicted) tallies q.senders → q.capacity ≤ in_all (λ t. length t.accepted) tallies q.senders
 
 -- A device is settled: its log is a run of its tree, it emitted what the log says, and its queues are settled. It emitted only packets of
 -- its own senders.

@@ -1,5 +1,5 @@
 -- What a run of producers on threads returns (this project's own definition).
-use Rattle.std.specs.Prelude.{◌≡◌, ℕ, ◌+◌, ◌<◌, ◌==◌, true, List, [], ◌∷◌, length, map, suc, ⊤, MatchOption, slice_get, if◌then◌else◌, Vec}
+use Rattle.std.specs.Prelude.{◌≡◌, ℕ, ◌<◌, ◌==◌, true, List, [], ◌∷◌, length, map, sum_by, suc, ⊤, MatchOption, slice_get, if◌then◌else◌, Vec}
 use Rattle.std.specs.List.{AllByRecursion}
 use Rattle.std.specs.declared.alloc.Global.{Global}
 use Rattle.clk_packet.specs.declared.packet.Packet.{Packet}
@@ -62,11 +62,6 @@ pub record IsKeptRun (keeps : Keeps) (plan : List Planned) (traces : List (List 
   pub told : keeps_emitted keeps ≡ true → map (λ packets. packets.items) outcome.emitted.items ≡ packets
   pub is : IsRunWith plan traces step limit logs packets outcome.tallies.items
 
--- how many packets these senders send in all
-abbrev pub sent_in_all : (ℕ → List Packet) → List ℕ → ℕ
-sent_in_all sent [] = 0
-sent_in_all sent (s ∷ senders) = length (sent s) + sent_in_all sent senders
-
 -- By these counts a queue lost packets although it accepted fewer than it may hold: its senders sent it so many, and it accepted so many.
 pub record HasLostEarly (q : Queued) (sent accepted capacity : ℕ) : Type 0 where
   pub capacity_is : capacity ≡ q.capacity
@@ -84,5 +79,5 @@ IsFaultOfRun plan traces Memory = ⊤
 IsFaultOfRun plan traces (UnknownSender s) = IsFirstUnknown (senders_in plan) traces s
 IsFaultOfRun plan traces (Unsettled leaf accepted capacity) =
     AreKnown (senders_in plan) traces
-    × MatchOption (slice_get (queues_of plan) leaf) ⊥ (λ q. HasLostEarly q (sent_in_all (sent_by traces) q.senders) accepted capacity)
+    × MatchOption (slice_get (queues_of plan) leaf) ⊥ (λ q. HasLostEarly q (sum_by (λ s. length (sent_by traces s)) q.senders) accepted capacity)
 IsFaultOfRun plan traces fault = ⊥

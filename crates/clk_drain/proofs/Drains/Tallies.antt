@@ -1,8 +1,8 @@
 -- Tallies in order: they rise by their senders, each is found, and they count what their seats count.
-use Rattle.std.proofs.Common.{◌≡◌, ℕ, ◌+◌, ◌≤◌, ◌<◌, ◌==◌, ⊎_elim, Bool, true, false, List, [], ◌∷◌, map, filter, Some, refl, ap, arith, if◌then◌else◌, eq-eqb, eq-zero-or-pos, suc, sum_by, rules}
+use Rattle.std.proofs.Common.{◌≡◌, ℕ, ◌+◌, ◌≤◌, ◌<◌, ◌==◌, ⊎_elim, Bool, true, false, List, [], ◌∷◌, map, filter, length, filter_map, Some, refl, ap, ◌∙◌, arith, if◌then◌else◌, eq-eqb, eq-zero-or-pos, suc, sum_by, rules}
 use Rattle.std.proofs.lemmas.Grind.{common_steps}
 use Rattle.std.proofs.lemmas.Bool.Decides.{nat_tests}
-use Rattle.std.specs.List.{AllByRecursion}
+use Rattle.std.specs.List.{AllByRecursion, cons_option}
 use Rattle.std.specs.List.Sorted.{IsNonDecreasingBy}
 use Rattle.std.proofs.lemmas.Bool.{eqb-true}
 use Rattle.std.proofs.lemmas.List.{map-append, nil_from_length}
@@ -16,7 +16,7 @@ use Rattle.clk_ruled.specs.PacketLists.{has_packet}
 use Rattle.clk_ruled.specs.Queue.{SeatLists}
 use Rattle.clk_ruled.specs.Settle.{all_evicted, accepted_count, lost_count, tally_of}
 use Rattle.clk_drain.specs.Line.{LineLists, seats_of, seats_in, senders_at}
-use Rattle.clk_drain.specs.Outcome.{tally_for, accepted_by, lost_by, in_all}
+use Rattle.clk_drain.specs.Outcome.{tally_for, in_all}
 use Rattle.clk_drain.specs.Closing.{tallies_of, tallies_in, AreInOrder}
 use Rattle.clk_sched.proofs.Callers.Lists.{all-split, all-weaker}
 use Rattle.clk_drain.proofs.Lists.{all-unmap}
@@ -113,10 +113,19 @@ pub no-evicted : (seats : List SeatLists) → AllByRecursion (λ (c : SeatLists)
 no-evicted [] h = refl
 no-evicted (c ∷ seats) h = search (rules, (no-evicted seats h.1))
 
+-- the count of a sender that has a tally, and those of the others
+in-all-next : (count : Tally → ℕ) (tallies : List Tally) (s : ℕ) (senders : List ℕ) (t : Tally) → tally_for tallies s ≡ Some t → in_all count tallies (s ∷ senders) ≡ count t + in_all count tallies senders
+in-all-next count tallies s senders t found = ap (λ o. sum_by count (cons_option o (filter_map (tally_for tallies) senders))) found ∙ sum_by-cons count t (filter_map (tally_for tallies) senders)
+
 -- the tallies count as many packets accepted as the seats
-pub accepted-same : (tallies : List Tally) (out : List Packet) (seats : List SeatLists) → AreFound tallies out seats → in_all accepted_by tallies (senders_at seats) ≡ accepted_count seats
+pub accepted-same : (tallies : List Tally) (out : List Packet) (seats : List SeatLists) → AreFound tallies out seats → in_all (λ t. length t.accepted) tallies (senders_at seats) ≡ accepted_count seats
 accepted-same tallies out [] found = refl
-accepted-same tallies out (c ∷ seats) found = search (rules, (accepted-same tallies out seats found.1))
+accepted-same tallies out (c ∷ seats) found =
+    in-all-next (λ t. length t.accepted) tallies c.sender (senders_at seats) (tally_of out c) found.0 ∙ ap (λ n. length c.accepted + n) (accepted-same tallies out seats found.1)
+
+-- how many packets a tally has as refused or evicted
+abbrev lost_by : Tally → ℕ
+lost_by t = length t.refused + length t.evicted
 
 -- Where no seat lost a packet no tally lost one.
 abbrev LostNone : SeatLists → Type 0
@@ -128,7 +137,11 @@ nothing-lost (c ∷ seats) e = search (rules, nil_from_length, (nothing-lost sea
 
 lost-none : (tallies : List Tally) (out : List Packet) (seats : List SeatLists) → AreFound tallies out seats → out ≡ [] → AllByRecursion LostNone seats → in_all lost_by tallies (senders_at seats) ≡ 0
 lost-none tallies out [] found none h = refl
-lost-none tallies out (c ∷ seats) found none h = search (rules, none-filtered, (lost-none tallies out seats found.1 none h.1))
+lost-none tallies out (c ∷ seats) found none h =
+    let next = in-all-next lost_by tallies c.sender (senders_at seats) (tally_of out c) found.0 in
+    let refused = ap length h.0.0 in
+    let evicted = ap length (none-filtered out c.accepted none) in
+    let rest = lost-none tallies out seats found.1 none h.1 in omega (arith, next, refused, evicted, rest)
 
 pub lost-some : (tallies : List Tally) (seats : List SeatLists) → AreFound tallies (all_evicted seats) seats → 0 < in_all lost_by tallies (senders_at seats) → 0 < lost_count seats
 lost-some tallies seats found some = ⊎_elim

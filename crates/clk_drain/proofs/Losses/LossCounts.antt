@@ -1,6 +1,7 @@
 -- What the lists of a run that failed with fault 21 come to, in counts.
-use Rattle.std.proofs.Common.{◌≡◌, ℕ, zero, suc, ◌+◌, ◌<◌, ◌==◌, Bool, true, false, List, [], ◌∷◌, ◌++◌, length, map, Option, Some, None, MatchOption, slice_get, refl, sym, ap, ◌∙◌, subst, inl, arith, if◌then◌else◌, rules}
+use Rattle.std.proofs.Common.{◌≡◌, ℕ, zero, suc, ◌+◌, ◌<◌, ◌==◌, Bool, true, false, List, [], ◌∷◌, ◌++◌, length, map, sum_by, Option, Some, None, MatchOption, slice_get, refl, sym, ap, ◌∙◌, subst, inl, arith, if◌then◌else◌, rules}
 use Rattle.std.proofs.lemmas.List.{map-append}
+use Rattle.std.proofs.lemmas.List.Sums.{sum_by-cons}
 use Rattle.std.specs.List.{flat_map, range_with_len, AllByRecursion}
 use Rattle.clk_packet.specs.declared.packet.Packet.{Packet}
 use Rattle.clk_packet.specs.declared.packet.Kind.TheVariants.{TailDrop, FrontDrop}
@@ -20,7 +21,7 @@ use Rattle.clk_drain.specs.Line.{senders_at}
 use Rattle.clk_drain.specs.Lost.{SeatedQueue}
 use Rattle.clk_drain.specs.Opening.{shared_at}
 use Rattle.clk_drain.specs.Outcome.{SharedQueue}
-use Rattle.clk_drain.specs.Run.{queues_at, sent_in_all, HasLostEarly, IsFaultOfRun}
+use Rattle.clk_drain.specs.Run.{queues_at, HasLostEarly, IsFaultOfRun}
 use Rattle.clk_drain.proofs.Plans.Apart.{apart-parts}
 use Rattle.clk_drain.proofs.Drains.Settling.{own-list}
 use Rattle.clk_packet.proofs.Callers.Lists.{all-append}
@@ -53,6 +54,15 @@ pub one-apart : (queues : List Queued) (n : ℕ) (q : Queued) → are_distinct (
 one-apart [] n q apart at = absurd (cc)
 one-apart (k ∷ queues) zero q apart at = search (rules, (apart-parts k.senders (flat_map (λ (k : Queued). k.senders) queues) apart))
 one-apart (k ∷ queues) (suc n) q apart at = one-apart queues n q (apart-parts k.senders (flat_map (λ (k : Queued). k.senders) queues) apart).1 at
+
+-- how many packets these senders send in all
+abbrev pub sent_in_all : (ℕ → List Packet) → List ℕ → ℕ
+sent_in_all sent [] = 0
+sent_in_all sent (s ∷ senders) = length (sent s) + sent_in_all sent senders
+
+pub sent-sum : (sent : ℕ → List Packet) (senders : List ℕ) → sum_by (λ s. length (sent s)) senders ≡ sent_in_all sent senders
+sent-sum sent [] = refl
+sent-sum sent (s ∷ senders) = sum_by-cons (λ s. length (sent s)) s senders ∙ ap (λ n. length (sent s) + n) (sent-sum sent senders)
 
 -- Where nothing was evicted, what was accepted and what was lost is what was sent.
 pub counts-tail : (sent : ℕ → List Packet) (seats : List SeatLists) → AllByRecursion (HasSent sent) seats → AllByRecursion (λ (l : SeatLists). l.evicted ≡ []) seats → sent_in_all sent (senders_at seats) ≡ accepted_count seats + lost_count seats
@@ -129,6 +139,7 @@ lost-early plan traces fault apart known u = subst (IsFaultOfRun plan traces) (s
               subst (λ ns. accepted_count seats ≡ sent_in_all (sent_by traces) ns) senders (counts-front (sent_by traces) seats offered.sent none),
             )
 
-    by_queue : (o : Option Queued) → slice_get (queues_of plan) queue.leaf ≡ o → MatchOption o ⊥ (λ k. shared_at queue.leaf k ≡ queue) → MatchOption o ⊥ (λ k. HasLostEarly k (sent_in_all (sent_by traces) k.senders) (accepted_count seats) queue.capacity)
+    by_queue : (o : Option Queued) → slice_get (queues_of plan) queue.leaf ≡ o → MatchOption o ⊥ (λ k. shared_at queue.leaf k ≡ queue) → MatchOption o ⊥ (λ k. HasLostEarly k (sum_by (λ s. length (sent_by traces s)) k.senders) (accepted_count seats) queue.capacity)
     by_queue None at none = none
-    by_queue (Some k) at is = counts k (one-apart (queues_of plan) queue.leaf k apart at) is
+    by_queue (Some k) at is =
+        subst (λ n. HasLostEarly k n (accepted_count seats) queue.capacity) (sym (sent-sum (sent_by traces) k.senders)) (counts k (one-apart (queues_of plan) queue.leaf k apart at) is)

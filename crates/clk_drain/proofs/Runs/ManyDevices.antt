@@ -1,8 +1,8 @@
 -- Devices that are settled one by one are settled together.
-use Rattle.std.proofs.Common.{◌≡◌, ℕ, ◌+◌, true, true≢false, List, [], ◌∷◌, map, Option, Some, MatchOption, refl, sym, subst, rules, arith}
+use Rattle.std.proofs.Common.{◌≡◌, ℕ, ◌+◌, true, true≢false, List, [], ◌∷◌, map, filter_map, sum_by, Option, Some, MatchOption, refl, sym, ap, subst, rules, arith}
 use Rattle.std.proofs.lemmas.Grind.{common_steps}
 use Rattle.std.proofs.lemmas.Bool.Decides.{nat_tests}
-use Rattle.std.specs.List.{flat_map, AllByRecursion}
+use Rattle.std.specs.List.{flat_map, AllByRecursion, cons_option}
 use Rattle.std.proofs.lemmas.List.{append-nil, map-append}
 use Rattle.clk_packet.specs.declared.packet.Packet.{Packet}
 use Rattle.clk_packet.specs.declared.tally.Tally.{Tally}
@@ -38,9 +38,12 @@ found-too : (all some : List Tally) (s : ℕ) (P : Tally → Type 0) → AreFoun
 found-too all [] s P found h = absurd h
 found-too all (t ∷ some) s P found h = search (rules, (found-too all some s P found.1))
 
-in-all-same : (count : Option Tally → ℕ) (all some : List Tally) (senders : List ℕ) → AllByRecursion (λ s. tally_for all s ≡ tally_for some s) senders → in_all count all senders ≡ in_all count some senders
-in-all-same count all some [] same = refl
-in-all-same count all some (s ∷ senders) same = λ i. count (same.0 i) + in-all-same count all some senders same.1 i
+theirs-same : (all some : List Tally) (senders : List ℕ) → AllByRecursion (λ s. tally_for all s ≡ tally_for some s) senders → filter_map (tally_for all) senders ≡ filter_map (tally_for some) senders
+theirs-same all some [] same = refl
+theirs-same all some (s ∷ senders) same = λ i. cons_option (same.0 i) (theirs-same all some senders same.1 i)
+
+in-all-same : (count : Tally → ℕ) (all some : List Tally) (senders : List ℕ) → AllByRecursion (λ s. tally_for all s ≡ tally_for some s) senders → in_all count all senders ≡ in_all count some senders
+in-all-same count all some senders same = ap (sum_by count) (theirs-same all some senders same)
 
 queue-together : (sent : ℕ → List Packet) (all some : List Tally) (d : Device) (q : SharedQueue) → AreFoundIn all some → IsQueueSettled sent some d q → IsQueueSettled sent all d q
 queue-together sent all some d q found h = search (rules, found-too, all-both, in-all-same)

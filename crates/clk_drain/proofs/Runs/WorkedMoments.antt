@@ -5,7 +5,8 @@ use Rattle.std.proofs.lemmas.List.{map-append, drop_at}
 use Rattle.clk_sched.specs.declared.visit.Visit.{Visit}
 use Rattle.clk_sched.specs.Log.{pulls, moment_of}
 use Rattle.clk_sched.specs.Tree.{Tree}
-use Rattle.clk_drain.specs.Moments.{steps, HasMoments}
+use Rattle.clk_drain.specs.Moments.{HasMoments}
+use Rattle.clk_drain.specs.inside.Threads.{steps}
 
 -- The moments of a run with a pull each three ticks and two at most, of which so many were made.
 abbrev AreMoments : List ℕ → ℕ → ℕ → Type 0

@@ -18,8 +18,7 @@ use Rattle.clk_drain.specs.Line.{LineLists, seats_of, seats_in, senders_at, taki
 use Rattle.clk_drain.specs.Outcome.{SharedQueue}
 use Rattle.clk_drain.specs.Closing.{queue_of_line, HasSent}
 use Rattle.clk_drain.specs.inside.Parts.{taken_at}
-use Rattle.clk_drain.specs.Moments.{steps}
-use Rattle.clk_drain.specs.inside.Threads.{Terms, HasSentAll, HaveSentAll, EndLists, Feed, IsPulled}
+use Rattle.clk_drain.specs.inside.Threads.{Terms, HasSentAll, HaveSentAll, EndLists, Feed, IsPulled, steps}
 use Rattle.clk_drain.specs.inside.Handed.{lines_from, feed_from, HasDeviceSent, HavePulled, joined_lines, AreJoinable, joined_feeds, AreAllJoinable, IsReadyToClose, AreApartDevices}
 use Rattle.clk_drain.specs.inside.Devices.{KeepsSo}
 use Rattle.clk_drain.specs.inside.Opening.{rooms_for, setup_for, IsOpenAs, AreOpenAs}

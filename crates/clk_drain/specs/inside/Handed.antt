@@ -21,8 +21,8 @@ use Rattle.clk_drain.specs.Line.{LineLists, seats_in, senders_at, AreLinesOf, Ha
 use Rattle.clk_drain.specs.Outcome.{Device, IsSettledOutcome}
 use Rattle.clk_drain.specs.Closing.{accepted_over, HasSent, queue_of_line, seated}
 use Rattle.clk_drain.specs.Lost.{SeatedQueue, NamesFirstLost}
-use Rattle.clk_drain.specs.Moments.{steps, HasMoments}
-use Rattle.clk_drain.specs.inside.Threads.{Terms, IsUnused, HaveSentAll, EndLists, Feed, IsUnpulled, IsPulled}
+use Rattle.clk_drain.specs.Moments.{HasMoments}
+use Rattle.clk_drain.specs.inside.Threads.{Terms, IsUnused, HaveSentAll, EndLists, Feed, IsUnpulled, IsPulled, steps}
 
 -- the lines of these queues while their seats are handed out
 abbrev pub lines_from : List LeafQueue → List TapLists → List LineLists

@@ -1,6 +1,6 @@
 -- What the threads of a run say to one another.
 use Rattle.std.specs.Prelude.{◌≡◌, ℕ, ◌*◌, ◌≤◌, List, [], ◌∷◌, ◌++◌, length, map, max, Vec}
-use Rattle.std.specs.List.{AllZip}
+use Rattle.std.specs.List.{AllZip, range_with_len}
 use Rattle.std.specs.declared.alloc.Global.{Global}
 use Rattle.clk_packet.specs.declared.packet.Packet.{Packet}
 use Rattle.clk_packet.specs.Trace.{sent_by}
@@ -11,7 +11,6 @@ use Rattle.clk_sched.specs.Log.{pulls, moment_of}
 use Rattle.clk_sched.specs.Session.{Progress, counted_moment}
 use Rattle.clk_drain.specs.Line.{LineLists, pulling_all, AreLinesOf}
 use Rattle.clk_drain.specs.Closing.{AreOffered}
-use Rattle.clk_drain.specs.Moments.{steps}
 
 -- what is sent, and at which moments devices are pulled: each `step` ticks, at most `limit` times
 pub record Terms : Type 0 where
@@ -60,6 +59,10 @@ pub record IsPulledAt (moment : ℕ) (old new : Feed) : Type 0 where
   pub own : AreLinesOf new.session new.lines
   pub counted : counted_moment new.session ≡ max (counted_moment old.session) moment
   pub moments : map moment_of (pulls new.session.log) ≡ map moment_of (pulls old.session.log) ++ counted_moment new.session ∷ []
+
+-- the moments of so many pulls, once each step: the k-th, counted from 1, is k times `step`
+abbrev pub steps : ℕ → ℕ → List ℕ
+steps step made = map (λ k. k * step) (range_with_len 1 made)
 
 -- The session was pulled `made` times, once each step.
 pub record IsPulledFor (terms : Terms) (made : ℕ) (old new : Feed) : Type 0 where
