@@ -1,6 +1,6 @@
 -- Known bytes that are written piece by piece.
-use Rattle.std.proofs.Common.{◌≡◌, ℕ, ◌+◌, ◌<◌, List, [], ◌∷◌, ◌++◌, length, get_or, take, drop, Option, Some, None, Result, Ok, Err, refl, sym, ap, subst, ◌∙◌}
-use Rattle.std.proofs.lemmas.List.{append_assoc, append-nil, take-append-drop, drop_more, take_more}
+use Rattle.std.proofs.Common.{◌≡◌, ℕ, ◌+◌, ◌<◌, List, [], ◌++◌, length, get_or, take, drop, Option, Some, None, Result, Ok, Err, sym, ap, ◌∙◌}
+use Rattle.std.proofs.lemmas.List.{append_assoc, append-nil, take-append-drop, drop_more}
 use Rattle.std.proofs.lemmas.List.Concat.{flat_map-append}
 use Rattle.std.specs.List.{flat_map}
 use Rattle.std.specs.Io.KnownBytes.{Appends}
@@ -31,9 +31,6 @@ pub Appends-none : (old : Option (List ℕ)) → Appends old old []
 Appends-none None = tt
 Appends-none (Some bytes) = sym (append-nil bytes)
 
-pub HasWritten-none : (old : Option (List ℕ)) (text : List ℕ) → HasWritten old old text text
-HasWritten-none old text = record { front = []; split = refl; appends = Appends-none old }
-
 -- a text after another that was written
 pub Wrote-then : (a b c : Option (List ℕ)) (f g h : ℕ) (x : Unit {0}) (r : Result (Unit {0}) Fault) (xs ys : List ℕ) → Wrote a b f g (Ok x) xs → Wrote b c g h r ys → Wrote a c f h r (xs ++ ys)
 Wrote-then a b c f g h x (Ok y) xs ys first w =
@@ -56,10 +53,3 @@ Wrote-cut a b f g fault xs ys w =
 pub flat_map_at : {X : Type 0} (f : X → List ℕ) (xs : List X) (i : ℕ) (d : X) → i < length xs → flat_map f xs ≡ flat_map f (take i xs) ++ (f (get_or xs i d) ++ flat_map f (drop (i + 1) xs))
 flat_map_at f xs i d h =
     ap (flat_map f) (sym (take-append-drop i xs)) ∙ flat_map-append f (take i xs) (drop i xs) ∙ ap (λ l. flat_map f (take i xs) ++ flat_map f l) (drop_more xs i d h)
-
--- one piece more
-pub Appends-piece : {X : Type 0} (f : X → List ℕ) (xs : List X) (i : ℕ) (d : X) (a b c : Option (List ℕ)) → i < length xs → Appends a b (flat_map f (take i xs)) → Appends b c (f (get_or xs i d))
-    → Appends a c (flat_map f (take (i + 1) xs))
-Appends-piece f xs i d a b c lt h k =
-    subst (λ (t : List ℕ). Appends a c t) (sym (ap (flat_map f) (take_more xs i d lt) ∙ flat_map-append f (take i xs) (get_or xs i d ∷ []) ∙ ap (λ l. flat_map f (take i xs) ++ l) (append-nil (f (get_or xs i d)))))
-    (Appends-append a b c (flat_map f (take i xs)) (f (get_or xs i d)) h k)
