@@ -39,10 +39,6 @@ gathered-kept b c given (g ∷ gathered) leaves f = search (rules, (gathered-kep
 pub tap-kept : (b c : Books) (pass : ℕ) (v : View) → c.setup ≡ b.setup → c.tap ≡ b.tap → taken_in c.gone ≡ taken_in b.gone → LeavesSeatless b c → FitsTap b pass v → FitsTap c pass v
 tap-kept b c pass v setup tap taken leaves f = search (rules, gathered-kept)
 
--- no other seat has this sender
-pub apart : (b : Books) (pass j s t : ℕ) → b.seat s ≡ some pass → b.seat t ≡ some j → j ≢ pass → t ≢ s
-apart b pass j s t mine theirs other e = search rules
-
 pub seatless-apart : (b : Books) (pass s t : ℕ) → b.seat s ≡ some pass → b.seat t ≡ none → t ≢ s
 seatless-apart b pass s t mine empty e = search rules
 

@@ -1,14 +1,11 @@
 -- Lists of packets by sender, and what went out.
-use Rattle.std.proofs.Common.{◌≡◌, ◌≢◌, ℕ, Bool, true, false, zero, suc, List, [], ◌∷◌, ◌++◌, length, refl, inl, ◌⊎◌, if◌then◌else◌, arith, rules}
+use Rattle.std.proofs.Common.{◌≡◌, ◌≢◌, ℕ, false, zero, suc, List, [], ◌∷◌, ◌++◌, length, refl, inl, ◌⊎◌, arith, rules}
 use Rattle.std.proofs.lemmas.Grind.{common_steps}
 use mathlib.Core.Option.{some}
 use lib.ListN.{get_elem?}
 use Rattle.clk_packet.specs.declared.packet.Packet.{Packet}
 use Rattle.clk_packet.specs.Lists.{of_sender, stands_in}
 use Rattle.clk_ruled.specs.Rule.{Out, to_puller, put_out, went_out, taken_in, evicted_by}
-
-abbrev pub one_of : Bool → Packet → List Packet
-one_of b p = if b then p ∷ [] else []
 
 pub of-own : (s : ℕ) (all : List Packet) (p : Packet) → p.sender ≡ s → of_sender s (all ++ p ∷ []) ≡ of_sender s all ++ p ∷ []
 of-own s all p e = grind (arith, common_steps)
@@ -36,9 +33,6 @@ pub evicted-pulled : (s : ℕ) (gone : List Out) (p : Packet) → evicted_by s (
 evicted-pulled s gone p = search (rules, evicted-more)
 
 -- one sender more
-pub has-more : (t s : ℕ) (senders : List ℕ) → stands_in s senders ≡ true → stands_in s (t ∷ senders) ≡ true
-has-more t s senders h = search rules
-
 pub has-not : (t s : ℕ) (senders : List ℕ) → stands_in s (t ∷ senders) ≡ false → (t ≢ s) × (stands_in s senders ≡ false)
 has-not t s senders h = search rules
 

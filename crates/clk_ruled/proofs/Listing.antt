@@ -32,9 +32,6 @@ not-below s m n (q ∷ packets) a b few k (inl x) = not-below s m (suc n) packet
 not-below s m n (q ∷ packets) a b few k (inr x) =
     subst (AllByRecursion (λ (p : Packet). m ≤ p.number)) (sym x.1) (subst (λ i. m ≤ i) (sym k.1) few, not-below s m (suc n) packets a x.0 (omega (arith, few)) k.2 x.2)
 
-heads-same : (p q : Packet) (ps qs : List Packet) → p ∷ ps ≡ q ∷ qs → p ≡ q
-heads-same p q ps qs e = ap (λ l. get_or l 0 p) e
-
 tails-same : (p q : Packet) (ps qs : List Packet) → p ∷ ps ≡ q ∷ qs → ps ≡ qs
 tails-same p q ps qs e = ap tail e
   where

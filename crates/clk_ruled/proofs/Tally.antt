@@ -1,5 +1,5 @@
 -- How often senders are named in a list, and how long the list is then.
-use Rattle.std.proofs.Common.{◌≡◌, ℕ, ◌+◌, ◌≤◌, ◌==◌, Bool, true, false, true≢false, zero, suc, List, [], ◌∷◌, length, map, refl, sym, ◌∙◌, arith, if◌then◌else◌, rules}
+use Rattle.std.proofs.Common.{◌≡◌, ℕ, ◌+◌, ◌≤◌, ◌==◌, true, false, true≢false, zero, suc, List, [], ◌∷◌, length, map, refl, sym, ◌∙◌, arith, if◌then◌else◌, rules}
 use Rattle.std.proofs.lemmas.Grind.{common_steps}
 use Rattle.std.proofs.lemmas.Bool.Decides.{nat_tests}
 use Rattle.clk_packet.specs.declared.packet.Packet.{Packet}
@@ -20,9 +20,6 @@ times s (n ∷ named) = if n == s then suc (times s named) else times s named
 abbrev pub times_in_all : List ℕ → List ℕ → ℕ
 times_in_all [] named = 0
 times_in_all (s ∷ senders) named = times s named + times_in_all senders named
-
-abbrev pub one_more : Bool → ℕ → ℕ
-one_more b n = if b then suc n else n
 
 none-of-none : (senders : List ℕ) → times_in_all senders [] ≡ 0
 none-of-none [] = refl

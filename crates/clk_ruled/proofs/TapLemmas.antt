@@ -6,11 +6,6 @@ use Rattle.clk_packet.specs.Lists.{of_sender, AreRising}
 use Rattle.clk_ruled.specs.PacketLists.{packet_numbers}
 use Rattle.clk_ruled.specs.Rule.{Out, to_puller, put_out, went_out, taken_in}
 
--- A packet that may be at the front of both lists, or of the second alone.
-all-both : (P : ℕ → Type 0) (b : Bool) (p : Packet) (x y : List Packet) → (AllByRecursion P (packet_numbers y) → AllByRecursion P (packet_numbers x))
-    → AllByRecursion P (packet_numbers (if b then p ∷ y else y)) → AllByRecursion P (packet_numbers (if b then p ∷ x else x))
-all-both P b p x y f a = search rules
-
 -- What holds of the numbers of all packets of a sender holds of those that were taken.
 all-taken : (P : ℕ → Type 0) (s : ℕ) (gone : List Out) (held : List Packet) → AllByRecursion P (packet_numbers (of_sender s (went_out gone ++ held)))
     → AllByRecursion P (packet_numbers (of_sender s (taken_in gone)))

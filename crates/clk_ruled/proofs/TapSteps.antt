@@ -1,5 +1,5 @@
 -- What the tap keeps as it pulls and gathers.
-use Rattle.std.proofs.Common.{◌≡◌, ℕ, ◌+◌, ◌<◌, ◌≤◌, Bool, true, false, List, [], ◌∷◌, ◌++◌, length, Option, MatchOption, sym, ◌∙◌, subst, refl, arith, rules}
+use Rattle.std.proofs.Common.{◌≡◌, ℕ, ◌+◌, ◌<◌, ◌≤◌, true, false, List, [], ◌∷◌, ◌++◌, length, Option, MatchOption, sym, ◌∙◌, subst, refl, arith, rules}
 use Rattle.std.proofs.lemmas.Grind.{common_steps}
 use Rattle.std.proofs.lemmas.Bool.Decides.{nat_tests}
 use Rattle.std.specs.List.{cons_option}
@@ -85,10 +85,6 @@ evicted-counted b given (g ∷ gathered) h = search (rules, evicted-times, (evic
 -- the seat of each sender was gathered
 abbrev pub EachGathered : View → Type 0
 EachGathered v = (s : ℕ) → stands_in s (senders_of v.setup) ≡ true → stands_in s (gathered_senders v.gathered) ≡ true
-
--- A sender whose seat wasn't gathered isn't one of the queue's, where all were gathered.
-unknown : (v : View) (s : ℕ) → EachGathered v → stands_in s (gathered_senders v.gathered) ≡ false → (b : Bool) → stands_in s (senders_of v.setup) ≡ b → b ≡ false
-unknown v s all e o is = search rules
 
 -- Where all seats were gathered, what the queue took was put out, or taken, or is held.
 taken-balances : (v : View) (held : List Packet) → TapKnows v held → EachGathered v

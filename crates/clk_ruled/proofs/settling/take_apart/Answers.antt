@@ -6,13 +6,6 @@ use Rattle.clk_ruled.specs.Queue.{ClosedLists}
 use Rattle.clk_ruled.specs.Settle.{all_evicted, lists_of}
 use Rattle.clk_ruled.proofs.settling.take_apart.Goals as goal
 
--- what was put out for one seat more
-has-more : (before : List ClosedLists) (c : ClosedLists) (p : Packet) → has_packet (all_evicted (lists_of (before ++ c ∷ []))) p ≡ (has_packet (all_evicted (lists_of before)) p || has_packet c.lists.evicted p)
-has-more before c p = grind (arith, common_steps)
-
-turned : (a b c : Bool) → (a || (b || c)) ≡ ((b || a) || c)
-turned a b c = search rules
-
 marked-more : (before : List ClosedLists) (c : ClosedLists) (p : Packet) (old now new : Bool) → now ≡ (has_packet (all_evicted (lists_of before)) p || old) → new ≡ (has_packet c.lists.evicted p || now)
     → new ≡ (has_packet (all_evicted (lists_of (before ++ c ∷ []))) p || old)
 marked-more before c p old now new first then = grind (arith, common_steps)
