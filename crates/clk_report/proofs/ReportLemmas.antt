@@ -1,5 +1,5 @@
 -- Texts that are written part by part, and the lines of a report.
-use Rattle.std.proofs.Common.{◌≡◌, ℕ, ◌+◌, ◌-◌, ◌≤◌, List, [], ◌∷◌, ◌++◌, All, length, take, drop, append_assoc, codes, decimal, get_or, Option, Err, refl, sym, ap, ap₂, ◌∙◌, subst, arith}
+use Rattle.std.proofs.Common.{◌≡◌, ℕ, ◌+◌, ◌-◌, ◌≤◌, List, [], ◌∷◌, ◌++◌, All, length, take, drop, append_assoc, codes, decimal, get_or, Option, Err, refl, sym, ap, ap₂, ◌∙◌, arith}
 use Rattle.std.proofs.lemmas.List.{append-nil, length-append, drop_all, take_all, take-append-drop}
 use Rattle.std.proofs.lemmas.List.Concat.{flat_map-append}
 use Rattle.std.specs.List.{flat_map}
@@ -47,11 +47,6 @@ Wrote-part old mid new before now after fault text rest part left so_far same is
       succeeds = tt;
       fails = failed.fails ∙ ap (λ n. n + 1) same;
     }
-
--- no part is left
-pub HasWritten-all : {X : Type 0} (f : X → List ℕ) (xs : List X) (old new : Option (List ℕ)) (text : List ℕ) → length xs ≡ 0 → HasWritten old new text (flat_map f xs) → Appends old new text
-HasWritten-all f [] old new text none h = subst (λ (t : List ℕ). Appends old new t) (sym (h.split ∙ append-nil h.front)) h.appends
-HasWritten-all f (x ∷ xs) old new text none h = absurd (omega (arith, none))
 
 -- a list in two parts
 pub flat_map-split : {X : Type 0} (f : X → List ℕ) (xs front back : List X) (n : ℕ) → front ≡ take n xs → back ≡ drop n xs → flat_map f xs ≡ flat_map f front ++ flat_map f back

@@ -145,10 +145,6 @@ AreCountedTo-room emitted totals i more below short so_far s d inside =
     let bytes = bytes-few packets in
     subst (HasRoom more) (sym (get_or_from_slice_get totals s (total_of packets) d (so_far.are.each s inside))) (record { packets = omega (arith, few, all); bytes = omega (arith, few, all, bytes) })
 
--- the total of a sender, read at its number
-pub total-at : (packets : List Packet) (totals : List (Total ℕ)) (s n : ℕ) (d : Total ℕ) → n ≡ s → s < length totals → AreTotals packets totals → get_or totals n d ≡ total_of (of_sender s packets)
-total-at packets totals s n d at inside are = ap (λ m. get_or totals m d) at ∙ get_or_from_slice_get totals s (total_of (of_sender s packets)) d (are.each s inside)
-
 -- a table of these packets is one of any that are the same of each of its senders
 told-below : (n : ℕ) (told emitted : List Packet) (totals : List (Total ℕ)) → length totals ≡ n → TellsBelow n told emitted → AreTotals told totals → AreTotals emitted totals
 told-below n told emitted totals long same are =

@@ -1,10 +1,8 @@
 -- The rows of visits, as they are written.
-use Rattle.std.proofs.Common.{◌≡◌, ℕ, ◌+◌, ◌<◌, ◌≤◌, List, [], ◌∷◌, ◌++◌, length, take, drop, map, get_or, codes, Option, Some, None, refl, sym, ap, ◌∙◌, subst, arith}
-use Rattle.std.proofs.lemmas.List.{drop_all, drop_more, take-map, drop-map, map-id, append-nil}
+use Rattle.std.proofs.Common.{◌≡◌, ℕ, ◌+◌, ◌<◌, ◌≤◌, List, [], ◌∷◌, ◌++◌, length, take, drop, map, get_or, codes, Option, Some, None, refl, sym, ap, ◌∙◌, arith}
+use Rattle.std.proofs.lemmas.List.{drop_more, take-map, drop-map, map-id}
 use Rattle.std.proofs.lemmas.List.Concat.{flat_map-append}
-use Rattle.std.specs.Io.KnownBytes.{Appends}
 use Rattle.csv.specs.Writing.{default_writer, row_text}
-use Rattle.clk_packet.proofs.Callers.Bytes.{HasWritten}
 use Rattle.clk_sched.specs.declared.visit.Visit.{Visit}
 use Rattle.clk_sched.specs.declared.session.packed.PackedVisit.{PackedVisit}
 use Rattle.clk_sched.specs.Packed.{unpacked}
@@ -29,16 +27,7 @@ pub devices-more : {X : Type 0} (visits : X → List Visit) (logs : List X) (i :
     → devices_text i (map visits (drop i logs)) ≡ rows_text (Some i) (visits v) ++ devices_text (i + 1) (map visits (drop (i + 1) logs))
 devices-more visits logs i v within is = ap (λ l. devices_text i (map visits l)) (drop_more logs i v within ∙ ap (λ w. w ∷ drop (i + 1) logs) (sym is))
 
--- no device is left
-pub all-devices : {X : Type 0} (visits : X → List Visit) (logs : List X) (i : ℕ) (old new : Option (List ℕ)) (text : List ℕ) → length logs ≤ i → HasWritten old new text (devices_text i (map visits (drop i logs))) → Appends old new text
-all-devices visits logs i old new text all h =
-    subst (λ (t : List ℕ). Appends old new t) (sym (h.split ∙ ap (λ l. h.front ++ devices_text i (map visits l)) (drop_all i logs all) ∙ append-nil h.front)) h.appends
-
--- no logs, the log of one device, and those of several
-pub no-log : {X : Type 0} (visits : X → List Visit) (logs : List X) → length logs ≡ 0 → visits_text (map visits logs) ≡ header_text
-no-log visits [] none = refl
-no-log visits (v ∷ logs) none = absurd (omega (arith, none))
-
+-- the log of one device, and those of several
 pub one-log : {X : Type 0} (visits : X → List Visit) (logs : List X) (v : X) → length logs ≡ 1 → v ≡ get_or logs 0 v → visits_text (map visits logs) ≡ header_text ++ rows_text None (visits v)
 one-log visits [] v one is = absurd (omega (arith, one))
 one-log visits (w ∷ []) v one is = ap (λ u. header_text ++ rows_text None (visits u)) (sym is)
