@@ -440,12 +440,6 @@ capacity-at [] i spec all within is = absurd (omega arith)
 capacity-at (s ∷ specs) zero spec all within is = subst (λ (q : QueueSpec). HasCapacity (queued q)) (sym is) all.0
 capacity-at (s ∷ specs) (suc i) spec all within is = capacity-at specs i spec all.1 (omega arith) is
 
--- What holds of a device that was pulled where it could be, and is put back.
-pub set-same : (devices : List RouterDevice) (d : ℕ) (before : RouterDevice) → before ≡ get_or devices d before → d < length devices → slice_set devices d before ≡ devices
-set-same [] d before is within = absurd (omega (arith, within))
-set-same (device ∷ devices) zero before is within = ap (λ (x : RouterDevice). x ∷ devices) is
-set-same (device ∷ devices) (suc d) before is within = ap (λ l. device ∷ l) (set-same devices d before is (omega (arith, within)))
-
 -- what follows from two facts of a success, and of a failure
 pub both-ok : {T E : Type 0} {P R : T → Type 0} {Q : Type 0} (r : Result T E) → ((x : T) → P x → Q → R x) → IfOk r P → OnOk r Q → IfOk r R
 both-ok (Ok x) step p q = step x p q

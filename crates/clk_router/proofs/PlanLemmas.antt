@@ -34,9 +34,6 @@ all-with P (y ∷ xs) x h p = (h.0, all-with P xs x h.1 p)
 pub made-more : (plan : List Planned) (n : ℕ) (trees more : List Tree) (t : Tree) → more ≡ trees ++ t ∷ [] → AreMade plan n trees → IsTreeOf plan n t → CanStand t → AreMade plan (n + 1) more
 made-more plan n trees more t e made is stands = search (rules, length-append, at-end, all-with)
 
-pub made-all : (plan : List Planned) (n : ℕ) (trees : List Tree) → n ≡ device_count plan → AreMade plan n trees → AreTreesOf plan trees
-made-all plan n trees e made = record { count = made.count ∙ e; each = made.each }
-
 all-rooms : (n : ℕ) (queues : List Queued) → AllByRecursion (λ (q : Queued). q.device < n) queues → AllByRecursion (λ (room : Room). room.device < n) (map room_of queues)
 all-rooms n [] h = tt
 all-rooms n (q ∷ queues) h = (h.0, all-rooms n queues h.1)

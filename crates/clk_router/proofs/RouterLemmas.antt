@@ -21,7 +21,7 @@ use Rattle.clk_router.specs.declared.past.Past.{Past}
 use Rattle.clk_router.specs.Course.{Course, after, IsClosed, pulls_at, accepted_at, evicted_at, emitted_at, room_device, its_device, CanOffer, CanClose}
 use Rattle.clk_router.specs.Events.{Room, Setup, sender_numbers, Event}
 use Rattle.clk_router.specs.inside.Past.{device_tree, trees_in, visits_shown, pull_shown, pulls_shown}
-use Rattle.clk_router.specs.inside.Parts.{sender_after, AreDevicesAt, KeepsAs, KeepsAsAt, IsAt, CanCount, CanSendOn, CanOfferAt, CanPullAt, CanCloseAt, CountsLeft, LeadsOnByPull, LeadsOnByPulls, ClosesBy, Stand}
+use Rattle.clk_router.specs.inside.Parts.{sender_after, KeepsAs, KeepsAsAt, IsAt, CanCount, CanSendOn, CanOfferAt, CanPullAt, CanCloseAt, CountsLeft, LeadsOnByPull, LeadsOnByPulls, ClosesBy, Stand}
 use Rattle.clk_router.proofs.ClosingLemmas.{its-latest}
 use Rattle.clk_router.proofs.NeverShort.{kept-is}
 use Rattle.clk_router.proofs.PartsLemmas.{IsMember, member-at, all-there, IsHere, device-here}
@@ -128,9 +128,6 @@ trees-each [] [] count h = refl
 trees-each [] (tree ∷ trees) count h = absurd (omega (arith, count))
 trees-each (device ∷ devices) [] count h = absurd (omega (arith, count))
 trees-each (device ∷ devices) (tree ∷ trees) count h = ap₂ (λ (t : Tree) ts. t ∷ ts) (h 0 device tree refl refl) (trees-each devices trees (omega (arith, count)) (λ i. h (suc i)))
-
-tree-at : (events : List Event) (o : Option Tree) (p : Option RouterDevice) (device : RouterDevice) (tree : Tree) → AreDevicesAt events o p → p ≡ Some device → o ≡ Some tree → device.session.tree ≡ tree
-tree-at events o p device tree is e f = search rules
 
 pub trees-its : (setup : Setup) (events : List Event) (parts : Parts) → IsAt setup events parts → trees_in parts ≡ setup.trees
 trees-its setup events parts at = search (rules, trees-each)

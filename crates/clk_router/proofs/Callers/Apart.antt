@@ -1,5 +1,5 @@
 -- What happens at a device can happen alone.
-use Rattle.std.proofs.Common.{◌≡◌, ℕ, ◌<◌, ◌==◌, ◌&&◌, ◌||◌, List, [], ◌∷◌, length, map, filter, Bool, true, false, if◌then◌else◌, Option, Some, None, IfSome, MatchOption, slice_get, refl, sym, ◌∙◌, subst, arith, rules}
+use Rattle.std.proofs.Common.{◌≡◌, ℕ, ◌<◌, ◌==◌, ◌&&◌, List, [], ◌∷◌, length, map, filter, Bool, true, false, if◌then◌else◌, Option, Some, None, IfSome, MatchOption, slice_get, refl, sym, ◌∙◌, subst, arith, rules}
 use Rattle.std.specs.Bool.{⊤}
 use Rattle.std.specs.List.{flat_map, filter_map, range_with_len, AllByRecursion, list_any}
 use Rattle.std.proofs.lemmas.Bool.{false≢true}
@@ -14,15 +14,6 @@ use Rattle.clk_tree.specs.PlanParts.{number_of}
 use Rattle.clk_router.specs.Events.{Room, Setup, Event, offered, pulled, is_at, is_of_device, happens_at, events_at, number_from, numbers_of, sends_to, answers_in, at_queue, history, IsOfDevice, IsOfSender, NamesItsOffer, RunsTree, CanHappen}
 use Rattle.clk_router.specs.Settled.{sends_at}
 use Rattle.clk_router.specs.Setups.{IsApart}
-
--- tests joined by or
-or-later : (b c : Bool) → c ≡ true → (b || c) ≡ true
-or-later true c e = refl
-or-later false c e = e
-
-or-first : (b c : Bool) → c ≡ false → (b || c) ≡ true → b ≡ true
-or-first true c isnt e = refl
-or-first false c isnt e = absurd (false≢true (sym isnt ∙ e))
 
 -- no sender of a greater number is of this one
 pub none-later : (senders : List SenderSpec) (s n : ℕ) (P : SenderSpec → Bool) → n ≡ s → AllByRecursion (λ m. n < m) (map number_of senders)

@@ -1,7 +1,7 @@
 -- The packets inside a queue were offered: each number is below how many packets its sender offered.
-use Rattle.std.proofs.Common.{◌≡◌, ℕ, zero, suc, ◌+◌, ◌<◌, true, List, [], ◌∷◌, ◌++◌, length, drop, Option, Some, MatchOption, slice_get, sym, ◌∙◌, subst, arith, rules}
+use Rattle.std.proofs.Common.{◌≡◌, ℕ, zero, suc, ◌+◌, ◌<◌, true, List, [], ◌∷◌, ◌++◌, length, drop, Some, MatchOption, slice_get, sym, ◌∙◌, subst, arith, rules}
 use Rattle.std.specs.Bool.{⊤}
-use Rattle.std.specs.List.{filter_map, cons_option, range_with_len, AllByRecursion}
+use Rattle.std.specs.List.{filter_map, range_with_len, AllByRecursion}
 use Rattle.std.proofs.lemmas.Bool.{false≢true}
 use Rattle.std.proofs.lemmas.List.Elements.{filter_map-append}
 use Rattle.clk_packet.specs.declared.packet.Packet.{Packet}
@@ -21,9 +21,6 @@ OfOffer P (pulled device moment visits) = ⊤
 -- the number of a packet is among those that its sender offered
 abbrev IsNumbered : List Event → Packet → Type 0
 IsNumbered events p = stands_in p.number (numbers_of p.sender events) ≡ true
-
-wider : (n : ℕ) (o : Option ℕ) (ns : List ℕ) → stands_in n ns ≡ true → stands_in n (cons_option o ns) ≡ true
-wider n o ns e = search rules
 
 all-numbered : (events : List Event) → AllByRecursion (OfOffer (IsNumbered events)) events
 all-numbered [] = tt

@@ -1,5 +1,4 @@
-use Rattle.std.proofs.Common.{◌≡◌, ℕ, Bool, true, false, if◌then◌else◌, [], ◌∷◌, length, Some, None, refl, ap, arith, rules}
-use Rattle.std.specs.List.{cons_option, range_with_len}
+use Rattle.std.proofs.Common.{[], ◌∷◌, length, Some, refl, ap, arith, rules}
 use Rattle.std.proofs.lemmas.Bool.{false≢true, true≢false}
 use Rattle.clk_packet.specs.declared.packet.Kind.TheVariants.{TailDrop}
 use Rattle.clk_sched.specs.Examples.Priority.{p0_0}
@@ -22,11 +21,6 @@ returns-clause-not_lost c = λ o. absurd (false≢true (o.0.all 0))
 
 pub returns-clause-not_more_than_offered : goal.returns-clause-not_more_than_offered
 returns-clause-not_more_than_offered c = λ o. absurd (true≢false (o.0.all 0))
-
--- the numbers of one offer of sender 0, by whether it is of the sender
-numbered : (s : ℕ) (b : Bool) → cons_option (if b then Some 0 else None) [] ≡ range_with_len 0 (length {A = ℕ} (cons_option (if b then Some 0 else None) []))
-numbered s true = refl
-numbered s false = refl
 
 crossed-offered : CanHappen crossed left_inside
 crossed-offered = search rules
