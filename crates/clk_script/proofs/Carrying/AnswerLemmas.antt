@@ -193,9 +193,3 @@ module _ (setup : Setup) (old mid : ScriptRouter) (asked done : List ScriptRow) 
   closings-kept new drain None closed = tt
   closings-kept new None (Some closings) closed = absurd closed
   closings-kept new (Some moment) (Some closings) closed = sym (length-map closings.items (λ l. l.items)) ∙ closed.closings_count ∙ ap (λ (s : Setup). length s.trees) same_setup
-
-  pub keeps-packets : (new : ScriptRouter) (drain : Option ℕ) (closings : Option (List (List Departure))) → IsClosedFrom mid new drain closings → new.router.keeps.packets ≡ true
-  keeps-packets new None None closed = ap (λ (r : ScriptRouter). r.router.keeps.packets) closed ∙ ap (λ k. k.packets) carried_to.keeps ∙ starts.keeps
-  keeps-packets new None (Some closings) closed = absurd closed
-  keeps-packets new (Some moment) None closed = absurd closed
-  keeps-packets new (Some moment) (Some closings) closed = ap (λ k. k.packets) (closed.keeps ∙ carried_to.keeps) ∙ starts.keeps

@@ -1,8 +1,7 @@
 -- How the router of a script goes on, and what it can do next.
-use Rattle.std.proofs.Common.{◌≡◌, ℕ, ◌+◌, ◌<◌, ◌≤◌, ◌==◌, Bool, true, false, List, [], ◌∷◌, ◌++◌, length, map, filter, max, fold, append-nil, Option, Some, None, slice_get, refl, sym, ap, ap₂, ◌∙◌, subst, arith, rules}
+use Rattle.std.proofs.Common.{◌≡◌, ℕ, ◌+◌, ◌<◌, ◌≤◌, ◌==◌, Bool, true, false, List, [], ◌∷◌, ◌++◌, length, map, filter, max, fold, append-nil, Option, Some, None, refl, sym, ap, ap₂, ◌∙◌, subst, arith, rules}
 use Rattle.std.specs.List.{flat_map, filter_map, range_with_len, AllByRecursion}
 use Rattle.std.proofs.lemmas.List.{length-map}
-use Rattle.std.proofs.lemmas.Option.{slice_get_within}
 use Rattle.std.proofs.lemmas.List.Concat.{flat_map-append}
 use Rattle.std.proofs.lemmas.List.Elements.{filter-append, filter_map-append}
 use Rattle.clk_packet.specs.declared.packet.Packet.{Packet}
@@ -22,7 +21,7 @@ use Rattle.clk_router.proofs.Callers.Events.{pulls-elsewhere, pulls-add_none}
 use Rattle.clk_script.specs.declared.script_router.ScriptRouter.{ScriptRouter}
 use Rattle.clk_script.specs.Script.{most_lines, most_moment}
 use Rattle.clk_script.specs.Meaning.{has_several, command_of, given_text, closing_text}
-use Rattle.clk_script.specs.inside.ScriptRouter.{names_in, evicted_kept, AreAlike, IsAt, IsReadable, IsReady, LeadsOnByPull, departure_text, LeadsOnByDrain, StaysElsewhere}
+use Rattle.clk_script.specs.inside.ScriptRouter.{evicted_kept, AreAlike, IsAt, IsReadable, IsReady, LeadsOnByPull, departure_text, LeadsOnByDrain, StaysElsewhere}
 use Rattle.clk_script.proofs.Texts.LengthLemmas.{length-filter-le, length-filter_map-le}
 
 -- whose the accounts are
@@ -151,13 +150,6 @@ module _ (r : ScriptRouter) (ready : IsReady r) where
 
   few-pulls : (d : ℕ) → length (filter_map pull_in (events_of r.router d)) ≤ most_lines
   few-pulls d = let fewer = length-filter_map-le pull_in (events_of r.router d) in let few = few-at d in omega (arith, fewer, few)
-
-  -- the account of a sender stands at its place among those that may be named
-  pub place-there : (place sender : ℕ) → slice_get (names_in r).senders place ≡ Some sender → place < length r.accounts.items
-  place-there place sender here =
-      let within = slice_get_within (sender_numbers r.router.setup) place sender here in
-      let count = sym (length-map r.accounts.items account_sender) ∙ ap length ready.alike.numbers in
-      omega (arith, within, count)
 
   pub can-offer : (place : ℕ) → place < length r.accounts.items → CanOffer r.router place
   can-offer place within =

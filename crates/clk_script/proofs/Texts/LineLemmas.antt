@@ -1,5 +1,5 @@
 -- What the fields of a line say, by their places.
-use Rattle.std.proofs.Common.{◌≡◌, ℕ, ◌<◌, true, suc, List, [], ◌∷◌, length, drop, codes, Some, None, refl, rules}
+use Rattle.std.proofs.Common.{◌≡◌, ℕ, true, suc, List, [], ◌∷◌, length, drop, codes, Some, refl, rules}
 use Rattle.std.specs.List.{AllByRecursion, filter, slice_split}
 use Rattle.std.proofs.lemmas.Bool.{false≢true}
 use Rattle.clk_script.specs.declared.script.ScriptLine.TheVariants as line
@@ -34,9 +34,6 @@ line-none all h e = search (rules, false≢true)
 -- one number alone, none, and more than one field
 pub moment-alone : (all : List (List ℕ)) (moment : ℕ) → HaveBytes all → number_in 0 most_moment (field_at all 0) ≡ Some moment → length (field_at all 1) ≡ 0 → only_moment all ≡ Some moment
 moment-alone all m h e none = search (rules, false≢true)
-
-pub moment-more : (all : List (List ℕ)) → 0 < length (field_at all 1) → only_moment all ≡ None
-moment-more all some = search rules
 
 -- `send` and two numbers
 pub line-send : (all : List (List ℕ)) (sender size : ℕ) → HaveBytes all → number_in 0 most_sender (field_at all 0) ≡ Some sender → number_in 1 most_length (field_at all 1) ≡ Some size

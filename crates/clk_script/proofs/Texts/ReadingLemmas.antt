@@ -1,6 +1,6 @@
 -- How the reading of a script goes on.
 use Rattle.std.proofs.lemmas.Grind.{common_steps, elements}
-use Rattle.std.proofs.Common.{◌≡◌, ◌≢◌, ℕ, ◌+◌, ◌<◌, ◌≤◌, ◌==◌, ◌||◌, List, [], ◌∷◌, ◌++◌, length, map, take, drop, get_or, slice_get, Option, Some, None, IfSome, MatchOption, is_some, inr, Bool, true, false, refl, sym, ap, subst, ◌∙◌, append_assoc, append-nil, length-append, arith, rules}
+use Rattle.std.proofs.Common.{◌≡◌, ◌≢◌, ℕ, ◌+◌, ◌<◌, ◌≤◌, ◌==◌, List, [], ◌∷◌, ◌++◌, length, map, take, drop, get_or, slice_get, Option, Some, None, IfSome, MatchOption, is_some, inr, Bool, true, false, refl, sym, ap, subst, ◌∙◌, append_assoc, append-nil, length-append, arith, rules}
 use Rattle.std.specs.List.{cons_option, list_any, slice_split, onto_first, AllByRecursion}
 use Rattle.std.specs.Option.{option_or}
 use Rattle.std.specs.Str.Lines.{lines, lines_of_parts, strip_carriage_return}
@@ -16,7 +16,7 @@ use Rattle.clk_script.specs.declared.script.ScriptLine.TheVariants as line
 use Rattle.clk_script.specs.declared.script.Command.{Command}
 use Rattle.clk_script.specs.declared.rows.ScriptRow.{ScriptRow}
 use Rattle.clk_script.specs.declared.reading.Reading.{Reading}
-use Rattle.clk_script.specs.Script.{Names, lines_of, drain_in, is_drain, fault_at, first_fault, most_lines, most_moment}
+use Rattle.clk_script.specs.Script.{Names, lines_of, drain_in, fault_at, first_fault, most_lines, most_moment}
 use Rattle.clk_script.specs.inside.ScriptRouter.{IsReadableLine}
 use Rattle.clk_script.specs.inside.Rows.{asked_by, asked_in, rows_of, IsToDo}
 use Rattle.clk_script.specs.inside.Reading.{AreRead, IsWrong, IsWrongText, IsReading, ReadsOn, EndsLine, AreHeld, HasCome, IsReadToEnd}
@@ -47,9 +47,6 @@ pub lines_of-both : (front rest : List ℕ) → EndsLine front → lines_of (fro
 lines_of-both front rest h = search (rules, append_assoc, lines-both, map-append)
 
 -- One more line is read with nothing wrong, and a reading goes on to what it holds.
-drained-more : (o : Option ℕ) (l : ScriptLine) → (is_some o || is_drain l) ≡ is_some (option_or o (drain_in l))
-drained-more o l = search rules
-
 closing-more : (o d : Option ℕ) (drains : List ℕ) → o ≡ slice_get drains 0 → option_or o d ≡ slice_get (drains ++ cons_option d []) 0
 closing-more o d drains e = grind (arith, common_steps, elements, nat_tests)
 
