@@ -1,7 +1,6 @@
 -- The tokens of all queues, one queue after another.
-use Rattle.std.proofs.Common.{◌≡◌, ℕ, zero, suc, ◌+◌, ◌++◌, ◌∷◌, [], List, length, drop, set, Some, None, slice_get, refl, sym, ap, ◌∙◌, subst, arith}
+use Rattle.std.proofs.Common.{◌≡◌, ℕ, suc, ◌+◌, ◌++◌, ◌∷◌, [], List, length, Some, slice_get, refl, sym, subst, arith}
 use Rattle.std.specs.List.{flat_map, range_with_len, AllZip}
-use Rattle.std.proofs.lemmas.List.{drop-set-lt}
 use Rattle.std.proofs.lemmas.Option.{slice_get_within}
 use Rattle.circular_buffer.specs.Buffer.{Buffer}
 use Rattle.clk_packet.specs.declared.packet.Packet.{Packet}
@@ -38,20 +37,3 @@ all-tokens c items buffers kept =
         let e : i ≡ 0 + i = omega arith in
         subst (λ n. AllZip (IsTokenOf c.setup items) (inside_at c.setup c.events n (slice_get c.setup.queues n)) b.items) e
         (subst (λ o. AllZip (IsTokenOf c.setup items) (inside_at c.setup c.events i o) b.items) (sym room.1) (kept.tokens i room.0 b room.1 at).tokens)
-
--- the tokens from a queue on
-pub from-queue : (bs : List (Buffer ℕ)) (q : ℕ) (b : Buffer ℕ) → slice_get bs q ≡ Some b → flat_map buffer_items (drop q bs) ≡ b.items ++ flat_map buffer_items (drop (q + 1) bs)
-from-queue [] q b e = absurd (cc)
-from-queue (c ∷ bs) zero b e = let same : c ≡ b = cc in ap (λ (x : Buffer ℕ). x.items ++ flat_map buffer_items bs) same
-from-queue (c ∷ bs) (suc q) b e = let n : suc (q + 1) ≡ suc q + 1 = omega arith in from-queue bs q b e ∙ ap (λ k. b.items ++ flat_map buffer_items (drop k (c ∷ bs))) n
-
-after-set : (bs : List (Buffer ℕ)) (q : ℕ) (b : Buffer ℕ) → drop (q + 1) (set bs q b) ≡ drop (q + 1) bs
-after-set bs q b = drop-set-lt (q + 1) bs q b (omega arith)
-
--- an empty queue has none
-pub next-queue : (bs : List (Buffer ℕ)) (q : ℕ) (b left : Buffer ℕ) → slice_get bs q ≡ Some b → None ≡ slice_get b.items 0 → flat_map buffer_items (drop q bs) ≡ flat_map buffer_items (drop (q + 1) (set bs q left))
-next-queue bs q b left at none = from-queue bs q b at ∙ ap (λ l. l ++ flat_map buffer_items (drop (q + 1) bs)) (empty b.items none) ∙ ap (flat_map buffer_items) (sym (after-set bs q left))
-  where
-    empty : (xs : List ℕ) → None ≡ slice_get xs 0 → xs ≡ []
-    empty [] e = refl
-    empty (x ∷ xs) e = absurd (cc)
