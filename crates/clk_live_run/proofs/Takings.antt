@@ -105,12 +105,6 @@ took-same old new same outlets =
     }
 
 -- Devices are pulled by number.
-pub pulled-none : (moment : ℕ) (l : LiveState) → PulledFirst 0 moment l l
-pulled-none moment l = record { setup = refl; outlets = refl; many = omega arith; offers = refl; early = λ low h. h; moments = λ d. sym (ap (λ b. moments_at l.course.setup l.course.events d ++ (if b then moment ∷ [] else [])) (none d) ∙ append-nil _) }
-  where
-    none : (d : ℕ) → nat_lt d 0 ≡ false
-    none d = grind (arith, nat_tests)
-
 pub pulled-command : (device moment : ℕ) (old new : LiveState) (got : Option Emitted) → IsPulledLive device moment (seen old) got (seen new) → commands_of new.course ≡ commands_of old.course ++ Pull device moment ∷ []
 pulled-command device moment old new got one = ap commands_of one.pulled.goes_on ∙ map-append command_of old.course.events (pulled device moment one.pulled.visits ∷ [])
 
