@@ -48,7 +48,3 @@ none_lost = one_seat 0 TailDrop 3 2 (p0_0 ∷ p0_1 ∷ []) [] []
 -- A FrontDropQueue of three packets at leaf 1 evicted a packet that it never accepted.
 abbrev pub evicting_another : TableId → SeatedQueue
 evicting_another = one_seat 1 FrontDrop 3 2 (p1_0 ∷ p1_1 ∷ []) [] (p0_0 ∷ [])
-
--- A Queue of two packets at leaf 1 accepted the one packet of sender 1.
-abbrev pub taking_one : TableId → SeatedQueue
-taking_one = one_seat 1 TailDrop 2 1 (p1_0 ∷ []) [] []

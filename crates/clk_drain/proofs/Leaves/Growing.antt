@@ -10,10 +10,6 @@ use Rattle.clk_sched.specs.Answers.{at_queue, Answers, tree_queue}
 use Rattle.clk_sched.specs.Results.{leaf_packets}
 use Rattle.clk_drain.specs.Line.{LineLists, leaves_of, pulling, pulling_all, answered, PullsAt, AreLinesOf}
 
--- the line with this list of what was taken
-abbrev with_taken : LineLists → List Packet → LineLists
-with_taken l taken = record { leaf = l.leaf; tap = record { id = l.tap.id; setup = l.tap.setup; keeps = l.tap.keeps; taken = taken; gathered = l.tap.gathered }; closed = l.closed }
-
 pub pulling-none : (l : LineLists) → pulling l [] ≡ l
 pulling-none l = search rules
 

@@ -20,9 +20,6 @@ rise-at device leaf [] = tt
 rise-at device leaf (q ∷ queues) = search (rules, (below-at device leaf (suc leaf) queues (omega arith)), (rise-at device (suc leaf) queues))
 
 -- A leaf of none before it is none of theirs.
-passed : (m n : ℕ) (ns : List ℕ) → (m ≡ n → ⊥) → stands_in n (m ∷ ns) ≡ stands_in n ns
-passed m n ns other = search rules
-
 none-at : (device n leaf : ℕ) (queues : List Queued) → n < leaf → stands_in n (leaves_at device leaf queues) ≡ false
 none-at device n leaf [] lt = refl
 none-at device n leaf (q ∷ queues) lt = search (rules, (none-at device n (suc leaf) queues (omega arith)))

@@ -53,9 +53,6 @@ pub pulled-at : (terms : Terms) (ends : List EndLists) (e : EndLists) (pulled : 
     → HavePulled terms (ends ++ e ∷ []) (pulled ++ p ∷ []) queues
 pulled-at terms ends e pulled p queues place q lent consumer f count read lt its fed over is h = search (rules, pulled-more, get_or_default)
 
-pub none-pulled : (terms : Terms) (ends : List EndLists) (queues : List (Vec LeafQueue Global)) → ends ≡ [] → HavePulled terms ends ends queues
-none-pulled terms ends queues none = search rules
-
 -- how many steps it takes to start all producers that are left
 abbrev queue_steps : List (Vec SeatLists Global) → ℕ
 queue_steps [] = 0
