@@ -1,7 +1,6 @@
 -- Elements of a plan, one after another.
-use Rattle.std.proofs.lemmas.Grind.{common_steps}
 use Rattle.std.proofs.Common.{◌≡◌, ◌≤◌, ◌<◌, ◌+◌, ℕ, suc, List, [], ◌∷◌, ◌++◌, length, map, drop, get_or, Some, None, ◌^◌, refl, sym, ap, ap₂, subst, ◌∙◌, append_assoc, length-append, add-one, drop-cons, arith, rules}
-use Rattle.std.proofs.lemmas.List.{map-append, length-map, length-drop}
+use Rattle.std.proofs.lemmas.List.{length-map, length-drop}
 use Rattle.std.specs.List.{AllByRecursion, filter_map}
 use Rattle.clk_syntax.specs.declared.naming.class.Class as declared
 use Rattle.clk_syntax.specs.declared.texts.statements.Declaration.{Declaration}
@@ -14,7 +13,7 @@ use Rattle.clk_syntax.specs.Declarations.{class_in}
 use Rattle.clk_syntax.specs.Within.{IsWithin, IsDeclaredWithin, words_in}
 use Rattle.clk_syntax.proofs.Callers.Elements.{width-in}
 use Rattle.clk_tree.specs.declared.plan.element.Element as plan
-use Rattle.clk_tree.specs.Plan.{Planned, Known, known, all_known, planned_at, planned_from}
+use Rattle.clk_tree.specs.Plan.{Planned, Known, known, all_known, planned_from}
 use Rattle.clk_tree.specs.Elements.{planned}
 use Rattle.clk_tree.specs.inside.Kept.{known_as, names_as}
 
@@ -31,16 +30,6 @@ pub record AreAdded (graph : Graph) (text : List ℕ) (class : Class) (all rest 
   pub is : map planned now ++ planned_in graph (length now) (names_as text class rest) ≡ map planned before ++ planned_in graph (length before) (names_as text class all)
   pub count : length now + length rest ≡ length before + length all
   pub within : AllByRecursion (IsWithin (length text)) rest
-
-added : (graph : Graph) (text : List ℕ) (class : Class) (all rest : List Token) (name : Token) (before now new : List plan.Element) (e : plan.Element) → AreAdded graph text class all (name ∷ rest) before now
-    → new ≡ now ++ e ∷ [] → planned e ≡ planned_at (length graph.nodes.now) graph.links.now (length now) (known_as (letters text name) class) → AreAdded graph text class all rest before new
-added graph text class all rest name before now new e h is made = search (rules, map-append, length-append, append_assoc)
-
--- one more name
-pub added-more : (graph : Graph) (text : List ℕ) (class : Class) (all : List Token) (k : ℕ) (d : Token) (before now new : List plan.Element) (e : plan.Element)
-    → AreAdded graph text class all (drop k all) before now → k < length all → new ≡ now ++ e ∷ []
-    → planned e ≡ planned_at (length graph.nodes.now) graph.links.now (length now) (known_as (letters text (get_or all k d)) class) → AreAdded graph text class all (drop (k + 1) all) before new
-added-more graph text class all k d before now new e h l is made = search (rules, common_steps, add-one, added, drop-cons)
 
 -- all names are added
 pub record AreAll (graph : Graph) (text : List ℕ) (class : Class) (all : List Token) (before now : List plan.Element) : Type 0 where

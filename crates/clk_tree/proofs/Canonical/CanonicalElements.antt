@@ -95,9 +95,6 @@ line_element name class words = record { name = name; class = class; arguments =
 element-sound : (name class : List ℕ) (words : List (List ℕ)) → IsNameText name → IsNameText class → AllByRecursion IsWordText words → ArePartsSound (element_parts name class words)
 element-sound name class words n c all = let end = end-sound words all in (n.word, refl, (refl, (c.word, end.0, end.1)))
 
-abbrev line_tokens : Token → Token → List Token → List Token
-line_tokens name class rest = name ∷ mark Declares ∷ class ∷ rest
-
 element-written : (place : ℕ) (name class : List ℕ) (words : List (List ℕ))
     → map bare (parts_tokens place (element_parts name class words)) ≡ flat_map ended (element_statement place name class words ∷ [])
 element-written place name class words = search (rules, token-bare, end-written, append-nil)

@@ -4,9 +4,8 @@ use Rattle.std.proofs.Common.{◌≡◌, ℕ, ◌+◌, ◌≤◌, ◌<◌, List,
 use Rattle.std.proofs.lemmas.Bool.Decides.{nat_tests}
 use Rattle.std.specs.List.{flat_map, AllByRecursion}
 use Rattle.clk_syntax.specs.declared.texts.token.Symbol.TheVariants.{LeadsTo, OpenPort, ClosePort, Semicolon}
-use Rattle.clk_syntax.specs.declared.texts.token.Token.{Token}
 use Rattle.clk_syntax.specs.Limits.{most_port}
-use Rattle.clk_syntax.specs.Grammar.{Statement, chain, mark, bare, ended}
+use Rattle.clk_syntax.specs.Grammar.{Statement, chain, bare, ended}
 use Rattle.clk_syntax.specs.Reading.{wires_of}
 use Rattle.clk_tree.specs.Plan.{Planned}
 use Rattle.clk_tree.specs.Canonical.{name_of, connection_text, inputs_text, connections_text}
@@ -45,9 +44,6 @@ line_wire from output input to = record { from = from; output = output; input = 
 
 wire-sound : (from digits to : List ℕ) → IsWordText from → IsWordText digits → IsWordText to → ArePartsSound (wire_parts from digits to)
 wire-sound from digits to f d t = (f, refl, (refl, (zero-number.word, refl, (refl, (refl, (refl, (d, refl, (refl, (t, refl, (refl, tt))))))))))
-
-abbrev line_tokens : Token → Token → Token → Token → List Token
-line_tokens from output input to = from ∷ mark OpenPort ∷ output ∷ mark ClosePort ∷ mark LeadsTo ∷ mark OpenPort ∷ input ∷ mark ClosePort ∷ to ∷ mark Semicolon ∷ []
 
 wire-written : (place : ℕ) (from digits to : List ℕ) → map bare (parts_tokens place (wire_parts from digits to)) ≡ flat_map ended (wire_statement place from digits to ∷ [])
 wire-written place from digits to = search (rules, token-bare)

@@ -117,9 +117,6 @@ has-path plan (suc m) i is = by_test (has_output (slice_get plan i)) refl is (ha
     by_test false has is later = record { steps = 0; end = i; leads = (refl, is) }
 
 -- no two devices have one number, and each number is below the number of devices
-abbrev with_one : Bool → List ℕ → List (List ℕ) → List (List ℕ)
-with_one b sources more = if b then sources ∷ more else more
-
 devices-before : (plan : List Planned) (i j : ℕ) → i < j → is_device_at (slice_get plan i) ≡ true → device_count (take i plan) < device_count (take j plan)
 devices-before [] i j l is = absurd (false≢true is)
 devices-before (e ∷ more) zero zero l is = absurd (omega arith)

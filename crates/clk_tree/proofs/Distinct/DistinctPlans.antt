@@ -18,7 +18,7 @@ use Rattle.clk_syntax.specs.Classes.{Class, role_of}
 use Rattle.clk_syntax.specs.Source.{Element, Wire}
 use Rattle.clk_syntax.specs.Declarations.{first_after, fails_at, class_of}
 use Rattle.clk_syntax.specs.Ports as ports
-use Rattle.clk_syntax.specs.Ports.{role_at, uses_output, uses_input, all_connected, inputs_of, output_connected, bad_port, port_twice, port_missing, port_missing_from, has_device, not_a_tree, next, target}
+use Rattle.clk_syntax.specs.Ports.{role_at, uses_output, uses_input, all_connected, inputs_of, output_connected, bad_port, port_twice, port_missing, port_missing_from, next}
 use Rattle.clk_syntax.specs.Faults as faults
 use Rattle.clk_syntax.specs.Faults.{nodes_of, links_of, naming_fault, port_fault, shape_fault, nodes_fault, fault_of}
 use Rattle.clk_syntax.specs.Reading.{elements_of, wires_of}

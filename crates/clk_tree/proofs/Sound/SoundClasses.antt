@@ -31,9 +31,6 @@ numbers-limits : (most : ℕ) (words : List (List ℕ)) (numbers : List ℕ) →
 numbers-limits most [] numbers e = let same : [] ≡ numbers = cc in subst (AreOf most []) same (record { len = refl; each = tt })
 numbers-limits most (word ∷ words) numbers e = search (rules, (numbers-limits most words))
 
-counted : (f : ℕ → Class) (number : Option ℕ) (class : Class) → ((n : ℕ) → number ≡ Some n → HasLimits (f n)) → option_map f number ≡ Some class → HasLimits class
-counted f number class has e = search rules
-
 one : (known class : Class) → HasLimits known → Some known ≡ Some class → HasLimits class
 one known class has e = let same : known ≡ class = cc in subst HasLimits same has
 

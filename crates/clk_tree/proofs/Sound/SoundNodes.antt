@@ -13,7 +13,7 @@ use Rattle.clk_syntax.specs.Faults.{node, nodes_of}
 use Rattle.clk_tree.specs.Plan.{Planned, Known, all_known, planned_at, planned_from, sources_of}
 use Rattle.clk_tree.specs.PlanTree as tree
 use Rattle.clk_tree.specs.inside.PlanTree.{is_queue_at}
-use Rattle.clk_tree.specs.PlanTree.{device_sources, device_count}
+use Rattle.clk_tree.specs.PlanTree.{device_count}
 use Rattle.clk_tree.proofs.Sound.SoundChecks.{at-more}
 use Rattle.clk_tree.proofs.Sound.SoundClasses.{HasLimits, class-limits}
 

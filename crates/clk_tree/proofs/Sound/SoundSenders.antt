@@ -1,11 +1,9 @@
 -- No two Senders of the plan of a text without a fault have the same number.
-use Rattle.std.proofs.Common.{◌≡◌, ℕ, ◌+◌, ◌&&◌, zero, suc, true, false, not, List, [], ◌∷◌, length, Option, Some, None, option_map, slice_get, refl, ap, subst, ◌∙◌, eq-eqb, rules}
+use Rattle.std.proofs.Common.{◌≡◌, ℕ, ◌+◌, ◌&&◌, true, false, not, List, [], ◌∷◌, length, Option, Some, None, option_map, refl, ap, subst, ◌∙◌, eq-eqb, rules}
 use Rattle.std.specs.List.{AllByRecursion, list_any, cons_option}
-use Rattle.std.proofs.lemmas.Bool.{or_parts, or_from, or_right, false≢true}
-use Rattle.std.proofs.lemmas.Option.{same_Some}
+use Rattle.std.proofs.lemmas.Bool.{or_parts, or_from, false≢true}
 use Rattle.clk_packet.specs.declared.fault.Fault.TheVariants.{NameTwice, UnknownClass, BadArgument, UnknownName}
 use Rattle.clk_packet.specs.Lists.{stands_in, are_distinct}
-use Rattle.clk_packet.proofs.Callers.Lists.{distinct-parts}
 use Rattle.clk_syntax.specs.declared.node.Link.{Link}
 use Rattle.clk_syntax.specs.Classes.{Class, sender}
 use Rattle.clk_syntax.specs.Source.{Element, Wire}
@@ -78,25 +76,3 @@ senders-distinct elements wires none =
     let unknown = neither (option_map UnknownClass (unknown_class elements)) _ twice.1 in
     let bad = neither (option_map BadArgument (bad_argument elements)) (option_map UnknownName (unknown_name elements wires)) unknown.1 in
     (distinct-after (length (all_known elements)) (links_of elements wires) [] elements 0 (none-bad (bad_argument elements) bad.0)).distinct
-
--- by their places: Senders of one number are one
-stands-more : (class : Class) (numbers : List ℕ) (n : ℕ) → stands_in n numbers ≡ true → stands_in n (with_number class numbers) ≡ true
-stands-more class numbers n e = search (rules, or_right)
-
-number-stands : (plan : List Planned) (i n : ℕ) (e : Planned) → slice_get plan i ≡ Some e → e.class ≡ sender n → stands_in n (sender_numbers plan) ≡ true
-number-stands [] i n e at is = absurd (cc)
-number-stands (x ∷ plan) zero n e at is = search (rules, same_Some, eq-eqb, stands-more)
-number-stands (x ∷ plan) (suc i) n e at is = stands-more x.class (sender_numbers plan) n (number-stands plan i n e at is)
-
-rest-distinct : (class : Class) (numbers : List ℕ) → are_distinct (with_number class numbers) ≡ true → are_distinct numbers ≡ true
-rest-distinct class numbers e = search (rules, distinct-parts)
-
-first-differs : (x e f : Planned) (plan : List Planned) (j n : ℕ) → are_distinct (sender_numbers (x ∷ plan)) ≡ true → x ≡ e → e.class ≡ sender n → slice_get plan j ≡ Some f → f.class ≡ sender n → ⊥
-first-differs x e f plan j n distinct same is at also = search (rules, false≢true, distinct-parts, number-stands)
-
-one-place : (plan : List Planned) (i j n : ℕ) (e f : Planned) → are_distinct (sender_numbers plan) ≡ true → slice_get plan i ≡ Some e → e.class ≡ sender n → slice_get plan j ≡ Some f → f.class ≡ sender n → i ≡ j
-one-place [] i j n e f distinct at is there also = absurd (cc)
-one-place (x ∷ plan) zero zero n e f distinct at is there also = refl
-one-place (x ∷ plan) zero (suc j) n e f distinct at is there also = absurd (first-differs x e f plan j n distinct (same_Some x e at) is there also)
-one-place (x ∷ plan) (suc i) zero n e f distinct at is there also = absurd (first-differs x f e plan i n distinct (same_Some x f there) also at is)
-one-place (x ∷ plan) (suc i) (suc j) n e f distinct at is there also = ap suc (one-place plan i j n e f (rest-distinct x.class (sender_numbers plan) distinct) at is there also)
