@@ -1,7 +1,6 @@
 -- What sessions keep of the past. Some keep their visits in memory, and of others contracts alone know the visits.
-use Rattle.std.specs.Prelude.{◌≡◌, ◌||◌, Bool, true, false}
+use Rattle.std.specs.Prelude.{◌||◌, Bool, true, false}
 use Rattle.clk_sched.specs.declared.session.keeps.Keeps.{Keeps}
-use Rattle.clk_sched.specs.Session.{SessionLists}
 
 abbrev pub keeps_all : Keeps
 keeps_all = record { visits = true; packed = false; packets = true; latest = false }
@@ -23,7 +22,3 @@ keeps_visits keeps = keeps.visits || keeps.packed
 -- whether emitted packets are kept, or can be read off the visits that are kept
 abbrev pub keeps_emitted : Keeps → Bool
 keeps_emitted keeps = keeps.packets || keeps_visits keeps
-
--- At the end it's known which packets a session emitted: it keeps them, or it keeps its visits, and dropped none.
-abbrev pub TellsEmitted : SessionLists → Type 0
-TellsEmitted s = (keeps_emitted s.keeps ≡ true) × (s.gone ≡ 0)

@@ -2,8 +2,6 @@
 use Rattle.std.proofs.lemmas.Grind.{common_steps, elements}
 use Rattle.std.proofs.Common.{◌≡◌, ◌≢◌, ℕ, zero, suc, ◌+◌, ◌-◌, ◌<◌, ◌≤◌, ◌==◌, ◌||◌, if◌then◌else◌, inl, inr, Bool, true, false, List, [], ◌∷◌, length, map, take, drop, get_or, Some, slice_get, refl, sym, ap, ap₂, ◌∙◌, subst, arith, rules}
 use Rattle.std.specs.List.{enumerate_from, range_with_len, list_any, AllByRecursion}
-use Rattle.std.proofs.lemmas.List.{length-map}
-use Rattle.std.proofs.lemmas.List.FromFn.{length-enumerate_from}
 use Rattle.std.proofs.lemmas.Bool.Decides.{nat_tests}
 use Rattle.std.proofs.Math.Nat.{div-le_self}
 use Rattle.clk_sched.specs.declared.visit.Visit.{Visit}
@@ -18,7 +16,7 @@ use Rattle.clk_sched.specs.inside.Pulling.{AreApart}
 use Rattle.clk_sched.proofs.Lists.Apart.{all-map}
 use Rattle.clk_sched.proofs.Classes.Orders.{paired_input, rising-apart, enumerated, passes-length}
 use Rattle.clk_sched.proofs.Classes.Enumerated.{enumerated-at}
-use Rattle.clk_sched.proofs.Lists.Rising.{put-first, IsInOrder, rising-is, rising-same, rising-length, mapped-rising, ordered-in}
+use Rattle.clk_sched.proofs.Lists.Rising.{put-first, IsInOrder, rising-is, rising-same, mapped-rising, ordered-in}
 use Rattle.clk_sched.proofs.Classes.RankLemmas.{win-least}
 
 pub put-pairs : (taken : ℕ) (r : Ranked) (others : List Ranked) → map (with_pass taken) (put_rank r others) ≡ put_in_order (with_pass taken r) (map (with_pass taken) others)
@@ -235,10 +233,6 @@ order-is tickets turns p holds = firsts p.row.items ∙ ap (map (λ (i : ℕ × 
     firsts : (row : List Ranked) → map (λ (r : Ranked). r.input) row ≡ map (λ (i : ℕ × ℕ). i.0) (map (λ (r : Ranked). (r.input, r.pass + holds.taken)) row)
     firsts [] = refl
     firsts (r ∷ row) = ap (λ xs. r.input ∷ xs) (firsts row)
-
--- each input has one rank
-pub inputs-all : (tickets : List ℕ) (turns : List Turn) (p : Passes) → HoldsPasses tickets turns p → length p.row.items ≡ length tickets
-inputs-all tickets turns p holds = search (rules, length-map, rising-length, length-enumerate_from, passes-length)
 
 -- before the first pull
 first-pairs : (n : ℕ) (tickets : List ℕ) → map (with_pass 0) (map first_rank (range_with_len n (length tickets))) ≡ enumerate_from n (map (λ _. 0) tickets)

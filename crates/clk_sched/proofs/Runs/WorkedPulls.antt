@@ -2,16 +2,11 @@
 use Rattle.std.proofs.Common.{◌≡◌, ℕ, ◌≤◌, List, [], ◌∷◌, ◌++◌, length, map, Option, refl, lit≤, rules}
 use Rattle.clk_packet.specs.declared.packet.Packet.{Packet}
 use Rattle.clk_sched.specs.declared.visit.Visit.{Visit}
-use Rattle.clk_sched.specs.Turns.{AsksInOrder}
-use Rattle.clk_sched.specs.Log.{asking, pulls, moment_of, NeverFalls}
+use Rattle.clk_sched.specs.Log.{pulls, moment_of, NeverFalls}
 use Rattle.clk_sched.specs.Run.{IsRun}
 use Rattle.clk_sched.specs.Step.{IsNextPull}
 use Rattle.clk_sched.specs.Examples.Draining.{over_queue, pull_giving, first_two}
 use Rattle.clk_sched.proofs.Runs.GoesOn.{goes-on}
-
--- a node asked its one input
-asks-one : (k t x : ℕ) (o : Option Packet) → AsksInOrder (0 ∷ []) (asking k t x 0 o ∷ [])
-asks-one k t x o = search rules
 
 -- Such a run goes on by each pull of the next number, at a moment that is no earlier.
 pub goes-on-giving : (q k t : ℕ) (o : Option Packet) (log : List Visit) → IsRun (over_queue q) log → k ≡ length (pulls log) → NeverFalls 0 (map moment_of (pulls log ++ pull_giving k t o ∷ []))

@@ -6,7 +6,7 @@ use Rattle.clk_packet.specs.declared.packet.Packet.{Packet}
 use Rattle.clk_sched.specs.declared.visit.Visit.{Visit}
 use Rattle.clk_sched.specs.declared.session.departures.Departure.{Departure}
 use Rattle.clk_sched.specs.declared.session.departures.Departures.{Departures}
-use Rattle.clk_sched.specs.Log.{visits_of, pulls, moment_of, result_of}
+use Rattle.clk_sched.specs.Log.{pulls}
 use Rattle.clk_sched.specs.Session.{Progress, IsPulledOnce, counted_moment}
 use Rattle.clk_sched.specs.Departures.{departure_at, departures_in, pulls_since, IsAddedTo}
 
@@ -19,10 +19,6 @@ added-then a b c xs ys h k = search (rules, append_assoc)
 
 pub added-same : (a b c : Departures) (xs : List Departure) → IsAddedTo a xs b → IsAddedTo b [] c → IsAddedTo a xs c
 added-same a b c xs h k = subst (λ l. IsAddedTo a l c) (append-nil xs) (added-then a b c xs [] h k)
-
--- what a pull gave
-abbrev given : List Visit → List Departure
-given pull = departure_at (moment_of pull) (result_of (visits_of 0 pull))
 
 -- what one pull more gave
 pub departed-more : (old s t : Progress) (more : List (List Visit)) (moment : ℕ) (got : Option Packet) → pulls s.log ≡ pulls old.log ++ more → counted_moment s ≤ moment → IsPulledOnce s t moment got

@@ -18,7 +18,7 @@ use Rattle.clk_sched.specs.Turns.{Turn, visits_before}
 use Rattle.clk_sched.specs.Heads.{head_at}
 use Rattle.clk_sched.specs.Laws.{manner}
 use Rattle.clk_sched.specs.Due.{lets_through, holds_head, could_emit, tree_could_emit, has_come, IsDue}
-use Rattle.clk_sched.specs.inside.Due.{sooner_of, HoldsHead, AreDue, IsDueAt}
+use Rattle.clk_sched.specs.inside.Due.{sooner_of, AreDue, IsDueAt}
 use Rattle.clk_sched.specs.inside.Holds.OfClass.{Holds}
 use Rattle.clk_sched.specs.inside.Places.{inputs_of}
 use Rattle.clk_sched.specs.inside.Pulling.{History}
@@ -71,10 +71,6 @@ abbrev is_queue : Input → Bool
 is_queue (Queue q) = true
 is_queue (Node m) = false
 
-abbrev number : Input → ℕ
-number (Queue q) = q
-number (Node m) = m
-
 -- nothing is possible from a row without inputs
 no-row : (turns : History) (backlogged : ℕ → Bool) (moment next : ℕ) (row : Row) → inputs_of next row ≡ [] → could_emit turns backlogged moment next row ≡ false
 no-row turns backlogged moment next end e = refl
@@ -119,16 +115,6 @@ first-at_once n backlogged i others due is one next (node class inputs row) hist
     let first = without (λ moment. lets_through class (history next) moment && (holds_head (manner class (width inputs)) (width inputs) (history next) || could_emit history backlogged moment (suc next) inputs))
     n.moment due (one next (node class inputs end) history (ap (λ l. get_or l 0 i ∷ []) e) (has.0, has.1, tt) (holds.0, holds.1, tt) before) in
     subst (IsDue _ n.moment) (sym is) (at-once _ (λ moment. could_emit history backlogged moment (suc (next + nodes inputs)) row) n.moment (subst (IsDue _ n.moment) is first))
-
--- what is due below a node without a head, behind its own way
-behind : (n : Nodes) (backlogged : ℕ → Bool) (x : ℕ) (s : State) (p : Inputs) (class : Scheduler) (row : Row) (history : History) (due : Option ℕ) → HoldsHead s false → Holds class (width row) (history x) s
-    → IsDue (λ moment. could_emit history backlogged moment (suc x) row) n.moment due
-    → IsDue (λ moment. holds_head (manner class (width row)) (width row) (history x) || could_emit history backlogged moment (suc x) row) n.moment due
-behind n backlogged x s p class row history due held state h = search rules
-
-pub below-none : (n : Nodes) (backlogged : ℕ → Bool) (x : ℕ) (s : State) (p : Inputs) → slice_get n.states.items x ≡ Some s → slice_get n.inputs.items x ≡ Some p
-    → HoldsHead s false → AreDue n backlogged p.each.items None → IsDueAt n backlogged x None
-below-none n backlogged x s p is there held below class row history stands holds before = search rules
 
 -- What the walk finds at the device is due after the log.
 pub tree-due : (tree : Tree) (n : Nodes) (backlogged : ℕ → Bool) (p : Inputs) (due : Option ℕ) → IsAfterRun tree n → slice_get n.inputs.items 0 ≡ Some p → AreDue n backlogged p.each.items due
