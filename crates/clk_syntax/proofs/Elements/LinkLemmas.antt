@@ -59,6 +59,3 @@ place-below (e ∷ more) name there = by_test (bytes_eq e.name.letters name) ref
 pub found : (all : List Element) (name : List ℕ) (word_place place : ℕ) → place_if all name ≡ Some place
     → (fails_at (not (is_declared name all)) word_place ≡ None) × (place ≡ place_of all name) × (place < length all)
 found all name word_place place e = search (rules, place-below)
-
-pub missing : (all : List Element) (name : List ℕ) (word_place : ℕ) → place_if all name ≡ None → fails_at (not (is_declared name all)) word_place ≡ Some word_place
-missing all name word_place e = search rules

@@ -1,9 +1,8 @@
 -- What the parts of a text's reading find makes up what is wrong with it.
-use Rattle.std.proofs.Common.{◌≡◌, ◌⊎◌, ◌≤◌, ℕ, List, length, false, nat_lt, if◌then◌else◌, Some, None, Result, Ok, Err, IfErr, OnOk, option_map, inl, inr, sym, ap, ap₂, subst, ◌∙◌, arith}
+use Rattle.std.proofs.Common.{◌≡◌, ◌≤◌, ℕ, List, length, false, nat_lt, if◌then◌else◌, Some, None, option_map, sym, ap, ap₂, subst, ◌∙◌, arith}
 use Rattle.std.proofs.lemmas.Bool.Decides.{nat_tests}
 use Rattle.std.specs.Option.{option_or}
-use Rattle.clk_packet.specs.declared.fault.Fault.{Fault}
-use Rattle.clk_packet.specs.declared.fault.Fault.TheVariants.{Memory, BadText, TooLarge}
+use Rattle.clk_packet.specs.declared.fault.Fault.TheVariants.{BadText, TooLarge}
 use Rattle.clk_syntax.specs.declared.node.Node.{Node}
 use Rattle.clk_syntax.specs.declared.node.Link.{Link}
 use Rattle.clk_syntax.specs.declared.texts.statements.Connection.{Connection}
@@ -14,7 +13,7 @@ use Rattle.clk_syntax.specs.Diagram.{start, wrong_from}
 use Rattle.clk_syntax.specs.Grammar.{IsText}
 use Rattle.clk_syntax.specs.Source.{Declared, elements, wires}
 use Rattle.clk_syntax.specs.Faults.{offset_of, bad_text, text_fault, nodes_of, links_of, nodes_fault, fault_of}
-use Rattle.clk_syntax.specs.Reading.{HasFault, HasStatementFault, IsFaultless, IsNamedText}
+use Rattle.clk_syntax.specs.Reading.{IsFaultless, IsNamedText}
 
 pub not-less : (m n : ℕ) → n ≤ m → nat_lt m n ≡ false
 not-less m n l = grind (arith, nat_tests)
@@ -24,25 +23,6 @@ pub right-text : (text : List ℕ) (tokens : List Token) → length text ≤ mos
 right-text text tokens few are right =
     ap (λ b. if b then Some TooLarge else option_map BadText (bad_text text)) (not-less most_tree_bytes (length text) few)
     ∙ ap (λ o. option_map BadText (option_map (offset_of (length text)) o)) (ap (wrong_from start) (sym are) ∙ right)
-
-statement-fault : (text : List ℕ) (tokens : List Token) (declared : List Declared) (connections : List Connection) (nodes : List Node) (links : List Link) (fault : Fault)
-    → IsNamedText text tokens declared connections nodes links → nodes_fault nodes links ≡ Some fault → HasStatementFault text fault
-statement-fault text tokens declared connections nodes links fault h is = record {
-  short_and_right = right-text text tokens h.few h.are h.right;
-  statements = h.read.0;
-  is_text = subst (λ ts. IsText ts h.read.0) h.are h.read.1;
-  is = ap₂ (λ d c. fault_of (elements text d) (wires text c)) (sym h.read.2) (sym h.read.3)
-      ∙ ap (λ o. option_or o (nodes_fault (nodes_of (elements text declared)) (links_of (elements text declared) (wires text connections)))) h.named
-      ∙ ap₂ nodes_fault (sym h.nodes_are) (sym h.links_are) ∙ is;
-}
-
--- what the checks of nodes find is what is wrong with the text
-pub checked-fault : {T : Type 0} (text : List ℕ) (tokens : List Token) (declared : List Declared) (connections : List Connection) (nodes : List Node) (links : List Link) (result : Result T Fault)
-    → IsNamedText text tokens declared connections nodes links → IfErr result (λ fault. (fault ≡ Memory) ⊎ (nodes_fault nodes links ≡ Some fault))
-    → IfErr result (λ fault. (fault ≡ Memory) ⊎ HasFault text fault)
-checked-fault text tokens declared connections nodes links (Ok x) h found = _
-checked-fault text tokens declared connections nodes links (Err fault) h (inl refused) = inl refused
-checked-fault text tokens declared connections nodes links (Err fault) h (inr is) = inr (inr (statement-fault text tokens declared connections nodes links fault h is))
 
 abbrev pub faultless-by : (text : List ℕ) (tokens : List Token) (declared : List Declared) (connections : List Connection) (nodes : List Node) (links : List Link)
     → IsNamedText text tokens declared connections nodes links → nodes_fault nodes links ≡ None → IsFaultless text
@@ -54,9 +34,3 @@ faultless-by text tokens declared connections nodes links h none = record {
       ∙ ap (λ o. option_or o (nodes_fault (nodes_of (elements text declared)) (links_of (elements text declared) (wires text connections)))) h.named
       ∙ ap₂ nodes_fault (sym h.nodes_are) (sym h.links_are) ∙ none;
 }
-
--- a text in which the checks of nodes find nothing has no fault
-pub checked-faultless : {T : Type 0} (text : List ℕ) (tokens : List Token) (declared : List Declared) (connections : List Connection) (nodes : List Node) (links : List Link) (result : Result T Fault)
-    → IsNamedText text tokens declared connections nodes links → OnOk result (nodes_fault nodes links ≡ None) → OnOk result (IsFaultless text)
-checked-faultless text tokens declared connections nodes links (Ok x) h none = faultless-by text tokens declared connections nodes links h none
-checked-faultless text tokens declared connections nodes links (Err fault) h none = _

@@ -4,10 +4,10 @@ use Rattle.std.proofs.lemmas.List.{append-nil}
 use Rattle.std.specs.Bool.{if◌then◌else◌}
 use Rattle.std.specs.Option.{option_map}
 use Rattle.std.specs.List.{flat_map, AllByRecursion}
-use Rattle.clk_syntax.specs.declared.texts.token.Symbol.TheVariants.{Name, Number, OtherWord, Declares, LeadsTo, OpenPort, ClosePort, OpenArguments, CloseArguments, Comma, Semicolon, Nothing}
+use Rattle.clk_syntax.specs.declared.texts.token.Symbol.TheVariants.{Name, Number, OtherWord, Declares, LeadsTo, OpenPort, OpenArguments, CloseArguments, Comma, Semicolon, Nothing}
 use Rattle.clk_syntax.specs.declared.texts.token.Token.{Token}
-use Rattle.clk_syntax.specs.Diagram.{Place, start, first_name, comma, further_name, declares, class, opened, argument, closed, output_opened, output_number, output_closed, leads_to, input_number, next_name, after, may_end, wrong_from}
-use Rattle.clk_syntax.specs.Grammar.{Hop, Statement, nothing, declaration, chain, mark, bare, after_comma, listed, written_arguments, written_port, written_hop, written, ended, IsName, IsWord, IsPort, IsHop, IsStatement, IsText}
+use Rattle.clk_syntax.specs.Diagram.{Place, start, first_name, comma, further_name, declares, class, opened, argument, closed, output_opened, output_number, leads_to, input_number, next_name, after, may_end, wrong_from}
+use Rattle.clk_syntax.specs.Grammar.{Hop, Statement, nothing, declaration, chain, mark, bare, after_comma, listed, written_arguments, written_port, written_hop, written, ended, IsName, IsWord, IsHop, IsStatement, IsText}
 use Rattle.clk_syntax.proofs.Parsing.WithinLemmas.{all-first, all-last}
 
 -- what was read of a statement
@@ -103,9 +103,6 @@ runs-one p q s t e same = record { runs = λ rest. step p q s t rest e ∙ same 
 runs-name : (p q : Place) (s : SoFar) (t : Token) → IsName t → after p Name ≡ Some q → ((x : Statement) (o : Option (List Statement)) → emit q x o ≡ o) → Runs p s (t ∷ []) q (put q t s)
 runs-name p q s t name e same = runs-one p q s t (ap (after p) name ∙ e) same
 
-runs-number : (p q : Place) (s : SoFar) (t : Token) → t.symbol ≡ Number → after p Number ≡ Some q → ((x : Statement) (o : Option (List Statement)) → emit q x o ≡ o) → Runs p s (t ∷ []) q (put q t s)
-runs-number p q s t number e same = runs-one p q s t (ap (after p) number ∙ e) same
-
 -- further names
 runs-names : (s : SoFar) (more : List Token) → AllByRecursion IsName more → Runs further_name s (flat_map after_comma more) further_name (record s { more = s.more ++ more })
 runs-names s [] names = runs-none (ap (λ (l : List Token). record s { more = l }) (sym (append-nil s.more)))
@@ -135,15 +132,6 @@ runs-listed s (w ∷ ws) words =
     runs-then all (runs-one argument closed (record s { words = s.words ++ w ∷ ws }) (mark CloseArguments) refl (λ x o. refl))
 
 -- a hop, from a name
-module _ (p : Place) (opens : after p OpenPort ≡ Some output_opened) (leads : after p LeadsTo ≡ Some leads_to) where
-  runs-output : (s : SoFar) (o : Option Token) → IsPort o → s.output ≡ None → Runs p s (written_port o ++ mark LeadsTo ∷ []) leads_to (record s { output = o })
-  runs-output s None port none = runs-to (ap (λ (x : Option Token). record s { output = x }) none) (runs-one p leads_to s (mark LeadsTo) leads (λ x o. refl))
-  runs-output s (Some n) port none =
-      runs-then
-      (runs-then (runs-one p output_opened s (mark OpenPort) opens (λ x o. refl))
-      (runs-then (runs-number output_opened output_number s n port refl (λ x o. refl)) (runs-one output_number output_closed (record s { output = Some n }) (mark ClosePort) refl (λ x o. refl))))
-      (runs-one output_closed leads_to (record s { output = Some n }) (mark LeadsTo) refl (λ x o. refl))
-
 hop-written : (h : Hop) → (written_port h.output ++ mark LeadsTo ∷ []) ++ (written_port h.input ++ h.name ∷ []) ≡ written_hop h
 hop-written h = search rules
 

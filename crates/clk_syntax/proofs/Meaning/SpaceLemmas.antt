@@ -1,6 +1,5 @@
 -- What texts of one byte, over and over, say.
-use Rattle.std.proofs.Common.{◌≡◌, ◌≤◌, ◌<◌, ◌+◌, ℕ, zero, suc, [], ◌∷◌, length, replicate, map, true, nat_lt, None, option_map, inr, refl, ap, ◌∙◌, arith, rules}
-use Rattle.std.proofs.lemmas.Bool.Decides.{nat_tests}
+use Rattle.std.proofs.Common.{◌≡◌, ◌≤◌, ◌+◌, ℕ, zero, suc, [], ◌∷◌, length, replicate, map, None, option_map, inr, refl, ap, ◌∙◌, rules}
 use Rattle.std.proofs.lemmas.List.{length-replicate}
 use Rattle.clk_packet.specs.declared.fault.Fault.TheVariants.{BadText, NoDevice}
 use Rattle.clk_syntax.specs.Limits.{most_tree_bytes}
@@ -11,9 +10,6 @@ use Rattle.clk_syntax.specs.Faults.{offset_of, bad_text, text_fault}
 use Rattle.clk_syntax.specs.Reading.{HasFault}
 use Rattle.clk_syntax.specs.Examples.{spaces}
 use Rattle.clk_syntax.proofs.Meaning.FaultLemmas.{not-less}
-
-less : (m n : ℕ) → m < n → nat_lt m n ≡ true
-less m n l = grind (arith, nat_tests)
 
 -- of any other it is told where a token is wrong
 short : (byte n : ℕ) → n ≤ most_tree_bytes → text_fault (replicate n byte) ≡ option_map BadText (bad_text (replicate n byte))

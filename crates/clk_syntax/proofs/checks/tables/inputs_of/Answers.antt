@@ -1,4 +1,4 @@
-use Rattle.std.proofs.Common.{◌<◌, ◌-◌, length, sym, subst, arith}
+use Rattle.std.proofs.Common.{◌-◌, length, arith}
 use Rattle.clk_syntax.specs.Limits.{most_tree_bytes}
 use Rattle.clk_syntax.specs.declared.node.Link.{Link}
 use Rattle.clk_syntax.proofs.Graphs.FailureLemmas.{all-at}

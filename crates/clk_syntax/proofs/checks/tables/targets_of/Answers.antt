@@ -1,4 +1,4 @@
-use Rattle.std.proofs.Common.{◌-◌, arith}
+use Rattle.std.proofs.Common.{arith}
 use Rattle.clk_syntax.proofs.Graphs.TableLemmas.{before-within, target-before}
 use Rattle.clk_syntax.proofs.checks.tables.targets_of.Goals as goal
 
