@@ -1,26 +1,11 @@
 -- Bytes that are added to a record, one line after another.
-use Rattle.std.proofs.Common.{◌≡◌, ℕ, ◌+◌, ◌-◌, ◌<◌, ◌≤◌, List, [], ◌++◌, length, take, drop, map, replicate, get_or, None, sym, ap, ◌∙◌, arith, append-nil, append_assoc, length-append}
+use Rattle.std.proofs.Common.{◌≡◌, ℕ, ◌+◌, ◌-◌, ◌<◌, ◌≤◌, List, ◌++◌, length, take, drop, map, replicate, get_or, None, sym, ap, ◌∙◌, arith}
 use Rattle.std.proofs.lemmas.List.{take-append-le, take-append-drop, take-take, map-append, length-take-le, replicate-append-replicate}
 use Rattle.clk_script.specs.declared.script.Command.{Command}
 use Rattle.clk_script.specs.Record.{command_text, record_text}
 use Rattle.clk_script.proofs.Callers.Records.{command-more, front-shorter}
 use Rattle.clickpull_c.specs.Recording.{IsAdded}
 use Rattle.clickpull_c.proofs.Fills.{front-more}
-
-pub added-none : (text : List ℕ) (used : ℕ) → used ≤ length text → IsAdded [] text text used used
-added-none text used low = record { is = sym (append-nil (take used text)); end_is = omega arith; within = low }
-
-pub added-more : (front back before mid after : List ℕ) (used end end' : ℕ) → length mid ≡ length before → IsAdded front before mid used end → IsAdded back mid after end end' → IsAdded (front ++ back) before after used end'
-added-more front back before mid after used end end' same first next =
-    let both = length-append front back in
-    let a = first.end_is in
-    let b = next.end_is in
-    let w = next.within in
-    record {
-      is = next.is ∙ ap (λ l. l ++ back) first.is ∙ append_assoc (take used before) front back;
-      end_is = omega (arith, both, a, b);
-      within = omega (arith, same, w);
-    }
 
 -- the used bytes are as they were
 pub added-keeps : (bytes before after : List ℕ) (used end : ℕ) → IsAdded bytes before after used end → length after ≡ length before → take used after ≡ take used before
