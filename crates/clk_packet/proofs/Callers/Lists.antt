@@ -9,6 +9,11 @@ pub all-append : {X : Type 0} (P : X → Type 0) (xs ys : List X) → AllByRecur
 all-append P [] ys h k = k
 all-append P (x ∷ xs) ys h k = (h.0, all-append P xs ys h.1 k)
 
+-- what follows of each member from two things that hold of it
+pub all-both : {X : Type 0} (P Q R : X → Type 0) (xs : List X) → ((x : X) → P x → Q x → R x) → AllByRecursion P xs → AllByRecursion Q xs → AllByRecursion R xs
+all-both P Q R [] f h k = tt
+all-both P Q R (x ∷ xs) f h k = (f x h.0 k.0, all-both P Q R xs f h.1 k.1)
+
 -- a number that stands in one of two lists
 pub stands-left : (n : ℕ) (xs ys : List ℕ) → stands_in n xs ≡ true → stands_in n (xs ++ ys) ≡ true
 stands-left n [] ys h = absurd (true≢false (sym h))
