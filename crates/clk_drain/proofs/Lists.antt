@@ -5,10 +5,6 @@ use Rattle.std.proofs.lemmas.Bool.{or_right}
 use Rattle.clk_packet.specs.Lists.{In, stands_in}
 use Rattle.clk_sched.proofs.Callers.Lists.{all-weaker}
 
-pub all-both : {X : Type 0} (P Q R : X → Type 0) (xs : List X) → ((x : X) → P x → Q x → R x) → AllByRecursion P xs → AllByRecursion Q xs → AllByRecursion R xs
-all-both P Q R [] f h k = tt
-all-both P Q R (x ∷ xs) f h k = (f x h.0 k.0, all-both P Q R xs f h.1 k.1)
-
 pub all-unmap : {X Y : Type 0} (P : Y → Type 0) (f : X → Y) (xs : List X) → AllByRecursion P (map f xs) → AllByRecursion (λ x. P (f x)) xs
 all-unmap P f [] h = tt
 all-unmap P f (x ∷ xs) h = (h.0, all-unmap P f xs h.1)

@@ -4,6 +4,7 @@ use Rattle.std.specs.List.{AllByRecursion}
 use Rattle.std.proofs.lemmas.Bool.{eqb-true}
 use Rattle.clk_packet.specs.declared.packet.Packet.{Packet}
 use Rattle.clk_packet.specs.Lists.{stands_in, AreRising}
+use Rattle.clk_packet.proofs.Callers.Lists.{all-both}
 use Rattle.clk_sched.specs.Run.{IsRun}
 use Rattle.clk_sched.specs.Results.{Traced, leaf_packets, traced_emitted, emitted, heads}
 use Rattle.clk_sched.specs.Conservation.{from_queue, ConservesPackets, MakesNothing}
@@ -12,7 +13,7 @@ use Rattle.clk_sched.proofs.Callers.Traced.{emitted-traced, none-traced, all-tra
 use Rattle.clk_drain.specs.Line.{LineLists, leaves_of, seats_of, seats_in, senders_at, AreLinesOf, HaveOwnSenders}
 use Rattle.clk_drain.specs.inside.Parts.{IsSettledLine}
 use Rattle.clk_drain.proofs.Leaves.Seated.{line_senders, Sits, CameOver, sits-has, one-leaf, came-over}
-use Rattle.clk_drain.proofs.Lists.{all-both, all-unmap, all-named}
+use Rattle.clk_drain.proofs.Lists.{all-unmap, all-named}
 
 -- What each tap took is what was emitted of its queue.
 taken-emitted : (session : Progress) (lines : List LineLists) → ConservesPackets session.tree → IsRun session.tree session.log → heads session.tree session.log ≡ [] → AreLinesOf session lines

@@ -8,7 +8,7 @@ use Rattle.clk_packet.specs.declared.packet.Kind.TheVariants.{TailDrop, FrontDro
 use Rattle.clk_packet.specs.declared.packet.Packet.{Packet}
 use Rattle.clk_packet.specs.declared.tally.Tally.{Tally}
 use Rattle.clk_packet.specs.Lists.{of_sender, stands_in, are_distinct}
-use Rattle.clk_packet.proofs.Callers.Lists.{all-append, distinct-parts}
+use Rattle.clk_packet.proofs.Callers.Lists.{all-append, distinct-parts, all-both}
 use Rattle.clk_ruled.specs.PacketLists.{has_packet, without}
 use Rattle.clk_ruled.specs.Queue.{SeatLists, TapLists, ClosedLists, IsDealt, IsSharedOut}
 use Rattle.clk_ruled.specs.Settle.{lists_of, of_seat, accepted_of, evicted_of, all_evicted, AreOfTap, tally_of}
@@ -24,7 +24,7 @@ use Rattle.clk_drain.proofs.Plans.Apart.{apart-parts}
 use Rattle.clk_drain.proofs.Leaves.Seated.{joined}
 use Rattle.clk_drain.proofs.Drains.Tallies.{tellers, in-order-rise, in-order-found, in-order-all, tellers-in, AreFound, each-found, none-filtered, no-evicted, accepted-same, lost-some}
 use Rattle.clk_sched.proofs.Callers.Lists.{all-split, all-weaker}
-use Rattle.clk_drain.proofs.Lists.{all-both, all-named}
+use Rattle.clk_drain.proofs.Lists.{all-named}
 
 -- a sender that no seat has is another than each seat's
 others : (s : ℕ) (seats : List SeatLists) → stands_in s (senders_at seats) ≡ false → AllByRecursion (λ (c : SeatLists). (s == c.sender) ≡ false) seats

@@ -24,9 +24,8 @@ use Rattle.clk_drain.specs.Outcome.{SharedQueue}
 use Rattle.clk_drain.specs.Run.{queues_at, HasLostEarly, IsFaultOfRun}
 use Rattle.clk_drain.proofs.Plans.Apart.{apart-parts}
 use Rattle.clk_drain.proofs.Drains.Settling.{own-list}
-use Rattle.clk_packet.proofs.Callers.Lists.{all-append}
+use Rattle.clk_packet.proofs.Callers.Lists.{all-append, all-both}
 use Rattle.clk_sched.proofs.Callers.Lists.{all-split, all-weaker}
-use Rattle.clk_drain.proofs.Lists.{all-both}
 
 -- The queues of devices are those of the plan, by their numbers.
 abbrev StandsIn : List Queued → SharedQueue → Type 0

@@ -8,7 +8,7 @@ use Rattle.clk_packet.specs.declared.tally.Tally.{Tally}
 use Rattle.clk_packet.specs.Dealt.{IsDealt}
 use Rattle.clk_packet.specs.Lists.{of_sender, stands_in, are_distinct}
 use Rattle.clk_packet.specs.Trace.{sent_by}
-use Rattle.clk_packet.proofs.Callers.Lists.{stands-right, stands-either}
+use Rattle.clk_packet.proofs.Callers.Lists.{stands-right, stands-either, all-both}
 use Rattle.clk_tree.specs.Plan.{Planned}
 use Rattle.clk_tree.specs.PlanParts.{Queued, queues_of}
 use Rattle.clk_drain.specs.Laws.{RunsAccountForEmitted}
@@ -16,7 +16,6 @@ use Rattle.clk_drain.specs.Outcome.{SharedQueue, Device, senders_to, IsTallied, 
 use Rattle.clk_drain.specs.Run.{AreDevicesFrom}
 use Rattle.clk_drain.proofs.Plans.Apart.{not-both, apart-parts, none-left}
 use Rattle.clk_drain.proofs.Threads.Joining.{senders_over}
-use Rattle.clk_drain.proofs.Lists.{all-both}
 use Rattle.clk_drain.proofs.Plans.PlanDevices.{queues_by_device, apart-by-device}
 use Rattle.clk_drain.proofs.Drains.Tallies.{found-rising}
 

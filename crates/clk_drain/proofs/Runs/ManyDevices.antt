@@ -9,11 +9,10 @@ use Rattle.clk_packet.specs.declared.tally.Tally.{Tally}
 use Rattle.clk_packet.specs.Lists.{stands_in, are_distinct}
 use Rattle.clk_drain.specs.Outcome.{SharedQueue, Device, senders_to, tally_for, in_all, IsQueueSettled, IsDeviceSettled, IsSettledOutcome}
 use Rattle.clk_drain.specs.Closing.{AreInOrder}
-use Rattle.clk_packet.proofs.Callers.Lists.{all-append, stands-left, stands-right, rising-distinct}
+use Rattle.clk_packet.proofs.Callers.Lists.{all-append, stands-left, stands-right, rising-distinct, all-both}
 use Rattle.clk_drain.proofs.Plans.Apart.{not-both, apart-parts, apart-joined}
 use Rattle.clk_drain.proofs.Drains.Tallies.{tellers, in-order-rise, in-order-found, in-order-all}
 use Rattle.clk_sched.proofs.Callers.Lists.{all-split, all-weaker}
-use Rattle.clk_drain.proofs.Lists.{all-both}
 
 -- a device with its tallies
 pub record Part : Type 0 where
