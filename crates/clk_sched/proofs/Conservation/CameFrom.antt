@@ -63,7 +63,7 @@ in-after_node class inputs row q h = stands_in-append q (leaves inputs) (leaves 
 in-inputs : (class : Scheduler) (inputs row : Row) (q : ℕ) → stands_in q (leaves inputs) ≡ true → stands_in q (leaves (node class inputs row)) ≡ true
 in-inputs class inputs row q h = stands_in-append q (leaves inputs) (leaves row) ∙ or-left (stands_in q (leaves inputs)) (stands_in q (leaves row)) h
 
--- what a row's parent got, and what is held in the row, came from queues of the row
+-- what the node above a row got, and what is held in the row, came from queues of the row
 record AllCame (tree : Tree) (log : List Visit) (above first next : ℕ) (row : Row) : Type 0 where
   got : (i : ℕ) → i < width row → AllFrom tree log row (gives log above first next row i)
   held : AllFrom tree log row (row_heads log next row)

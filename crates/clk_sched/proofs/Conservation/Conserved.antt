@@ -51,7 +51,7 @@ from_queue-one q f i a (suc n) h l m =
     by_order (inl e) again = ap₂ (λ j k. from_queue q (f j) ++ k) e (from_queue-none q f i (a + 1) n h (omega (arith, e))) ∙ append-nil (from_queue q (f i))
     by_order (inr k) again = ap₂ (λ j k. j ++ k) (h a (λ e. omega (arith, e, k))) (again (omega arith))
 
--- A queue stands at one input of a row, and what it gave is what the row's parent got from there and what is held below.
+-- A queue stands at one input of a row, and what it gave is what the node above the row got from there and what is held below.
 record IsConservedBelow (tree : Tree) (log : List Visit) (q above first next : ℕ) (row : Row) : Type 0 where
   input : ℕ
   within : input < width row

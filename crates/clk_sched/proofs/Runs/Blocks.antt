@@ -1,4 +1,4 @@
--- Whose visits stand in a block: a node's visits in a pull are those in the blocks that its parent asked for.
+-- Whose visits stand in a block: a node's visits in a pull are those in the blocks that the node above asked for.
 use Rattle.std.proofs.lemmas.Grind.{common_steps}
 use Rattle.std.proofs.Common.{◌≡◌, ◌≢◌, ℕ, zero, suc, ◌+◌, ◌<◌, ◌≤◌, ◌==◌, inl, inr, if◌then◌else◌, Bool, true, false, List, [], ◌∷◌, ◌++◌, length, filter, refl, sym, ap, ap₂, ◌∙◌, length-append, append-nil, arith, rules}
 use Rattle.std.specs.List.{flat_map, AllByRecursion}
@@ -99,7 +99,7 @@ owns-after_node y pull above first next class inputs row l h = h ∙ flat_map-sa
 abbrev pub copies : {X Y : Type 0} → (X → Bool) → List Y → List X → List Y
 copies test ys xs = flat_map (λ x. if test x then ys else []) xs
 
--- of the scheduler at an input, and of those below it, by what its parent asked there
+-- of the scheduler at an input, and of those below it, by what the node above asked there
 owns-here : (y : ℕ) (pull : List Visit) (above first next : ℕ) (class : Scheduler) (inputs row : Row) → y < suc (next + nodes inputs) → Owns y pull above first next (node class inputs row)
     → visits_of y pull ≡ copies (asks first) (visits_of y (own_block pull next inputs)) (visits_of above pull)
 owns-here y pull above first next class inputs row l h = search (rules, flat_map-same, absent-below, block-within)

@@ -1,4 +1,4 @@
--- What a node's parent got from it is what it passed.
+-- What the node above a node got from it is what it passed.
 use Rattle.std.proofs.Common.{◌≡◌, ℕ, suc, ◌+◌, ◌==◌, if◌then◌else◌, Bool, true, List, [], ◌∷◌, ◌++◌, map, filter, reverse, Option, Some, option_and_then, refl, sym, ap, ◌∙◌, subst, arith, rules}
 use Rattle.std.specs.List.{flat_map, AllByRecursion, list_any}
 use Rattle.clk_sched.specs.declared.visit.Visit.{Visit}
@@ -18,7 +18,7 @@ use Rattle.clk_sched.proofs.Runs.HeadsByManner.{PassesLast, turns-keep}
 use Rattle.clk_sched.proofs.Runs.Blocks.{flat_map-same, owns-self, copies, copies-cancel}
 use Rattle.clk_sched.proofs.Runs.Pulled.{IsPullOf, rising-in, flat_map-filter, flat_map-flat_map, copies-unasked, IsPulledIn, pulled-inputs, turns-last, ordered-turns, turns-visits}
 
--- what a row's parent got from what stands at an input of the row, counted from its first, with where it came from
+-- what the node above a row got from what stands at an input of the row, counted from its first, with where it came from
 abbrev pub gives : List Visit → ℕ → ℕ → ℕ → Row → ℕ → List Traced
 gives log above first next row i = flat_map (got_by (λ k. origin_in log next row i k) (first + i)) (visits_of above log)
 
@@ -44,7 +44,7 @@ filter-turned : {X : Type 0} (f g : X → Bool) (xs : List X) → filter f (filt
 filter-turned f g [] = refl
 filter-turned f g (x ∷ xs) = search (rules, (filter-turned f g xs))
 
--- what a node's parent got from it is what it passed
+-- what the node above a node got from it is what it passed
 pub gives-results : (log : List Visit) (above first next : ℕ) (class : Scheduler) (inputs row : Row) (pulled : List (List Visit)) → IsPulledIn log above first next (node class inputs row) pulled
     → Obeys class (width inputs) (map (turn next) (pulls_below above first pulled)) → AllByRecursion (GetsResult above first next) pulled
     → gives log above first next (node class inputs row) 0 ≡ results log next inputs
@@ -99,7 +99,7 @@ gives-results log above first next class inputs row pulled h law gets =
             ∙ ap (λ us. traced (result_of (visits_of next (in_pull (is p k).number log))) (option_and_then (passed_from log next inputs (is p k).number) (passed_input us)))
             (filter-turned (λ (u : Visit). u.node == next) (λ (u : Visit). u.pull == (is p k).number) log))
 
--- what the parent got at the first input of a row from a queue, and at later inputs
+-- what the node above got at the first input of a row from a queue, and at later inputs
 pub gives-queue : (log : List Visit) (above first next q : ℕ) (row : Row) → gives log above first next (leaf q row) 0 ≡ flat_map (got_by (λ _. Some q) first) (visits_of above log)
 gives-queue log above first next q row = ap (λ j. flat_map (got_by (λ _. Some q) j) (visits_of above log)) (let e : first + 0 ≡ first = omega arith in e)
 

@@ -7,8 +7,8 @@ use Rattle.clk_sched.specs.Log.{visits_of, turn, asks, pulls_below}
 use Rattle.clk_sched.specs.Laws.{AllowsTurn, Obeys}
 use Rattle.clk_sched.specs.Run.{GetsResult}
 
--- Each scheduler of a row obeys the law of its class, and what its parent got from it is its result. The row's inputs are those of node
--- `above` from `first` on, its schedulers are numbered from `next` on, and `pulled` are the pulls of `above`.
+-- Each scheduler of a row obeys the law of its class, and what the node above got from it is its result. The row's inputs are those of
+-- node `above` from `first` on, its schedulers are numbered from `next` on, and `pulled` are the pulls of `above`.
 abbrev pub EachObeys : ℕ → List (List Visit) → ℕ → ℕ → Row → Type 0
 EachObeys above pulled first next end = ⊤
 EachObeys above pulled first next (leaf q row) = EachObeys above pulled (suc first) next row
@@ -18,7 +18,7 @@ EachObeys above pulled first next (node class inputs row) =
     × EachObeys next (pulls_below above first pulled) 0 (suc next) inputs
     × EachObeys above pulled (suc first) (suc (next + nodes inputs)) row
 
--- If a scheduler of a row is pulled, its turn in this pull is allowed after its earlier turns, and what its parent got from it is its
+-- If a scheduler of a row is pulled, its turn in this pull is allowed after its earlier turns, and what the node above got from it is its
 -- result. Earlier pulls have the latest first.
 abbrev pub EachAllows : ℕ → ℕ → ℕ → Row → List (List Visit) → List Visit → Type 0
 EachAllows above first next end earlier pull = ⊤
