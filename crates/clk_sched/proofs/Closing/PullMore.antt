@@ -14,10 +14,11 @@ use Rattle.clk_sched.specs.inside.Pulling.{AreApart, input_of}
 use Rattle.clk_sched.proofs.Lists.Numbers.{differs, equal}
 use Rattle.clk_packet.specs.Lists.{In}
 use Rattle.clk_sched.proofs.Lists.Members.{of-all, in-filter, any-in, filter-none, all-weaker}
+use Rattle.clk_sched.proofs.Runs.Pulled.{unasked-none}
 use Rattle.clk_sched.proofs.Closing.Visited.{Misses, IsAt, at-input, one_if, count, hits, hits-misses, hits-at, hits-all, hits-at_most, sum_from, each-one}
 use Rattle.clk_sched.proofs.Closing.Turned.{passes, IsTurn}
 use Rattle.clk_sched.proofs.Closing.Costs.{CostsAt, IsAsked, TurnLaw, IsInputAfter, input-after}
-use Rattle.clk_sched.proofs.Closing.Rows.{latest, latest-more, Amount, IsSum, sum_of, Costs, IsPulledMore, more-after_leaf, more-after_node, more-inputs, unasked-none, IsTurnMore, turn-more}
+use Rattle.clk_sched.proofs.Closing.Rows.{latest, latest-more, Amount, IsSum, sum_of, Costs, IsPulledMore, more-after_leaf, more-after_node, more-inputs, IsTurnMore, turn-more}
 
 -- an input is asked once at most
 misses-unasked : (i : ℕ) (visits : List Visit) → Misses i visits → filter (asks i) visits ≡ []
@@ -85,13 +86,13 @@ all-in_vain w visits turn long none j low high = (
   let most = hits-at_most passes j visits in let zero = turn.passed ∙ ap (λ o. one_if (is_some o)) none in omega (arith, most, zero),
 )
 
--- a scheduler that is asked at an input of its parent
+-- a scheduler that is asked at an input of the node above
 node-asked : (k : ℕ) (old new : ℕ → ℕ) (log pull : List Visit) (above first next : ℕ) (class : Scheduler) (inputs row : Row) (pulled : List (List Visit)) (left work : ℕ)
     → IsPulledMore k old new log pull above first next (node class inputs row) pulled → (after : IsRowAfter k new (log ++ pull) (visits_of next pull) class next 0 (suc next) inputs left work)
     → IsAsked first (visits_of above pull) left work after.now.left after.now.work
 node-asked k old new log pull above first next class inputs row pulled left work h after =
     record {
-      idle = λ e. let none = ap (count passes) (unasked-none k old new log pull above first next class inputs row pulled h e) in let a = after.conserved in omega (arith, a, none, sum);
+      idle = λ e. let none = ap (count passes) (unasked-none pull above first next class inputs row h.owns e) in let a = after.conserved in omega (arith, a, none, sum);
       never_grows = after.never_grows;
       gave = λ v m. subst Gave (sym (of-all (λ (u : Visit). u.got ≡ result_of (visits_of next pull)) v (filter (asks first) (visits_of above pull)) h.allows.1 m)) (by_result (result_of (visits_of next pull)) refl (asked-any first (visits_of above pull) v m));
     }

@@ -19,9 +19,9 @@ use Rattle.clk_sched.proofs.Runs.Rows.{EachObeys, EachAllows}
 use Rattle.clk_sched.specs.Closing.{GivesOut}
 use Rattle.clk_sched.proofs.Lists.Members.{all-filter}
 use Rattle.clk_sched.proofs.Runs.Allowed.{onto, onto-append, onto-reverse, each-follows, turns-look}
-use Rattle.clk_sched.proofs.Runs.Blocks.{Owns, owns-after_leaf, owns-after_node, owns-self, owns-inputs}
-use Rattle.clk_sched.proofs.Runs.Pulled.{IsPulledIn, pulled-after_leaf, pulled-after_node, pulled-inputs, turns-visits, copies-unasked}
-use Rattle.clk_sched.proofs.Runs.GoesOn.{filter-reverse, map-reverse}
+use Rattle.clk_sched.proofs.Runs.Blocks.{Owns, owns-after_leaf, owns-after_node, owns-inputs}
+use Rattle.clk_sched.proofs.Runs.Pulled.{IsPulledIn, pulled-after_leaf, pulled-after_node, pulled-inputs, turns-visits, unasked-none}
+use Rattle.clk_sched.proofs.Runs.GoesOn.{filter-reverse, turns-back}
 use Rattle.clk_sched.proofs.Shares.DeficitShares.{IsCovered, covers-all}
 use Rattle.clk_sched.proofs.Closing.Turned.{IsTurn, is-turn, all-visited}
 use Rattle.clk_sched.proofs.Closing.Room.{each-before, may-ask}
@@ -97,11 +97,6 @@ pub more-after_node : (k : ℕ) (old new : ℕ → ℕ) (log pull : List Visit) 
     → IsPulledMore k old new log pull above first next (node class inputs row) pulled → IsPulledMore k old new log pull above (suc first) (suc (next + nodes inputs)) row pulled
 more-after_node k old new log pull above first next class inputs row pulled h = search (rules, pulled-after_node, owns-after_node)
 
--- a scheduler that isn't asked has no visits
-pub unasked-none : (k : ℕ) (old new : ℕ → ℕ) (log pull : List Visit) (above first next : ℕ) (class : Scheduler) (inputs row : Row) (pulled : List (List Visit))
-    → IsPulledMore k old new log pull above first next (node class inputs row) pulled → list_any (asks first) (visits_of above pull) ≡ false → visits_of next pull ≡ []
-unasked-none k old new log pull above first next class inputs row pulled h e = search (rules, owns-self, copies-unasked)
-
 none-allows : (above first next : ℕ) (row : Row) (earlier : List (List Visit)) (pull : List Visit) → visits_of above pull ≡ [] → EachAllows above first next row earlier pull
 none-allows above first next end earlier pull e = tt
 none-allows above first next (leaf q row) earlier pull e = none-allows above (suc first) next row earlier pull e
@@ -113,7 +108,7 @@ more-inputs k old new log pull above first next class inputs row pulled h =
     record {
       inside = pulled-inputs log above first next class inputs row pulled h.inside;
       obeys = h.obeys.2;
-      allows = search (rules, filter-reverse, none-allows, unasked-none);
+      allows = search (rules, filter-reverse, none-allows, (unasked-none pull above first next class inputs row h.owns));
       owns = λ y l m. owns-inputs y pull above first next class inputs row l (omega arith) (h.owns next (omega arith) (omega arith)) (h.owns y (omega arith) (omega arith));
       sound = h.sound.2;
       enough = h.enough.1;
@@ -189,11 +184,8 @@ turn-more k old new log pull above first next class inputs row pulled h = by_ask
           later = turned (pulls_below above first pulled) (all-filter (λ p. moment_of p < moment_of pull) asked pulled h.later);
         }
 
-    back : map (turn next) (pulls_below above first (reverse pulled)) ≡ reverse turns
-    back = ap (map (turn next)) (filter-reverse asked pulled) ∙ map-reverse (turn next) (pulls_below above first pulled)
-
     by_asked : (b : Bool) → asked pull ≡ b → IsTurnMore k (width inputs) class (latest log next) (visits_of next pull) b
     by_asked true e =
-        turn-asked k (width inputs) next class log pull turns before h.sound.0 h.sound.1 h.enough.0 (subst (λ ts. AllowsTurn class (width inputs) ts (turn next pull)) back (h.allows.0 e).0)
+        turn-asked k (width inputs) next class log pull turns before h.sound.0 h.sound.1 h.enough.0 (subst (λ ts. AllowsTurn class (width inputs) ts (turn next pull)) (turns-back next above first pulled) (h.allows.0 e).0)
     by_asked false e =
-        turn-unasked k (width inputs) next class log (visits_of next pull) (moment_of pull) turns before h.sound.1 h.enough.0 (unasked-none k old new log pull above first next class inputs row pulled h e)
+        turn-unasked k (width inputs) next class log (visits_of next pull) (moment_of pull) turns before h.sound.1 h.enough.0 (unasked-none pull above first next class inputs row h.owns e)

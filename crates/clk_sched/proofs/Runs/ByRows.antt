@@ -1,6 +1,6 @@
 -- What each scheduler of a tree does by itself, and what the schedulers of its rows do, is the same: a scheduler that isn't pulled asks
 -- nothing.
-use Rattle.std.proofs.Common.{◌≡◌, ℕ, suc, ◌+◌, ◌<◌, ◌≤◌, Bool, true, false, if◌then◌else◌, List, [], ◌∷◌, filter, map, reverse, refl, sym, ap, ◌∙◌, subst, inl, inr, arith}
+use Rattle.std.proofs.Common.{◌≡◌, ℕ, suc, ◌+◌, Bool, true, false, if◌then◌else◌, List, [], ◌∷◌, filter, map, reverse, refl, sym, ap, ◌∙◌, subst, inl, inr, arith}
 use Rattle.std.specs.List.{AllByRecursion, list_any}
 use Rattle.std.proofs.lemmas.Bool.{false≢true}
 use Rattle.clk_packet.specs.Lists.{In}
@@ -14,12 +14,8 @@ use Rattle.clk_sched.specs.Step.{AllowsIn, IsNextPull}
 use Rattle.clk_sched.proofs.Lists.Members.{of-all, to-all, in-filter, all-append, all-split}
 use Rattle.clk_sched.proofs.Lists.Apart.{all-reverse}
 use Rattle.clk_sched.proofs.Runs.Rows.{EachObeys, EachAllows}
-use Rattle.clk_sched.proofs.Runs.Blocks.{Owns, owns-root, owns-after_leaf, owns-after_node, owns-self, owns-inputs}
-use Rattle.clk_sched.proofs.Runs.Pulled.{copies-unasked, pulled-root}
-
--- a row that stands at the inputs of node `above`: in a pull its nodes have the visits in the blocks that `above` asked for
-abbrev OwnIn : List Visit → ℕ → ℕ → ℕ → Row → Type 0
-OwnIn pull above first next row = (y : ℕ) → next ≤ y → y < next + nodes row → Owns y pull above first next row
+use Rattle.clk_sched.proofs.Runs.Blocks.{owns-root, owns-after_leaf, owns-after_node, owns-inputs}
+use Rattle.clk_sched.proofs.Runs.Pulled.{OwnIn, unasked-none, pulled-root}
 
 own-after_leaf : (pull : List Visit) (above first next q : ℕ) (row : Row) → OwnIn pull above first next (leaf q row) → OwnIn pull above (suc first) next row
 own-after_leaf pull above first next q row own y l h = owns-after_leaf y pull above first next q row (own y l h)
@@ -30,12 +26,6 @@ own-after_node pull above first next class inputs row own y l h = owns-after_nod
 own-inputs : (pull : List Visit) (above first next : ℕ) (class : Scheduler) (inputs row : Row) → OwnIn pull above first next (node class inputs row) → OwnIn pull next 0 (suc next) inputs
 own-inputs pull above first next class inputs row own y l h =
     owns-inputs y pull above first next class inputs row l (omega (arith, h)) (own next (omega arith) (omega arith)) (own y (omega (arith, l)) (omega (arith, h)))
-
--- a scheduler that isn't asked in a pull has no visits in it
-unasked-none : (pull : List Visit) (above first next : ℕ) (class : Scheduler) (inputs row : Row) → OwnIn pull above first next (node class inputs row) → list_any (asks first) (visits_of above pull) ≡ false
-    → visits_of next pull ≡ []
-unasked-none pull above first next class inputs row own none =
-    owns-self pull above first next class inputs row (own next (omega arith) (omega arith)) ∙ copies-unasked (asks first) (visits_of next pull) (visits_of above pull) none
 
 -- members that pass a test, where those that fail another fail it
 filter-through : {X : Type 0} (test other : X → Bool) (xs : List X) → ((x : X) → In x xs → other x ≡ false → test x ≡ false) → filter test (filter other xs) ≡ filter test xs

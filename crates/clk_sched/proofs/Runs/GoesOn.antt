@@ -30,7 +30,7 @@ pub filter-reverse : {X : Type 0} (test : X → Bool) (xs : List X) → filter t
 filter-reverse test [] = refl
 filter-reverse test (x ∷ xs) = search (rules, reverse-more, filter-append, append-nil, (filter-reverse test xs))
 
-pub map-reverse : {X Y : Type 0} (f : X → Y) (xs : List X) → map f (reverse xs) ≡ reverse (map f xs)
+map-reverse : {X Y : Type 0} (f : X → Y) (xs : List X) → map f (reverse xs) ≡ reverse (map f xs)
 map-reverse f [] = refl
 map-reverse f (x ∷ xs) = ap (map f) (reverse-more x xs) ∙ map-append f (reverse xs) (x ∷ []) ∙ ap (λ l. l ++ f x ∷ []) (map-reverse f xs) ∙ sym (reverse-more (f x) (map f xs))
 
@@ -39,10 +39,9 @@ own-more : (n : PlacedScheduler) (pulled : List (List Visit)) (pull : List Visit
     → pulls_below n.above n.input (pulled ++ pull ∷ []) ≡ pulls_below n.above n.input pulled ++ (if list_any (asks n.input) (visits_of n.above pull) then pull ∷ [] else [])
 own-more n pulled pull = filter-append (λ p. list_any (asks n.input) (visits_of n.above p)) pulled (pull ∷ [])
 
--- its turns before a pull, the latest first
-turns-back : (n : PlacedScheduler) (pulled : List (List Visit)) → own_turns (reverse pulled) n ≡ reverse (own_turns pulled n)
-turns-back n pulled =
-    ap (map (turn n.number)) (filter-reverse (λ p. list_any (asks n.input) (visits_of n.above p)) pulled) ∙ map-reverse (turn n.number) (pulls_below n.above n.input pulled)
+-- the turns of a node that stands at an input of the one above, in pulls that have the latest first
+pub turns-back : (x above input : ℕ) (pulled : List (List Visit)) → map (turn x) (pulls_below above input (reverse pulled)) ≡ reverse (map (turn x) (pulls_below above input pulled))
+turns-back x above input pulled = ap (map (turn x)) (filter-reverse (λ p. list_any (asks input) (visits_of above p)) pulled) ∙ map-reverse (turn x) (pulls_below above input pulled)
 
 -- A scheduler that obeys its law goes on obeying it by a pull that allows it, and by no other.
 obeys-more : (n : PlacedScheduler) (pulled : List (List Visit)) (pull : List Visit) → ObeysIn pulled n → AllowsIn (reverse pulled) pull n → ObeysIn (pulled ++ pull ∷ []) n
@@ -59,7 +58,7 @@ obeys-more n pulled pull h k = (
     by_asked true allows =
         subst (Obeys n.class (width n.inputs)) (sym (map-append (turn n.number) before (pull ∷ [])))
         (each-more (AllowsTurn n.class (width n.inputs)) (own_turns pulled n) (turn n.number pull) h.0
-        (subst (λ e. AllowsTurn n.class (width n.inputs) e (turn n.number pull)) (turns-back n pulled) (allows refl)))
+        (subst (λ e. AllowsTurn n.class (width n.inputs) e (turn n.number pull)) (turns-back n.number n.above n.input pulled) (allows refl)))
     by_asked false allows = subst (λ ps. Obeys n.class (width n.inputs) (map (turn n.number) ps)) (sym (append-nil before)) h.0
 
 obeys-last : (n : PlacedScheduler) (pulled : List (List Visit)) (pull : List Visit) → ObeysIn (pulled ++ pull ∷ []) n → AllowsIn (reverse pulled) pull n
@@ -73,7 +72,7 @@ obeys-last n pulled pull h = (
 
     by_turns : pulls_below n.above n.input (pulled ++ pull ∷ []) ≡ before ++ pull ∷ [] → AllowsTurn n.class (width n.inputs) (own_turns (reverse pulled) n) (turn n.number pull)
     by_turns are =
-        subst (λ e. AllowsTurn n.class (width n.inputs) e (turn n.number pull)) (onto-reverse (own_turns pulled n) ∙ sym (turns-back n pulled))
+        subst (λ e. AllowsTurn n.class (width n.inputs) e (turn n.number pull)) (onto-reverse (own_turns pulled n) ∙ sym (turns-back n.number n.above n.input pulled))
         (each-split (AllowsTurn n.class (width n.inputs)) [] (own_turns pulled n) (turn n.number pull ∷ [])
         (subst (Obeys n.class (width n.inputs)) (ap (map (turn n.number)) are ∙ map-append (turn n.number) before (pull ∷ [])) h.0)).1.0
 

@@ -8,7 +8,7 @@ use Rattle.clk_sched.specs.declared.visit.Visit.{Visit}
 use Rattle.clk_packet.specs.Scheduler.{Scheduler}
 use Rattle.clk_sched.specs.Tree.{Row, leaf, node, Tree, root, nodes}
 use Rattle.clk_sched.specs.Turns.{Turn, EachAfter, all_visits}
-use Rattle.clk_sched.specs.Log.{visits_of, in_pull, pulls, block, turn, pulls_below}
+use Rattle.clk_sched.specs.Log.{visits_of, in_pull, pulls, block, turn, asks, pulls_below}
 use Rattle.clk_sched.specs.Laws.{Manner, Follows}
 use Rattle.clk_sched.specs.Run.{IsRun}
 use Rattle.clk_packet.specs.Lists.{In}
@@ -85,6 +85,16 @@ flat_map-filter test f (x ∷ xs) h = by_test (test x) (h x (inl refl)) (flat_ma
 pub copies-unasked : {X Y : Type 0} (test : X → Bool) (ys : List Y) (xs : List X) → list_any test xs ≡ false → copies test ys xs ≡ []
 copies-unasked test ys [] e = refl
 copies-unasked test ys (x ∷ xs) e = search (rules, false≢true, (copies-unasked test ys xs))
+
+-- a row that stands at the inputs of node `above`: in a pull its nodes have the visits in the blocks that `above` asked for
+abbrev pub OwnIn : List Visit → ℕ → ℕ → ℕ → Row → Type 0
+OwnIn pull above first next row = (y : ℕ) → next ≤ y → y < next + nodes row → Owns y pull above first next row
+
+-- a scheduler that isn't asked in a pull has no visits in it
+pub unasked-none : (pull : List Visit) (above first next : ℕ) (class : Scheduler) (inputs row : Row) → OwnIn pull above first next (node class inputs row) → list_any (asks first) (visits_of above pull) ≡ false
+    → visits_of next pull ≡ []
+unasked-none pull above first next class inputs row own none =
+    owns-self pull above first next class inputs row (own next (omega arith) (omega arith)) ∙ copies-unasked (asks first) (visits_of next pull) (visits_of above pull) none
 
 -- a row that stands at the inputs of a node, and the pulls in which the node is pulled
 pub record IsPulledIn (log : List Visit) (above first next : ℕ) (row : Row) (pulled : List (List Visit)) : Type 0 where
