@@ -67,7 +67,8 @@ pub extern "C" fn clk_raw_record_taken(
     add_sends(taken, text, used, lines)
 }
 
-/// Adds the lines of so many pulls of the device with this number, each at this moment in ticks, behind the bytes of the text that are used.
+/// Adds the lines of so many pulls of the device with this number, each at this moment in ticks, behind the bytes of the text that are
+/// used.
 #[unsafe(no_mangle)]
 pub extern "C" fn clk_raw_record_pulls(
     device: u16,
