@@ -45,8 +45,8 @@ use std::thread::Threads;
 ///
 /// - No words: runs the script on `reader` over the built-in tree.
 /// - `check TREE`: writes the canonical text of the tree in the file TREE to `writer`.
-/// - `lint TREE [TRACE]`: writes a line to `writer` for each warning of the tree in the file TREE, and of the trace in the file TRACE if one
-///   is named. The tree is read and checked before TRACE is opened.
+/// - `lint TREE [TRACE]`: writes a line to `writer` for each warning of the tree in the file TREE, and of the trace in the file TRACE if
+///   one is named. The tree is read and checked before TRACE is opened.
 /// - `script TREE SCRIPT [--visits FILE]`: runs the script in the file SCRIPT over the tree in the file TREE. The tree is read and checked
 ///   before SCRIPT is opened. After the answer its visits are written to FILE, as CSV, if a FILE is named.
 /// - `run TREE TRACE [--step N] [--limit N] [--visits FILE]`: runs the trace in the file TRACE over the tree in the file TREE, and writes
@@ -70,9 +70,9 @@ use std::thread::Threads;
 /// # Errors
 ///
 /// Fault 1 if an allocation fails or a thread can't be started. Fault 19 if a file can't be opened, or if it or `reader` can't be read.
-/// Fault 20 if `writer` fails, or `errors` with status 2, or if, after the whole answer, FILE can't be created or written. Otherwise the faults of the tree,
-/// and then those of the script, or of the trace and its run or its senders. With `live`, the FILE of `--record` may have a front of the record at any
-/// fault.
+/// Fault 20 if `writer` fails, or `errors` with status 2, or if, after the whole answer, FILE can't be created or written. Otherwise the
+/// faults of the tree, and then those of the script, or of the trace and its run or its senders. With `live`, the FILE of `--record` may
+/// have a front of the record at any fault.
 pub fn command<
     H: Files + AllocGlobal + Threads + Wait,
     P: Wait + Sync,

@@ -68,8 +68,8 @@ pub fn lint_over<T: Source, S: Source, W: Sink>(
 ///
 /// # Errors
 ///
-/// Fault 1 if an allocation fails. Otherwise those of the trace, as of `run_trace`, and fault 15 with the least sender that the plan doesn't
-/// have. Fault 20 if the writer fails; it has then taken a front of the text. At any other fault nothing is written.
+/// Fault 1 if an allocation fails. Otherwise those of the trace, as of `run_trace`, and fault 15 with the least sender that the plan
+/// doesn't have. Fault 20 if the writer fails; it has then taken a front of the text. At any other fault nothing is written.
 pub fn lint_trace<S: Source, W: Sink>(
     alloc: Global,
     plan: &Plan,
