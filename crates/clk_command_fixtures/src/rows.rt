@@ -8,8 +8,8 @@ use std::sync::Wait;
 use std::thread::Threads;
 use std::{fs, str};
 
-/// Files that exist before, each with its path and contents. Words, what they return for the script `input`, and what they write to standard
-/// output; they write nothing to standard error. Files with their contents afterwards, or `None` if they don't exist.
+/// Files that exist before, each with its path and contents. Words, what they return for the script `input`, and what they write to
+/// standard output; they write nothing to standard error. Files with their contents afterwards, or `None` if they don't exist.
 pub type Row = (
     &'static [(&'static str, &'static str)],
     &'static str,
