@@ -1,5 +1,5 @@
-//! Which files a task may have: standard input stands for one input, and no file is overwritten that is read, or written for something else.
-//! Visits may go to standard output.
+//! Which files a task may have: standard input stands for one input, and no file is overwritten that is read, or written for something
+//! else. Visits may go to standard output.
 
 use clk_command_fixtures::{
     AMPLE, answer, compare, compare_files, input, is_said, write, write_all,
