@@ -68,7 +68,8 @@ RunsHoldNothing plan =
     (traces : List (List Packet)) (step limit : ℕ) (logs : List (List Visit)) (packets : List (List Packet)) (tallies : List Tally)
     (run : IsRunWith plan traces step limit logs packets tallies) → HoldNothing run.devices
 
--- After a run of a plan the tallies account for what was emitted at all devices: each packet accepted was evicted or emitted, both in order.
+-- After a run of a plan the tallies account for what was emitted at all devices: each packet accepted was evicted or emitted, both in
+-- order.
 abbrev pub RunsAccountForEmitted : List Planned → Type 0
 RunsAccountForEmitted plan =
     (traces : List (List Packet)) (step limit : ℕ) (logs : List (List Visit)) (packets : List (List Packet)) (tallies : List Tally) → IsRunWith plan traces step limit logs packets tallies

@@ -32,7 +32,7 @@ pub fn runs_hold_nothing(plan: &Plan)
     let _ = plan.queues();
 }
 
-/// Whatever counts a run's fault 21 has, there are lists of what the queues of the plan did that agree with them. By these lists each sender
+/// Whatever counts a run's fault 21 has, there are lists of what the queues of the plan did that agree with them. By these each sender
 /// offered all that it sends, and the fault names the first queue, by device and then by number, that lost packets below its capacity.
 pub fn losses_have_lists(plan: &Plan, traces: &Traces)
     ensures { LossesHaveLists plan.now traces.now }
@@ -44,8 +44,8 @@ pub fn losses_have_lists(plan: &Plan, traces: &Traces)
     let _ = plan.queues();
 }
 
-/// After a run of the plan the tallies account for what was emitted: each packet that a tally has as accepted is one that it has as evicted,
-/// or one that a device emitted.
+/// After a run of the plan the tallies account for what was emitted: each packet that a tally has as accepted is one that it has as
+/// evicted, or one that a device emitted.
 pub fn runs_account_for_emitted(plan: &Plan)
     ensures { RunsAccountForEmitted plan.now }
 {

@@ -66,9 +66,9 @@ pub fn run<R: Threads + Wait, W: Wait + Sync, G: Gate + Sync>(
     run_keeping(rt, alloc, wait, plan, traces, step, limit, gate, Keeps::ALL)?.unpack(alloc)
 }
 
-/// Runs a plan over a trace as `run` does, and keeps only what `keeps` says. The outcome has logs if visits are kept, and the emitted packets
-/// if these or visits are kept. It always has the tallies. Contracts say that each device made a run of its tree, which fixes what it
-/// emitted, also where only contracts know its visits and what it emitted.
+/// Runs a plan over a trace as `run` does, and keeps only what `keeps` says. The outcome has logs if visits are kept, and the emitted
+/// packets if these or visits are kept. It always has the tallies. Contracts say that each device made a run of its tree, which fixes what
+/// it emitted, also where only contracts know its visits and what it emitted.
 ///
 /// Packed visits take seven tenths of the memory of a list.
 ///

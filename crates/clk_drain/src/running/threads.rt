@@ -135,7 +135,8 @@ pub fn run_threads<R: Threads + Wait, W: Wait + Sync, G: Gate + Sync>(
 }
 
 /// What is left to start: a producer for each of these seats, which are those of devices, those of queues of the next device, and those of
-/// its next queue. Beside them stands what the threads share. (Contracts don't know the result of a closure that captures `RunTerms` itself.)
+/// its next queue. Beside them stands what the threads share. (Contracts don't know the result of a closure that captures `RunTerms`
+/// itself.)
 #[derive(Drop)]
 pub struct Left<'a, W: Wait, G: Gate> {
     pub terms: &'a RunTerms<'a, W, G>,
