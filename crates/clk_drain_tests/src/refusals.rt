@@ -1,5 +1,5 @@
-//! Runs of two devices that keep all visits, only what was emitted, or neither, in which an allocation or the start of a thread fails. The script tests/refuse-memory
-//! makes each of these of the tests here fail in turn.
+//! Runs of two devices that keep all visits, only what was emitted, or neither, in which an allocation or the start of a thread fails. The
+//! script tests/refuse-memory makes each of these of the tests here fail in turn.
 
 use crate::gates::{Calls, Counted};
 use crate::running::{EMITTED, records, traces};

@@ -15,9 +15,9 @@ use std::alloc::Global;
 use std::sync::Wait;
 use std::thread::Threads;
 
-/// Runs a trace over a plan, with a pull of each device in every tick, and adds what the laws of runs say. Afterwards no tree holds a packet
-/// back, and the tallies account for all that was emitted. If a queue lost packets too early, there are lists of what the queues did that
-/// agree with the fault.
+/// Runs a trace over a plan, with a pull of each device in every tick, and adds what the laws of runs say. Afterwards no tree holds a
+/// packet back, and the tallies account for all that was emitted. If a queue lost packets too early, there are lists of what the queues did
+/// that agree with the fault.
 pub fn run_by_the_laws<R: Threads + Wait, W: Wait + Sync>(
     rt: &R,
     alloc: Global,
