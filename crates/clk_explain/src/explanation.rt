@@ -54,8 +54,8 @@ impl Explanation {
     }
 }
 
-/// Explains a fault of a tree text: where it is, the line with a caret below the place, what is wrong, and what was expected. A fault that is
-/// at no byte of the text has a sentence on what is wrong and one on what was expected.
+/// Explains a fault of a tree text: where it is, the line with a caret below the place, what is wrong, and what was expected. A fault that
+/// is at no byte of the text has a sentence on what is wrong and one on what was expected.
 pub fn explain(text: &[u8], fault: Fault) -> Explanation
     ensures { Explains text.now fault result }
 {
@@ -66,8 +66,8 @@ pub fn explain(text: &[u8], fault: Fault) -> Explanation
     }
 }
 
-/// Explains what is wrong at an offset of any text: where it is, the line with a caret below the place, what is wrong, and what was expected.
-/// An offset beyond the text counts as its end.
+/// Explains what is wrong at an offset of any text: where it is, the line with a caret below the place, what is wrong, and what was
+/// expected. An offset beyond the text counts as its end.
 pub fn point_out(text: &[u8], offset: usize, wrong: &Words, expected: &Words) -> Explanation
     ensures { result ≡ wrong_at text.now (Some offset) wrong.now ++ line_of expected.now }
 {
