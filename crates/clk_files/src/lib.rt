@@ -1,5 +1,5 @@
-//! The files of a task: they are opened when they are first read or written, what they give may be kept, and a fault of theirs is explained to
-//! a person.
+//! The files of a task: they are opened when they are first read or written, what they give may be kept, and a fault of theirs is explained
+//! to a person.
 #![tactic(auto)]
 
 mod explaining;

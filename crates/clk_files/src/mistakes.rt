@@ -72,8 +72,8 @@ pub fn explain_line(text: &[u8], line: u32) -> Explanation {
     )
 }
 
-/// Explains why a record of a trace, counted from 1, is no sender and length. `None` if there are quotes up to its end, since a record may go
-/// over several lines then.
+/// Explains why a record of a trace, counted from 1, is no sender and length. `None` if there are quotes up to its end, since a record may
+/// go over several lines then.
 pub fn explain_record(text: &[u8], record: u32) -> Option<Explanation> {
     let start = record_start(text, record);
     let (before, rest) = text.split_at(start.min(text.len()));
@@ -140,8 +140,8 @@ fn line_start(text: &[u8], line: u32) -> usize {
     text.len()
 }
 
-/// Where a record of a text begins, counted from 1, or where the text ends if it has fewer records. Empty lines and a byte order mark at the
-/// front are skipped.
+/// Where a record of a text begins, counted from 1, or where the text ends if it has fewer records. Empty lines and a byte order mark at
+/// the front are skipped.
 fn record_start(text: &[u8], record: u32) -> usize {
     let mark = if text.starts_with(BYTE_ORDER_MARK) {
         3
