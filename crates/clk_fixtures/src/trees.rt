@@ -107,8 +107,8 @@ pub fn drr_over_stride(alloc: Global) -> Result<Tree, Fault> {
     )
 }
 
-/// A StrideSched over a DRRSched over two RoundRobinScheds, a Shaper over a PrioSched, and a DRRSched. Each of the lowest schedulers is over
-/// two of the queues 0 to 7.
+/// A StrideSched over a DRRSched over two RoundRobinScheds, a Shaper over a PrioSched, and a DRRSched. Each of the lowest schedulers is
+/// over two of the queues 0 to 7.
 pub fn three_levels(alloc: Global) -> Result<Tree, Fault> {
     let first = Tree::round_robin(vec![in alloc; Tree::leaf(0), Tree::leaf(1)]?)?;
     let second = Tree::round_robin(vec![in alloc; Tree::leaf(2), Tree::leaf(3)]?)?;
