@@ -64,7 +64,8 @@ fn quantum_for(quanta: &[u32], input: usize) -> u32
     }
 }
 
-/// Adds a warning for each input of a StrideSched that has the stride of an earlier input, and other tickets. Fault 1 if an allocation fails.
+/// Adds a warning for each input of a StrideSched that has the stride of an earlier input, and other tickets. Fault 1 if an allocation
+/// fails.
 pub fn push_tickets(found: &mut Vec<Warning>, place: usize, tickets: &[u32]) -> Result<(), Fault>
     ensures added { OnOk result (found.new.items ≡ found.old.items ++ stride_warnings place tickets.now 0 tickets.now) }
     ensures fault { IsOkUnless result Memory }
