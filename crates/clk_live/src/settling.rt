@@ -15,8 +15,8 @@ impl Live {
     ghost use Rattle.clk_live.specs.State.{seen};
     ghost use Rattle.clk_live.specs.Outcome.{AreAllEnded, IsLiveOutcome};
 
-    /// Whether all inlets have ended and all that was sent through them is taken, on a thread that has the inlets too. The inlets stand by the
-    /// places of their senders, as [`open`](Live::open) returned them.
+    /// Whether all inlets have ended and all that was sent through them is taken, on a thread that has the inlets too. The inlets stand by
+    /// the places of their senders, as [`open`](Live::open) returned them.
     pub fn has_taken_all(&mut self, inlets: &mut [Inlet]) -> bool
         requires halves { AllZip AreHalves inlets.old self.old.outlets }
         ensures taken { result ≡ true → (seen self.new).items ≡ map offered inlets.new }
