@@ -53,8 +53,8 @@ pub fn report<W: Sink>(
 }
 
 /// Writes the report as `report` does, by the tallies alone. It is for a caller that doesn't have the emitted packets, but whose tallies
-/// account for them: of each sender exactly those were emitted that were accepted and not evicted. If the tallies don't, nothing is promised
-/// of what is written. Doesn't allocate. Takes time in proportion to the packets that the tallies list.
+/// account for them: of each sender exactly those were emitted that were accepted and not evicted. If the tallies don't, nothing is
+/// promised of what is written. Doesn't allocate. Takes time in proportion to the packets that the tallies list.
 ///
 /// # Errors
 ///
@@ -98,9 +98,9 @@ fn table_len(tallies: &[Tally]) -> usize
     len
 }
 
-/// Writes the report by a table of N totals, of the packets that were emitted of the first N senders. Of any other sender those were emitted
-/// that its tally has as accepted and not as evicted. It isn't inlined, so that the larger table doesn't stand in the frame of a report of
-/// few senders.
+/// Writes the report by a table of N totals, of the packets that were emitted of the first N senders. Of any other sender those were
+/// emitted that its tally has as accepted and not as evicted. It isn't inlined, so that the larger table doesn't stand in the frame of a
+/// report of few senders.
 #[inline(never)]
 fn write_lines<const N: usize, W: Sink>(
     tallies: &[Tally],
