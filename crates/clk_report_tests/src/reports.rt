@@ -60,8 +60,8 @@ fn assert_reports(
     assert_takes(rt, alloc, &tallies, &emitted, expected, Ok(()));
 }
 
-// Reports to a sink with room for so many bytes, by what was emitted and by the tallies alone, which account for it. Fails unless the result
-// is this, and these bytes were written.
+// Reports to a sink with room for so many bytes, by what was emitted and by the tallies alone, which account for it. Fails unless the
+// result is this, and these bytes were written.
 fn assert_takes(
     rt: &impl Abort,
     alloc: Global,
