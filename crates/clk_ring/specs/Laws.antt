@@ -17,8 +17,8 @@ pub record CallsAreHistory : Type 0 where
   pub offered : (events : List QueueEvent) (old new : Queue) (p : Packet) (outcome : Offered) → LeadsTo events old → IsOffered old p outcome new → LeadsTo (events ++ offer_events p outcome) new
   pub pulled : (events : List QueueEvent) (old new : Queue) (got : Option Packet) → LeadsTo events old → IsPulled old got new → LeadsTo (events ++ pull_event got ∷ []) new
 
--- A history that goes on by what an offer or a pull adds goes on by such a call: the queue that it led to takes this step to the one that it
--- leads to.
+-- A history that goes on by what an offer or a pull adds goes on by such a call: the queue that it led to takes this step to the one that
+-- it leads to.
 pub record HistoriesAreCalls : Type 0 where
   pub offered : (events : List QueueEvent) (old new : Queue) (p : Packet) (outcome : Offered) → NamesOffer p outcome → new.kind ≡ old.kind → new.capacity ≡ old.capacity
       → LeadsTo events old → LeadsTo (events ++ offer_events p outcome) new → IsOffered old p outcome new

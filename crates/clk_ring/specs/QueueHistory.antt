@@ -70,8 +70,8 @@ EachStands kind capacity before [] = IsInOrder capacity before
 EachStands kind capacity before (event ∷ after) =
     IsInOrder capacity before × MayStand kind capacity (held before) event × IsFollowedUp event after × EachStands kind capacity (before ++ event ∷ []) after
 
--- What can happen to a queue of this kind and capacity, from the time it was made. It is first in, first out, refuses or evicts only when it
--- is full, and gives none only when it is empty.
+-- What can happen to a queue of this kind and capacity, from the time it was made. It is first in, first out, refuses or evicts only when
+-- it is full, and gives none only when it is empty.
 abbrev pub IsQueueHistory : Kind → ℕ → List QueueEvent → Type 0
 IsQueueHistory kind capacity events = EachStands kind capacity [] events
 
