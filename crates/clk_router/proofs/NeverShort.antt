@@ -1,4 +1,5 @@
--- The closing of a device over a plan never stops short: its queues lose nothing, and what it is told to be left is what queues and heads hold.
+-- The closing of a device over a plan never stops short: its queues lose nothing, and what it is told to be left is what queues and heads
+-- hold.
 use Rattle.std.proofs.Common.{◌≡◌, ℕ, zero, suc, ◌+◌, ◌<◌, ◌==◌, ◌||◌, Bool, true, false, List, [], ◌∷◌, length, map, Option, Some, None, slice_get, refl, sym, ap, ◌∙◌, subst, arith, rules}
 use Rattle.std.specs.List.{AllByRecursion}
 use Rattle.std.proofs.lemmas.Bool.{false≢true}

@@ -191,7 +191,8 @@ can-count [] d can = absurd can
 can-count (device ∷ devices) zero can = omega arith
 can-count (device ∷ devices) (suc d) can = let below = can-count devices d can in omega (arith, below)
 
--- A sender that can offer a packet: it stands at its place, with its number, its queue, and the device of its queue, which can count one more.
+-- A sender that can offer a packet: it stands at its place, with its number, its queue, and the device of its queue, which can count one
+-- more.
 pub record IsSending (parts : Parts) (place : ℕ) (s : Sender) (device : ℕ) : Type 0 where
   pub here : slice_get parts.senders.items place ≡ Some s
   pub number : slice_get parts.numbers.items place ≡ Some s.number

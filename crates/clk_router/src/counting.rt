@@ -10,8 +10,8 @@ use std::marker::Model;
 use std::ops::Deref;
 
 /// A router that keeps nothing of the past but totals for each sender. Only `open` allocates. So it can go on until a sender has offered
-/// 4,294,967,295 packets, or a device is at the end of its pulls or moments. Contracts speak of all its events so far. What a `Router` tells
-/// of itself, this one does too: it gives the `Router` by `Deref`.
+/// 4,294,967,295 packets, or a device is at the end of its pulls or moments. Contracts speak of all its events so far. What a `Router`
+/// tells of itself, this one does too: it gives the `Router` by `Deref`.
 #[derive(Drop)]
 pub struct CountingRouter {
     router: Router,
