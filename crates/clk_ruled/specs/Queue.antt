@@ -56,8 +56,8 @@ pub record IsShared (sender next : ℕ) (accepted refused : List Packet) : Type 
   pub numbers : AreNumbered sender 0 offered
   pub dealt : IsDealt offered accepted refused
 
--- Each packet that a seat offered is in one of accepted and refused, and a FrontDropQueue refuses none. A seat keeps this once it is closed,
--- and once it is gathered.
+-- Each packet that a seat offered is in one of accepted and refused, and a FrontDropQueue refuses none. A seat keeps this once it is
+-- closed, and once it is gathered.
 pub record IsSharedOut (l : SeatLists) : Type 0 where
   pub within : l.next ≤ l.room
   pub shared : IsShared l.sender l.next l.accepted l.refused

@@ -10,8 +10,8 @@ use clk_packet::{Fault, Packet};
 use std::alloc::Global;
 use std::marker::Model;
 
-/// The packets that a queue accepted from one sender, by rising number. Each number is that of an accepted or of a refused packet, so memory
-/// holds only their lengths: two bytes a packet.
+/// The packets that a queue accepted from one sender, by rising number. Each number is that of an accepted or of a refused packet, so
+/// memory holds only their lengths: two bytes a packet.
 #[derive(Drop)]
 pub struct AcceptedPackets {
     pub lengths: Vec<u16>,

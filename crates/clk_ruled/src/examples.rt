@@ -36,8 +36,8 @@ pub fn settled_examples()
     ensures not_more_than_left { NeverTells (seated_twice stranger_out pulled_both) pulled_both (twice_tallies []) }
 {}
 
-/// Why worked queues, of which each has number 3, aren't settled: an allocation failed, or packets were lost though the queue accepted fewer
-/// than it may hold. Fault 21 names the queue, how many packets it accepted, and how many it may hold.
+/// Why worked queues, of which each has number 3, aren't settled: an allocation failed, or packets were lost though the queue accepted
+/// fewer than it may hold. Fault 21 names the queue, how many packets it accepted, and how many it may hold.
 pub fn fault_examples()
     ensures is_memory { MayRefuse (none_lost 2) 3 Memory }
     ensures is_refused_early { MayRefuse (tail_dropped 2 (p0_0 ∷ [])) 3 (Unsettled 3 1 2) }

@@ -28,8 +28,9 @@ pub struct Settled {
     pub taken: Vec<Packet>,
 }
 
-/// Settles a queue whose seats are all closed. Returns a tally for each sender, in order, and the packets that were pulled, if the tap keeps
-/// them. What the queue still holds is dropped. Seats that weren't gathered are gathered. `index` is the queue's number, for the fault.
+/// Settles a queue whose seats are all closed. Returns a tally for each sender, in order, and the packets that were pulled, if the tap
+/// keeps them. What the queue still holds is dropped. Seats that weren't gathered are gathered. `index` is the queue's number, for the
+/// fault.
 ///
 /// # Errors
 ///
