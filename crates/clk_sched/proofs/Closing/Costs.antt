@@ -1,6 +1,6 @@
 -- What is left at one input of a scheduler, and what it may cost yet: for each packet below an input of a DRRSched the rounds that it may
--- take there, and for each head the visits that are enough for it. This number never grows, and falls with each closing pull that gives none
--- while something is left.
+-- take there, and for each head the visits that are enough for it. This number never grows, and falls with each closing pull that gives
+-- none while something is left.
 use Rattle.std.proofs.lemmas.Grind.{common_steps}
 use Rattle.std.proofs.Common.{◌≡◌, ◌⊎◌, ℕ, zero, suc, ◌+◌, ◌*◌, ◌<◌, ◌≤◌, nat_le, if◌then◌else◌, Bool, true, false, not, inl, inr, List, [], ◌∷◌, ◌++◌, filter, Option, Some, None, is_some, unwrap_or, MatchOption, refl, sym, ap, ◌∙◌, subst, mul-add, arith, rules}
 use Rattle.std.specs.List.{AllByRecursion, list_any}
