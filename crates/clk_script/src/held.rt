@@ -54,8 +54,8 @@ impl HeldCommands {
         }
     }
 
-    /// Adds a command. If no more can be held, the lines of those that are held are written first. Fault 20 if the sink fails, which has then
-    /// taken a front of these lines.
+    /// Adds a command. If no more can be held, the lines of those that are held are written first. Fault 20 if the sink fails, which has
+    /// then taken a front of these lines.
     #[inline(always)]
     pub fn add<W: Sink>(&mut self, command: Command, writer: &mut W) -> Result<(), Fault>
         ensures { PassesOn (W.Sink.taken writer.old) (W.Sink.taken writer.new)

@@ -51,16 +51,16 @@ pub record Outgoing : Type 0 where
   pub failures : ℕ
   pub held : List Visit
 
--- Visits were added to those that are held. The sink took the rows of the first of all these, with this column, and the others are held now.
--- If it failed, it took a front of the rows of all.
+-- Visits were added to those that are held. The sink took the rows of the first of all these, with this column, and the others are held
+-- now. If it failed, it took a front of the rows of all.
 pub record HeldOn (column : Option ℕ) (old new : Outgoing) (result : Result (Unit {0}) Fault) (visits : List Visit) : Type 0 where
   pub out : List Visit
   pub split : OnOk result (out ++ new.held ≡ old.held ++ visits)
   pub cut : OnErr result (out ≡ old.held ++ visits)
   pub wrote : Wrote old.taken new.taken old.failures new.failures result (rows_text column out)
 
--- A router carried out these commands at a device, all of them if that succeeded, and otherwise the first ones. This became of the visits of
--- its pulls.
+-- A router carried out these commands at a device, all of them if that succeeded, and otherwise the first ones. This became of the visits
+-- of its pulls.
 pub record CarriedOn (device : ℕ) (old new : Course) (asked : List Command) (result : Result (Unit {0}) Fault) (BecameOf : List Visit → Type 0) : Type 0 where
   pub more : List Event
   pub goes_on : new ≡ after old more
