@@ -15,8 +15,8 @@ use Rattle.clk_syntax.specs.declared.naming.class.Class.TheVariants as kept
 use Rattle.clk_syntax.specs.declared.naming.class.Role.{Role}
 use Rattle.clk_syntax.specs.declared.naming.class.Role.TheVariants as role
 
--- A class with its arguments, defaults filled in: the number of a Sender, the kind and the capacity of a queue, a scheduler, and the word of
--- a ToDevice. A DRRSched has one quantum for all inputs or one for each.
+-- A class with its arguments, defaults filled in: the number of a Sender, the kind and the capacity of a queue, a scheduler, and the word
+-- of a ToDevice. A DRRSched has one quantum for all inputs or one for each.
 pub data Class : Type 0 where
   sender : ℕ → Class
   queue : Kind → ℕ → Class
