@@ -124,7 +124,8 @@ impl Plan {
         self.tops.len() as u16
     }
 
-    /// The tree of a device of the plan, by its number. A leaf is a queue by its number: queues are numbered from 0 in order of declaration.
+    /// The tree of a device of the plan, by its number. A leaf is a queue by its number: queues are numbered from 0 in order of
+    /// declaration.
     ///
     /// # Errors
     ///
@@ -177,7 +178,8 @@ impl Plan {
         Ok(counts)
     }
 
-    /// A law: the leaves of the trees together are the numbers of the queues, each once, and each queue is a leaf of the tree of its device.
+    /// A law: the leaves of the trees together are the numbers of the queues, each once, and each queue is a leaf of the tree of its
+    /// device.
     pub fn trees_share_queues(&self)
         ensures { (trees : List Tree) → AreTreesOf self.now trees → AreSharedOut (queues_of self.now) trees }
     {

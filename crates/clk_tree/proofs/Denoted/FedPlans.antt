@@ -30,7 +30,8 @@ use Rattle.clk_tree.proofs.Sound.SoundParents.{sources-lead}
 use Rattle.clk_tree.proofs.Distinct.DistinctNumbers.{in-all, all-of, in-stands, stands-in}
 use Rattle.clk_tree.proofs.Denoted.DevicePaths.{is_device_at, HasPath, has-path, fed-is}
 
--- each source of an element that is no queue leads to it, and what is connected to a queue are Senders, each of which is connected to it alone
+-- each source of an element that is no queue leads to it, and what is connected to a queue are Senders, each of which is connected to it
+-- alone
 pub record IsWired (plan : List Planned) (parent : ℕ → ℕ) : Type 0 where
   pub leads : (i : ℕ) (e : Planned) → slice_get plan i ≡ Some e → is_queue e.class ≡ false → AllByRecursion (λ s. parent s ≡ i) e.sources
   pub senders : (i : ℕ) (e : Planned) → slice_get plan i ≡ Some e → is_queue e.class ≡ true → AllByRecursion (IsSenderAt plan) e.sources

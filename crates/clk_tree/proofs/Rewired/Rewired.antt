@@ -1,5 +1,5 @@
--- A plan that is written in canonical form and read again: nothing is wrong with its names, its elements are the same in the same order, and
--- its connections are the same in another order.
+-- A plan that is written in canonical form and read again: nothing is wrong with its names, its elements are the same in the same order,
+-- and its connections are the same in another order.
 use Rattle.std.proofs.Common.{◌≡◌, ℕ, List, map, Option, None, ◌∙◌, rules}
 use Rattle.std.specs.Option.{option_or, option_map}
 use Rattle.std.specs.List.{AllByRecursion, flat_map}

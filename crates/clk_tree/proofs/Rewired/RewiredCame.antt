@@ -1,4 +1,5 @@
--- In a plan without a fault each connection to an element, by its sources, is one of the text, and each output stands once among the sources.
+-- In a plan without a fault each connection to an element, by its sources, is one of the text, and each output stands once among the
+-- sources.
 use Rattle.std.proofs.lemmas.Grind.{common_steps}
 use Rattle.std.proofs.Common.{◌≡◌, ℕ, ◌+◌, ◌<◌, ◌==◌, ◌||◌, zero, suc, Bool, true, false, List, [], ◌∷◌, ◌++◌, length, map, filter, Option, Some, None, slice_get, inl, inr, refl, sym, ap, subst, ◌∙◌, arith, eqb-true, unwrap_or, rules}
 use Rattle.std.specs.List.{AllByRecursion, range_with_len}

@@ -19,8 +19,8 @@ pub struct Element {
     pub name: Vec<u8>,
     /// Its class with all arguments.
     pub class: Class,
-    /// The elements that are connected to it, by their places among all: of a queue its senders in order of declaration, of any other element
-    /// the one at each input.
+    /// The elements that are connected to it, by their places among all: of a queue its senders in order of declaration, of any other
+    /// element the one at each input.
     pub sources: Vec<u16>,
 }
 
