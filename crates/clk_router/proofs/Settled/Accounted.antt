@@ -21,6 +21,7 @@ use Rattle.clk_tree.specs.declared.plan.parts.SenderSpec.{SenderSpec}
 use Rattle.clk_tree.specs.PlanParts.{SendsWithin}
 use Rattle.clk_packet.specs.Dealt.{IsDealt}
 use Rattle.clk_packet.proofs.Callers.Dealt.{dealt-kept}
+use Rattle.clk_packet.proofs.Callers.Lists.{all-both}
 use Rattle.clk_router.specs.Events.{Room, Setup, Event, offered, pulled, sender_numbers, is_at, happens_at, events_at, log_of, accepted_in, refused_in, evicted_in, sends_to, history, IsOfDevice, IsOfSender, RunsTree, CanHappen}
 use Rattle.clk_router.specs.Settled.{IsSenderAccounted, emitted_by, sends_at}
 use Rattle.clk_router.specs.InsideQueues.{given_by}
@@ -28,7 +29,7 @@ use Rattle.clk_router.specs.inside.Closable.{IsClosable}
 use Rattle.clk_router.specs.inside.Parts.{IsWhole}
 use Rattle.clk_router.proofs.Callers.Apart.{sent-here, history-alone, one-queue}
 use Rattle.clk_router.proofs.QueueCounts.{gives-log}
-use Rattle.clk_router.proofs.Settled.Dealt.{offered-dealt, all-both, all-for, member-there}
+use Rattle.clk_router.proofs.Settled.Dealt.{offered-dealt, all-for, member-there}
 use Rattle.clk_router.proofs.Settled.Emitted.{emitted-all}
 use Rattle.clk_router.proofs.Settled.QueuePackets.{accepted_by, refused_by, evicted_by, accepted-is, gone-dealt, all-evicted, all-given, all-gone, history-in_order, none-refused, none-evicted, IsOwn, its-packets, all-sent, EvictsWith, each-evicts}
 use Rattle.clk_router.proofs.Settled.OwnPackets.{SendsIn, its-queue, all-came, of-own_queue, none-of-other}

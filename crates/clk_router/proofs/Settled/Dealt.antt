@@ -20,10 +20,6 @@ pub offered-dealt : (s : ℕ) (events : List Event) → IsDealt (offered_of even
 offered-dealt s events = dealt-kept (λ p. p.sender == s) (filter_map offered_in events) (filter_map accepted_in events) (filter_map refused_in events) (all-offered events)
 
 -- what holds of all members of a list
-pub all-both : {X : Type 0} (P Q R : X → Type 0) (xs : List X) → ((x : X) → P x → Q x → R x) → AllByRecursion P xs → AllByRecursion Q xs → AllByRecursion R xs
-all-both P Q R [] f h k = tt
-all-both P Q R (x ∷ xs) f h k = (f x h.0 k.0, all-both P Q R xs f h.1 k.1)
-
 pub all-for : {K X : Type 0} (P : K → X → Type 0) (xs : List X) → ((k : K) → AllByRecursion (P k) xs) → AllByRecursion (λ x. (k : K) → P k x) xs
 all-for P [] h = tt
 all-for P (x ∷ xs) h = ((λ k. (h k).0), all-for P xs (λ k. (h k).1))

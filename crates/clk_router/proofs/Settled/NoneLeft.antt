@@ -6,6 +6,7 @@ use Rattle.std.proofs.lemmas.Bool.{false≢true}
 use Rattle.std.proofs.lemmas.Bool.Decides.{nat_tests}
 use Rattle.std.proofs.lemmas.Option.{slice_get_within}
 use Rattle.clk_packet.specs.Lists.{stands_in}
+use Rattle.clk_packet.proofs.Callers.Lists.{all-both}
 use Rattle.clk_ring.specs.QueueHistory.{QueueEvent, held, IsInOrder, IsQueueHistory}
 use Rattle.clk_sched.specs.Tree.{Tree, root, leaves, leaves_distinct}
 use Rattle.clk_sched.specs.Run.{IsRun}
@@ -22,7 +23,7 @@ use Rattle.clk_router.specs.inside.Parts.{IsWhole}
 use Rattle.clk_router.proofs.Callers.Apart.{alone, history-alone}
 use Rattle.clk_router.proofs.PartsLemmas.{all-there}
 use Rattle.clk_router.proofs.QueueCounts.{left-is}
-use Rattle.clk_router.proofs.Settled.Dealt.{all-both, no-members, member-there}
+use Rattle.clk_router.proofs.Settled.Dealt.{no-members, member-there}
 use Rattle.clk_router.proofs.Settled.QueuePackets.{history-in_order}
 use Rattle.clk_router.proofs.Settled.OwnPackets.{all-send}
 use Rattle.clk_router.proofs.Settled.Numbers.{out-once, all-out}
