@@ -12,6 +12,7 @@ use Rattle.clk_syntax.specs.declared.node.Node.{Node}
 use Rattle.clk_syntax.specs.declared.node.Link.{Link}
 use Rattle.clk_syntax.specs.Limits.{most_port}
 use Rattle.clk_packet.proofs.Callers.Schedulers.{most-small}
+use Rattle.clk_packet.proofs.Callers.Lists.{all-both}
 use Rattle.clk_syntax.specs.Classes.{Class, device, class_with, role_of}
 use Rattle.clk_syntax.specs.Source.{Element, Wire}
 use Rattle.clk_syntax.specs.Declarations.{class_if, class_of}
@@ -24,7 +25,6 @@ use Rattle.clk_tree.proofs.Distinct.DistinctPlans.{plan-few}
 use Rattle.clk_tree.proofs.Canonical.NumberWords.{below-all, decimal-word, decimal-words}
 use Rattle.clk_tree.proofs.Canonical.ReadBack.{all-planned}
 use Rattle.clk_tree.proofs.Sound.SoundClasses.{HasLimits, class-limits}
-use Rattle.clk_tree.proofs.Sound.SoundChecks.{all-both}
 use Rattle.clk_tree.proofs.Sound.SoundPaths.{AreSound, fed}
 use Rattle.clk_tree.proofs.Sound.SoundPlans.{IsPlanOf, is-plan, sound-nodes, pull-sources, all-range}
 use Rattle.clk_tree.proofs.Sound.SoundNodes.{node-at}

@@ -5,6 +5,7 @@ use Rattle.std.specs.List.{AllByRecursion, range_with_len}
 use Rattle.std.proofs.lemmas.Bool.{and_from, and_parts, or_parts, or_right, ltb-true, cases_eq, cases_Bool, false≢true}
 use Rattle.std.proofs.lemmas.Option.{same_Some}
 use Rattle.clk_packet.specs.Lists.{stands_in, In}
+use Rattle.clk_packet.proofs.Callers.Lists.{all-both}
 use Rattle.clk_syntax.specs.declared.naming.class.Role.{Role}
 use Rattle.clk_syntax.specs.declared.naming.class.Role.TheVariants as role
 use Rattle.clk_syntax.specs.declared.node.Node.{Node}
@@ -21,7 +22,7 @@ use Rattle.clk_syntax.proofs.Callers.Checks.{neither, fails-not}
 use Rattle.clk_tree.specs.Plan.{Planned, source_at, all_known, plan_of, Denotes}
 use Rattle.clk_tree.specs.PlanTree.{is_queue, is_device}
 use Rattle.clk_tree.specs.PlanPaths.{has_output, place_fed, place_after}
-use Rattle.clk_tree.proofs.Sound.SoundChecks.{all-both, IsRight}
+use Rattle.clk_tree.proofs.Sound.SoundChecks.{IsRight}
 use Rattle.clk_tree.proofs.Sound.SoundNodes.{node-at, queue-class, device-class}
 use Rattle.clk_tree.proofs.Sound.SoundPaths.{AreSound}
 use Rattle.clk_tree.proofs.Sound.SoundPlans.{IsPlanOf, is-plan, sound-nodes, pull-sources}

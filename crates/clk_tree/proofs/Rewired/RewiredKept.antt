@@ -7,6 +7,7 @@ use Rattle.std.proofs.lemmas.Bool.{and_parts, or_parts, or_cases, or_left, or_ri
 use Rattle.std.proofs.lemmas.Option.{same_Some, slice_get_within}
 use Rattle.clk_sched.proofs.Callers.Lists.{all-weaker}
 use Rattle.clk_packet.specs.Lists.{stands_in}
+use Rattle.clk_packet.proofs.Callers.Lists.{all-both}
 use Rattle.clk_sched.specs.Tree.{is_number}
 use Rattle.clk_syntax.specs.declared.naming.class.Role.{Role}
 use Rattle.clk_syntax.specs.declared.node.Node.{Node}
@@ -21,7 +22,7 @@ use Rattle.clk_syntax.proofs.Callers.Checks.{neither, fails-not}
 use Rattle.clk_tree.specs.Plan.{Planned, source_at, is_connected, all_known, plan_of}
 use Rattle.clk_tree.specs.PlanTree as tree
 use Rattle.clk_tree.proofs.Rewired.SameWiring.{IsAlike, Occurs}
-use Rattle.clk_tree.proofs.Sound.SoundChecks.{IsRight, all-both, at-more}
+use Rattle.clk_tree.proofs.Sound.SoundChecks.{IsRight, at-more}
 use Rattle.clk_tree.proofs.Sound.SoundParents.{has-inputs}
 use Rattle.clk_tree.proofs.Sound.SoundPaths.{AreSound}
 use Rattle.clk_tree.proofs.Sound.SoundPlans.{sound-nodes}

@@ -15,10 +15,11 @@ use Rattle.clk_syntax.specs.inside.Checks.{first_of, bad_link, mixed_link, is_co
 use Rattle.clk_syntax.proofs.Callers.Graphs.{bad-port-first, wrong-kind-first, used_again}
 use Rattle.clk_syntax.proofs.Callers.Checks.{neither, fails-not}
 use Rattle.clk_tree.specs.Plan.{source_at}
-use Rattle.clk_tree.proofs.Sound.SoundChecks.{all-both, IsRight, all-right}
+use Rattle.clk_tree.proofs.Sound.SoundChecks.{IsRight, all-right}
 use Rattle.clk_tree.proofs.Distinct.DistinctPlans.{Once}
 use Rattle.clk_tree.proofs.Rewired.SameWiring.{IsAlike, Occurs, IsRewired, role_in, AreSameNodes}
 use Rattle.clk_tree.proofs.Rewired.WiringAgainTests.{all-occur, same-outputs, same-inputs, same-used, leads_from, leads_into, lone-input, lone-source}
+use Rattle.clk_packet.proofs.Callers.Lists.{all-both}
 
 -- elements have the same roles at other places
 same-cons : (a b : Role) (xs ys : List Role) → a ∷ xs ≡ b ∷ ys → (a ≡ b) × (xs ≡ ys)

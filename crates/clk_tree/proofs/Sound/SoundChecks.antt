@@ -3,6 +3,7 @@ use Rattle.std.proofs.Common.{◌≡◌, ℕ, ◌+◌, ◌≤◌, ◌==◌, ◌&
 use Rattle.std.specs.List.{AllByRecursion}
 use Rattle.std.proofs.lemmas.Bool.{and_parts, or_parts, not-false}
 use Rattle.clk_packet.specs.Limits.{most_inputs, most_levels}
+use Rattle.clk_packet.proofs.Callers.Lists.{all-both}
 use Rattle.clk_syntax.specs.declared.naming.class.Role.{Role}
 use Rattle.clk_syntax.specs.declared.node.Node.{Node}
 use Rattle.clk_syntax.specs.declared.node.Link.{Link}
@@ -17,10 +18,6 @@ use Rattle.clk_syntax.proofs.Callers.Checks.{neither, fails-not}
 pub each-of : {A : Type 0} (fails : A → Option ℕ) (xs : List A) → first_of fails xs ≡ None → AllByRecursion (λ x. fails x ≡ None) xs
 each-of fails [] e = tt
 each-of fails (x ∷ xs) e = let parts = neither (fails x) (first_of fails xs) e in (parts.0, each-of fails xs parts.1)
-
-pub all-both : {A : Type 0} (P Q R : A → Type 0) (xs : List A) → ((x : A) → P x → Q x → R x) → AllByRecursion P xs → AllByRecursion Q xs → AllByRecursion R xs
-all-both P Q R [] f p q = tt
-all-both P Q R (x ∷ xs) f p q = (f x p.0 q.0, all-both P Q R xs f p.1 q.1)
 
 -- The ends of a connection that is right: its output is there, its input is there, and a push output leads to a push input.
 pub record IsRight (nodes : List Node) (c : Link) : Type 0 where

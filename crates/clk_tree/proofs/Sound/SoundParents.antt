@@ -4,6 +4,7 @@ use Rattle.std.specs.List.{AllByRecursion, range_with_len}
 use Rattle.std.proofs.lemmas.Bool.{or_parts, or_from}
 use Rattle.std.proofs.lemmas.Option.{same_Some}
 use Rattle.clk_packet.specs.Lists.{stands_in, are_distinct}
+use Rattle.clk_packet.proofs.Callers.Lists.{all-both}
 use Rattle.clk_syntax.specs.declared.naming.class.Role.{Role}
 use Rattle.clk_syntax.specs.declared.node.Node.{Node}
 use Rattle.clk_syntax.specs.declared.node.Link.{Link}
@@ -16,7 +17,7 @@ use Rattle.clk_syntax.proofs.Callers.Graphs.{used_again}
 use Rattle.clk_syntax.proofs.Callers.Checks.{neither}
 use Rattle.clk_tree.specs.Plan.{Planned, source_at, all_known, plan_of}
 use Rattle.clk_tree.specs.PlanTree as tree
-use Rattle.clk_tree.proofs.Sound.SoundChecks.{all-both, unused-after}
+use Rattle.clk_tree.proofs.Sound.SoundChecks.{unused-after}
 use Rattle.clk_tree.proofs.Sound.SoundNodes.{node-at, queue-class}
 use Rattle.clk_tree.proofs.Sound.SoundPaths.{AreSound, fed, link-to, input-used}
 use Rattle.clk_tree.proofs.Sound.SoundPlans.{is-plan, sound-nodes, pull-sources, all-range, inputs_at}

@@ -6,6 +6,7 @@ use Rattle.std.proofs.lemmas.Bool.{and_parts, false≢true, cases_lt, cases_eq}
 use Rattle.clk_packet.specs.declared.fault.Fault.{Fault}
 use Rattle.clk_packet.specs.declared.fault.Fault.TheVariants.{NoDevice, TooLarge}
 use Rattle.clk_packet.specs.Limits.{most_elements, most_levels}
+use Rattle.clk_packet.proofs.Callers.Lists.{all-both}
 use Rattle.clk_syntax.specs.declared.naming.class.Role.{Role}
 use Rattle.clk_syntax.specs.declared.naming.class.Role.TheVariants as role
 use Rattle.clk_syntax.specs.declared.node.Node.{Node}
@@ -16,7 +17,7 @@ use Rattle.clk_syntax.specs.Faults.{nodes_fault}
 use Rattle.clk_syntax.proofs.Callers.Graphs.{bad-port-first, wrong-kind-first}
 use Rattle.clk_syntax.proofs.Callers.Checks.{neither}
 use Rattle.clk_tree.specs.Plan.{source_at}
-use Rattle.clk_tree.proofs.Sound.SoundChecks.{IsRight, all-both, all-right, all-next, IsConnected, connected-at, leads-at, IsSmall, small-at}
+use Rattle.clk_tree.proofs.Sound.SoundChecks.{IsRight, all-right, all-next, IsConnected, connected-at, leads-at, IsSmall, small-at}
 
 -- elements and connections in which no check of ports, of the tree and of sizes finds a fault
 pub record AreSound (nodes : List Node) (links : List Link) : Type 0 where
