@@ -1,14 +1,14 @@
 -- When calls are refused, and what they return then. The contract of a call that is refused says that nothing changed: neither the router
 -- nor what was to be filled in, except a count, which is 0.
 use Rattle.std.specs.Prelude.{◌≡◌, ℕ, ◌<◌, ◌≤◌, Some, None, slice_get}
-use Rattle.clk_packet.specs.Limits.{most_length}
+use Rattle.clk_packet.specs.declared.limits.TheConstants.{MAX_LENGTH}
 use Rattle.clk_router.specs.Course.{Course, sender_at, CanOffer, CanPull}
 use Rattle.clickpull_c.specs.Counts.{device_count, sender_count, queue_count}
 use Rattle.clickpull_c.specs.declared.statuses.TheConstants.{UNKNOWN_SENDER, UNKNOWN_DEVICE, UNKNOWN_QUEUE, BAD_LENGTH, AT_END}
 
 -- a packet has 1 to 65,535 bytes
 abbrev pub IsLength : ℕ → Type 0
-IsLength length = (1 ≤ length) × (length ≤ most_length)
+IsLength length = (1 ≤ length) × (length ≤ MAX_LENGTH)
 
 -- no sender has this number
 abbrev pub IsUnknown : Course → ℕ → Type 0

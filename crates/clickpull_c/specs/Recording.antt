@@ -2,7 +2,7 @@
 use Rattle.std.specs.Prelude.{◌≡◌, ℕ, ◌+◌, ◌<◌, ◌≤◌, List, ◌++◌, length, take, Option, IfSome}
 use Rattle.clk_script.specs.declared.script.Command.{Command}
 use Rattle.clk_script.specs.declared.script.Command.TheVariants.{Send}
-use Rattle.clk_script.specs.Script.{most_lines, most_moment}
+use Rattle.clk_script.specs.declared.limits.TheConstants.{MAX_LINES, MAX_MOMENT}
 use Rattle.clickpull_c.specs.declared.values.CPacket.{CPacket}
 use Rattle.clickpull_c.specs.declared.statuses.TheConstants.{OK, FULL, AT_END}
 
@@ -12,8 +12,8 @@ send_of p = Send p.sender p.length
 
 -- A record of so many lines may go on with `count` lines of this moment.
 pub record MayGoOn (lines count : ℕ) (moment : Option ℕ) : Type 0 where
-  pub few : lines + count ≤ most_lines
-  pub early : IfSome moment (λ m. m ≤ most_moment)
+  pub few : lines + count ≤ MAX_LINES
+  pub early : IfSome moment (λ m. m ≤ MAX_MOMENT)
 
 -- Bytes were added behind the first `used` bytes of a text, and end at this place.
 pub record IsAdded (bytes before after : List ℕ) (used end : ℕ) : Type 0 where

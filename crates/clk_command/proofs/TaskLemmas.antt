@@ -10,7 +10,7 @@ use Rattle.clap.specs.Walk.{Text}
 use Rattle.clk_packet.specs.declared.fault.Fault.{Fault}
 use Rattle.clk_packet.specs.declared.fault.Fault.TheVariants.{TooLarge, Write}
 use Rattle.clk_syntax.specs.Faults.{text_fault}
-use Rattle.clk_syntax.specs.Limits.{most_tree_bytes}
+use Rattle.clk_syntax.specs.declared.limits.TheConstants.{MAX_TREE_BYTES}
 use Rattle.clk_tree.specs.Plan.{Planned, Denotes}
 use Rattle.clk_syntax.specs.Reading.{HasFault}
 use Rattle.clk_packet.proofs.Callers.Written.{of-weaker, wrote-whole, wrote-front}
@@ -27,40 +27,40 @@ use Rattle.clk_words.specs.declared.words.Job.TheVariants.{Run, Live}
 use Rattle.std.specs.Borrow.{Bor}
 
 -- a text without a fault of its own isn't too long
-short : (text : List ℕ) → text_fault text ≡ None → nat_lt most_tree_bytes (length text) ≡ false
-short text e = by_test (nat_lt most_tree_bytes (length text)) refl
+short : (text : List ℕ) → text_fault text ≡ None → nat_lt MAX_TREE_BYTES (length text) ≡ false
+short text e = by_test (nat_lt MAX_TREE_BYTES (length text)) refl
   where
-    by_test : (b : Bool) → nat_lt most_tree_bytes (length text) ≡ b → nat_lt most_tree_bytes (length text) ≡ false
+    by_test : (b : Bool) → nat_lt MAX_TREE_BYTES (length text) ≡ b → nat_lt MAX_TREE_BYTES (length text) ≡ false
     by_test true t =
         let too_large : text_fault text ≡ Some TooLarge = rw t refl in
         absurd (cc)
     by_test false t = t
 
 -- one byte past the limit tells that a text is too long
-cut-long : (all : List ℕ) → nat_lt most_tree_bytes (length all) ≡ true → nat_lt most_tree_bytes (length (take (most_tree_bytes + 1) all)) ≡ true
+cut-long : (all : List ℕ) → nat_lt MAX_TREE_BYTES (length all) ≡ true → nat_lt MAX_TREE_BYTES (length (take (MAX_TREE_BYTES + 1) all)) ≡ true
 cut-long all e = rw length-take (grind (arith, nat_tests))
 
 -- a text that isn't too long is read whole
-whole : (all : List ℕ) → nat_lt most_tree_bytes (length (take (most_tree_bytes + 1) all)) ≡ false → take (most_tree_bytes + 1) all ≡ all
-whole all e = by_test (nat_lt most_tree_bytes (length all)) refl
+whole : (all : List ℕ) → nat_lt MAX_TREE_BYTES (length (take (MAX_TREE_BYTES + 1) all)) ≡ false → take (MAX_TREE_BYTES + 1) all ≡ all
+whole all e = by_test (nat_lt MAX_TREE_BYTES (length all)) refl
   where
-    by_test : (b : Bool) → nat_lt most_tree_bytes (length all) ≡ b → take (most_tree_bytes + 1) all ≡ all
+    by_test : (b : Bool) → nat_lt MAX_TREE_BYTES (length all) ≡ b → take (MAX_TREE_BYTES + 1) all ≡ all
     by_test true t = let long = cut-long all t in absurd (cc)
     by_test false t = take_all 1048577 all (grind (arith, nat_tests))
 
 -- the plan that the first bytes of a text denote
-pub plan-read : (known : Option (List ℕ)) (bytes : List ℕ) (plan : List Planned) → IfSome known (λ all. bytes ≡ take (most_tree_bytes + 1) all) → Denotes bytes plan → IsPlanIn known plan
+pub plan-read : (known : Option (List ℕ)) (bytes : List ℕ) (plan : List Planned) → IfSome known (λ all. bytes ≡ take (MAX_TREE_BYTES + 1) all) → Denotes bytes plan → IsPlanIn known plan
 plan-read None bytes plan is denotes = (bytes, denotes)
 plan-read (Some all) bytes plan is denotes =
     let read = rw is at (short bytes denotes.faultless.short_and_right) in
     subst (λ (text : List ℕ). Denotes text plan) (is ∙ whole all read) denotes
 
 -- the fault that they have
-pub fault-read : (known : Option (List ℕ)) (bytes : List ℕ) (fault : Fault) → IfSome known (λ all. bytes ≡ take (most_tree_bytes + 1) all) → HasFault bytes fault → OfBytes known (λ all. HasFault all fault)
+pub fault-read : (known : Option (List ℕ)) (bytes : List ℕ) (fault : Fault) → IfSome known (λ all. bytes ≡ take (MAX_TREE_BYTES + 1) all) → HasFault bytes fault → OfBytes known (λ all. HasFault all fault)
 fault-read None bytes fault is has = (bytes, has)
-fault-read (Some all) bytes fault is has = by_test (nat_lt most_tree_bytes (length all)) refl has
+fault-read (Some all) bytes fault is has = by_test (nat_lt MAX_TREE_BYTES (length all)) refl has
   where
-    by_test : (b : Bool) → nat_lt most_tree_bytes (length all) ≡ b → HasFault bytes fault → HasFault all fault
+    by_test : (b : Bool) → nat_lt MAX_TREE_BYTES (length all) ≡ b → HasFault bytes fault → HasFault all fault
     by_test true t (inl e) =
         let long = cut-long all t in
         let cut : text_fault bytes ≡ Some TooLarge = rw (is, long) refl in
@@ -192,9 +192,9 @@ explains-standard asked tree path job input fault e is apart h =
     subst (λ (a : Asked). ExplainsTask (task a) input fault) (sym e) has
 
 pub takes-standard : (asked : Asked) (tree path : Bor Text) (job : Job) (old new : Option (List ℕ)) → asked ≡ Over tree path job → tree.now ≡ dash
-    → Takes (most_tree_bytes + 1) old new → Takes (most_of_input (task asked) + 1) old new
+    → Takes (MAX_TREE_BYTES + 1) old new → Takes (most_of_input (task asked) + 1) old new
 takes-standard asked tree path job old new e is h =
-    let most : most_of_input (task (Over tree path job)) ≡ most_tree_bytes = ap (λ (b : Bool). if b then most_tree_bytes else most_of_work (work job)) (ap (λ t. bytes_eq t dash) is) in
+    let most : most_of_input (task (Over tree path job)) ≡ MAX_TREE_BYTES = ap (λ (b : Bool). if b then MAX_TREE_BYTES else most_of_work (work job)) (ap (λ t. bytes_eq t dash) is) in
     subst (λ (a : Asked). Takes (most_of_input (task a) + 1) old new) (sym e) (subst (λ n. Takes (n + 1) old new) (sym most) h)
 
 -- a writer failed exactly if the fault of a write is 20

@@ -2,10 +2,10 @@
 
 ghost use Rattle.std.specs.Prelude.{◌≡◌, ◌+◌, ◌⊎◌, IfErr};
 ghost use Rattle.clk_packet.specs.Bytes.{Takes, read_failures, write_failures};
-ghost use Rattle.clk_packet.specs.Trace.{most_trace_bytes};
+ghost use Rattle.clk_packet.specs.declared.limits.TheConstants.{MAX_TRACE_BYTES};
 ghost use Rattle.clk_packet.specs.Written.{WroteWhat};
 ghost use Rattle.clk_packet.specs.declared.fault.Fault.TheVariants.{Write};
-ghost use Rattle.clk_syntax.specs.Limits.{most_tree_bytes};
+ghost use Rattle.clk_syntax.specs.declared.limits.TheConstants.{MAX_TREE_BYTES};
 ghost use Rattle.clk_command.specs.Linting.{ExplainsLint, LintWrites};
 ghost use Rattle.clk_command.specs.Tasks.{ExplainsLintOver, ExplainsTree, IsLintOf, LintsOver, WasTreeRead};
 
@@ -30,7 +30,7 @@ pub fn lint_tree<T: Source, W: Sink>(
     ensures fault { IfErr result (λ fault. (fault ≡ Write) ⊎ ExplainsTree (T.Source.remaining tree.old) fault) }
     ensures read_failures { T.Source.failures tree.new ≡ read_failures result (T.Source.failures tree.old) }
     ensures write_failures { W.Sink.failures writer.new ≡ write_failures result (W.Sink.failures writer.old) }
-    ensures limit { Takes (most_tree_bytes + 1) (T.Source.remaining tree.old) (T.Source.remaining tree.new) }
+    ensures limit { Takes (MAX_TREE_BYTES + 1) (T.Source.remaining tree.old) (T.Source.remaining tree.new) }
 {
     let plan = read_plan(alloc, tree)?;
     lint(alloc, &plan, None, writer)
@@ -55,8 +55,8 @@ pub fn lint_over<T: Source, S: Source, W: Sink>(
         ≡ read_failures result (T.Source.failures tree.old + S.Source.failures trace.old) }
     ensures write_failures { W.Sink.failures writer.new ≡ write_failures result (W.Sink.failures writer.old) }
     // At most one byte past its limit is read from each source.
-    ensures tree_limit { Takes (most_tree_bytes + 1) (T.Source.remaining tree.old) (T.Source.remaining tree.new) }
-    ensures trace_limit { Takes (most_trace_bytes + 1) (S.Source.remaining trace.old) (S.Source.remaining trace.new) }
+    ensures tree_limit { Takes (MAX_TREE_BYTES + 1) (T.Source.remaining tree.old) (T.Source.remaining tree.new) }
+    ensures trace_limit { Takes (MAX_TRACE_BYTES + 1) (S.Source.remaining trace.old) (S.Source.remaining trace.new) }
     // The trace is unchanged, unless the tree was read.
     ensures trace_unread { (trace.new ≡ trace.old) ⊎ WasTreeRead (T.Source.remaining tree.old) (T.Source.failures tree.old) (T.Source.failures tree.new) }
 {
@@ -81,7 +81,7 @@ pub fn lint_trace<S: Source, W: Sink>(
     ensures read_failures { S.Source.failures trace.new ≡ read_failures result (S.Source.failures trace.old) }
     ensures write_failures { W.Sink.failures writer.new ≡ write_failures result (W.Sink.failures writer.old) }
     // At most one byte past the limit is read.
-    ensures limit { Takes (most_trace_bytes + 1) (S.Source.remaining trace.old) (S.Source.remaining trace.new) }
+    ensures limit { Takes (MAX_TRACE_BYTES + 1) (S.Source.remaining trace.old) (S.Source.remaining trace.new) }
 {
     let traces = Traces::read_csv(alloc, trace)?;
     check_senders(plan.senders(), &traces)?;

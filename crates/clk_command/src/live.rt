@@ -2,7 +2,7 @@
 
 ghost use Rattle.std.specs.Prelude.{◌≡◌, ◌≢◌, ◌+◌, true, Some, IfOk, IfErr, IsOkUnless};
 ghost use Rattle.clk_packet.specs.Bytes.{Takes, read_failures, write_failures};
-ghost use Rattle.clk_packet.specs.Trace.{most_trace_bytes};
+ghost use Rattle.clk_packet.specs.declared.limits.TheConstants.{MAX_TRACE_BYTES};
 ghost use Rattle.clk_packet.specs.Written.{WroteWhat};
 ghost use Rattle.clk_packet.specs.declared.fault.Fault.TheVariants.{Memory, Write};
 ghost use Rattle.clk_script.specs.Meaning.{MeansOverWith, ending_text};
@@ -62,7 +62,7 @@ pub fn live_trace<H: Threads + Wait, P: Wait + Sync, S: Source, W: Sink, R: Sink
     ensures write_failures { W.Sink.failures writer.new ≡ write_failures result (W.Sink.failures writer.old) }
 
     // At most one byte past the limit is read.
-    ensures limit { Takes (most_trace_bytes + 1) (S.Source.remaining trace.old) (S.Source.remaining trace.new) }
+    ensures limit { Takes (MAX_TRACE_BYTES + 1) (S.Source.remaining trace.old) (S.Source.remaining trace.new) }
 {
     let traces = Traces::read_csv(alloc, trace)?;
     let outcome = run_live(
@@ -105,7 +105,7 @@ pub fn replayed_trace<H: Threads + Wait, P: Wait + Sync, S: Source>(
     ensures fault { IfErr result (ExplainsLive plan.now (S.Source.remaining trace.old) pace.limit true) }
     ensures not_write { IfErr result (λ fault. fault ≢ Write) }
     ensures read_failures { S.Source.failures trace.new ≡ read_failures result (S.Source.failures trace.old) }
-    ensures limit { Takes (most_trace_bytes + 1) (S.Source.remaining trace.old) (S.Source.remaining trace.new) }
+    ensures limit { Takes (MAX_TRACE_BYTES + 1) (S.Source.remaining trace.old) (S.Source.remaining trace.new) }
 {
     let traces = Traces::read_csv(alloc, trace)?;
     let outcome = run_live(

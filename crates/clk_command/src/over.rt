@@ -3,13 +3,13 @@
 ghost use Rattle.std.specs.Prelude.{◌≡◌, ◌≢◌, ◌+◌, ◌⊎◌, true, false, map, Some, IfOk, IfErr, OnOk};
 ghost use Rattle.std.specs.Io.KnownBytes.{Appends};
 ghost use Rattle.clk_packet.specs.Bytes.{AppendsFront, Takes, read_failures, write_failures};
-ghost use Rattle.clk_packet.specs.Trace.{most_trace_bytes};
+ghost use Rattle.clk_packet.specs.declared.limits.TheConstants.{MAX_TRACE_BYTES};
 ghost use Rattle.clk_packet.specs.declared.fault.Fault.TheVariants.{Write};
 ghost use Rattle.clk_report.specs.VisitCsv.{visits_text};
 ghost use Rattle.clk_sched.specs.Packed.{logged};
 ghost use Rattle.clk_script.specs.Meaning.{ending_text};
-ghost use Rattle.clk_script.specs.Script.{most_script_bytes};
-ghost use Rattle.clk_syntax.specs.Limits.{most_tree_bytes};
+ghost use Rattle.clk_script.specs.declared.limits.TheConstants.{MAX_SCRIPT_BYTES};
+ghost use Rattle.clk_syntax.specs.declared.limits.TheConstants.{MAX_TREE_BYTES};
 ghost use Rattle.clk_packet.specs.Written.{WroteWhat};
 ghost use Rattle.clk_command.specs.Tasks.{IsPlanIn, IsCanonicalOf, ExplainsTree, ExplainsScriptOver, ExplainsRunOver, WritesOver, WritesWithVisits, ReportsOver, ReportsWithVisits, LivesOver, LivesWithVisits, ExplainsLiveOver, WasTreeRead, WroteBoth};
 ghost use Rattle.clk_command.specs.Running.{HasRecord};
@@ -38,7 +38,7 @@ pub fn read_plan<T: Source>(alloc: Global, tree: &mut T) -> Result<Plan, Fault>
     ensures fault { IfErr result (ExplainsTree (T.Source.remaining tree.old)) }
     ensures failures { T.Source.failures tree.new ≡ read_failures result (T.Source.failures tree.old) }
     ensures not_write { IfErr result (λ fault. fault ≢ Write) }
-    ensures limit { Takes (most_tree_bytes + 1) (T.Source.remaining tree.old) (T.Source.remaining tree.new) }
+    ensures limit { Takes (MAX_TREE_BYTES + 1) (T.Source.remaining tree.old) (T.Source.remaining tree.new) }
 {
     let text = read_up_to(alloc, tree, MAX_TREE_BYTES + 1)?;
     Plan::read(alloc, &text)
@@ -58,7 +58,7 @@ pub fn check_tree<T: Source, W: Sink>(
     ensures fault { IfErr result (λ fault. (fault ≡ Write) ⊎ ExplainsTree (T.Source.remaining tree.old) fault) }
     ensures read_failures { T.Source.failures tree.new ≡ read_failures result (T.Source.failures tree.old) }
     ensures write_failures { W.Sink.failures writer.new ≡ write_failures result (W.Sink.failures writer.old) }
-    ensures limit { Takes (most_tree_bytes + 1) (T.Source.remaining tree.old) (T.Source.remaining tree.new) }
+    ensures limit { Takes (MAX_TREE_BYTES + 1) (T.Source.remaining tree.old) (T.Source.remaining tree.new) }
 {
     let text = read_plan(alloc, tree)?.write(alloc)?;
     write_all(writer, &text)
@@ -83,8 +83,8 @@ pub fn script_over<T: Source, S: Source, W: Sink>(
         ≡ read_failures result (T.Source.failures tree.old + S.Source.failures script.old) }
     ensures write_failures { W.Sink.failures writer.new ≡ write_failures result (W.Sink.failures writer.old) }
     // At most one byte past its limit is read from each source.
-    ensures tree_limit { Takes (most_tree_bytes + 1) (T.Source.remaining tree.old) (T.Source.remaining tree.new) }
-    ensures script_limit { Takes (most_script_bytes + 1) (S.Source.remaining script.old) (S.Source.remaining script.new) }
+    ensures tree_limit { Takes (MAX_TREE_BYTES + 1) (T.Source.remaining tree.old) (T.Source.remaining tree.new) }
+    ensures script_limit { Takes (MAX_SCRIPT_BYTES + 1) (S.Source.remaining script.old) (S.Source.remaining script.new) }
     // The script is unchanged, unless the tree was read.
     ensures script_unread { (script.new ≡ script.old) ⊎ WasTreeRead (T.Source.remaining tree.old) (T.Source.failures tree.old) (T.Source.failures tree.new) }
 {
@@ -114,8 +114,8 @@ pub fn script_with_visits<T: Source, S: Source, W: Sink, V: Sink>(
     ensures write_failures { ((W.Sink.failures writer.new ≡ write_failures result (W.Sink.failures writer.old)) × (V.Sink.failures visits.new ≡ V.Sink.failures visits.old))
         ⊎ ((W.Sink.failures writer.new ≡ W.Sink.failures writer.old) × (V.Sink.failures visits.new ≡ write_failures result (V.Sink.failures visits.old))) }
     // At most one byte past its limit is read from each source.
-    ensures tree_limit { Takes (most_tree_bytes + 1) (T.Source.remaining tree.old) (T.Source.remaining tree.new) }
-    ensures script_limit { Takes (most_script_bytes + 1) (S.Source.remaining script.old) (S.Source.remaining script.new) }
+    ensures tree_limit { Takes (MAX_TREE_BYTES + 1) (T.Source.remaining tree.old) (T.Source.remaining tree.new) }
+    ensures script_limit { Takes (MAX_SCRIPT_BYTES + 1) (S.Source.remaining script.old) (S.Source.remaining script.new) }
     // The script is unchanged, unless the tree was read.
     ensures script_unread { (script.new ≡ script.old) ⊎ WasTreeRead (T.Source.remaining tree.old) (T.Source.failures tree.old) (T.Source.failures tree.new) }
 {
@@ -139,8 +139,8 @@ pub fn script_logged<T: Source, S: Source, W: Sink>(
         ≡ read_failures result (T.Source.failures tree.old + S.Source.failures script.old) }
     ensures write_failures { W.Sink.failures writer.new ≡ write_failures result (W.Sink.failures writer.old) }
     // At most one byte past its limit is read from each source.
-    ensures tree_limit { Takes (most_tree_bytes + 1) (T.Source.remaining tree.old) (T.Source.remaining tree.new) }
-    ensures script_limit { Takes (most_script_bytes + 1) (S.Source.remaining script.old) (S.Source.remaining script.new) }
+    ensures tree_limit { Takes (MAX_TREE_BYTES + 1) (T.Source.remaining tree.old) (T.Source.remaining tree.new) }
+    ensures script_limit { Takes (MAX_SCRIPT_BYTES + 1) (S.Source.remaining script.old) (S.Source.remaining script.new) }
     // The script is unchanged, unless the tree was read.
     ensures script_unread { (script.new ≡ script.old) ⊎ WasTreeRead (T.Source.remaining tree.old) (T.Source.failures tree.old) (T.Source.failures tree.new) }
 {
@@ -170,8 +170,8 @@ pub fn run_over<H: Threads + Wait, P: Wait + Sync, T: Source, S: Source, W: Sink
         ≡ read_failures result (T.Source.failures tree.old + S.Source.failures trace.old) }
     ensures write_failures { W.Sink.failures writer.new ≡ write_failures result (W.Sink.failures writer.old) }
     // At most one byte past its limit is read from each source.
-    ensures tree_limit { Takes (most_tree_bytes + 1) (T.Source.remaining tree.old) (T.Source.remaining tree.new) }
-    ensures trace_limit { Takes (most_trace_bytes + 1) (S.Source.remaining trace.old) (S.Source.remaining trace.new) }
+    ensures tree_limit { Takes (MAX_TREE_BYTES + 1) (T.Source.remaining tree.old) (T.Source.remaining tree.new) }
+    ensures trace_limit { Takes (MAX_TRACE_BYTES + 1) (S.Source.remaining trace.old) (S.Source.remaining trace.new) }
     // The trace is unchanged, unless the tree was read.
     ensures trace_unread { (trace.new ≡ trace.old) ⊎ WasTreeRead (T.Source.remaining tree.old) (T.Source.failures tree.old) (T.Source.failures tree.new) }
 {
@@ -205,8 +205,8 @@ pub fn run_with_visits<H: Threads + Wait, P: Wait + Sync, T: Source, S: Source, 
     ensures write_failures { ((W.Sink.failures writer.new ≡ write_failures result (W.Sink.failures writer.old)) × (V.Sink.failures visits.new ≡ V.Sink.failures visits.old))
         ⊎ ((W.Sink.failures writer.new ≡ W.Sink.failures writer.old) × (V.Sink.failures visits.new ≡ write_failures result (V.Sink.failures visits.old))) }
     // At most one byte past its limit is read from each source.
-    ensures tree_limit { Takes (most_tree_bytes + 1) (T.Source.remaining tree.old) (T.Source.remaining tree.new) }
-    ensures trace_limit { Takes (most_trace_bytes + 1) (S.Source.remaining trace.old) (S.Source.remaining trace.new) }
+    ensures tree_limit { Takes (MAX_TREE_BYTES + 1) (T.Source.remaining tree.old) (T.Source.remaining tree.new) }
+    ensures trace_limit { Takes (MAX_TRACE_BYTES + 1) (S.Source.remaining trace.old) (S.Source.remaining trace.new) }
     // The trace is unchanged, unless the tree was read.
     ensures trace_unread { (trace.new ≡ trace.old) ⊎ WasTreeRead (T.Source.remaining tree.old) (T.Source.failures tree.old) (T.Source.failures tree.new) }
 {
@@ -233,8 +233,8 @@ pub fn run_logged<H: Threads + Wait, P: Wait + Sync, T: Source, S: Source, W: Si
         ≡ read_failures result (T.Source.failures tree.old + S.Source.failures trace.old) }
     ensures write_failures { W.Sink.failures writer.new ≡ write_failures result (W.Sink.failures writer.old) }
     // At most one byte past its limit is read from each source.
-    ensures tree_limit { Takes (most_tree_bytes + 1) (T.Source.remaining tree.old) (T.Source.remaining tree.new) }
-    ensures trace_limit { Takes (most_trace_bytes + 1) (S.Source.remaining trace.old) (S.Source.remaining trace.new) }
+    ensures tree_limit { Takes (MAX_TREE_BYTES + 1) (T.Source.remaining tree.old) (T.Source.remaining tree.new) }
+    ensures trace_limit { Takes (MAX_TRACE_BYTES + 1) (S.Source.remaining trace.old) (S.Source.remaining trace.new) }
     // The trace is unchanged, unless the tree was read.
     ensures trace_unread { (trace.new ≡ trace.old) ⊎ WasTreeRead (T.Source.remaining tree.old) (T.Source.failures tree.old) (T.Source.failures tree.new) }
 {
@@ -271,8 +271,8 @@ pub fn live_over<H: Threads + Wait, P: Wait + Sync, T: Source, S: Source, W: Sin
         ⊎ (W.Sink.failures writer.new ≡ write_failures result (W.Sink.failures writer.old)) }
     ensures record_failures { IfOk result (λ answer. R.Sink.failures answer ≡ R.Sink.failures sink) }
     // At most one byte past its limit is read from each source.
-    ensures tree_limit { Takes (most_tree_bytes + 1) (T.Source.remaining tree.old) (T.Source.remaining tree.new) }
-    ensures trace_limit { Takes (most_trace_bytes + 1) (S.Source.remaining trace.old) (S.Source.remaining trace.new) }
+    ensures tree_limit { Takes (MAX_TREE_BYTES + 1) (T.Source.remaining tree.old) (T.Source.remaining tree.new) }
+    ensures trace_limit { Takes (MAX_TRACE_BYTES + 1) (S.Source.remaining trace.old) (S.Source.remaining trace.new) }
     // The trace is unchanged, unless the tree was read.
     ensures trace_unread { (trace.new ≡ trace.old) ⊎ WasTreeRead (T.Source.remaining tree.old) (T.Source.failures tree.old) (T.Source.failures tree.new) }
 {
@@ -325,8 +325,8 @@ pub fn live_with_visits<
     ensures write_failed { (W.Sink.failures writer.new ≡ W.Sink.failures writer.old)
         ⊎ (W.Sink.failures writer.new ≡ write_failures result (W.Sink.failures writer.old)) }
     // At most one byte past its limit is read from each source.
-    ensures tree_limit { Takes (most_tree_bytes + 1) (T.Source.remaining tree.old) (T.Source.remaining tree.new) }
-    ensures trace_limit { Takes (most_trace_bytes + 1) (S.Source.remaining trace.old) (S.Source.remaining trace.new) }
+    ensures tree_limit { Takes (MAX_TREE_BYTES + 1) (T.Source.remaining tree.old) (T.Source.remaining tree.new) }
+    ensures trace_limit { Takes (MAX_TRACE_BYTES + 1) (S.Source.remaining trace.old) (S.Source.remaining trace.new) }
     // The trace is unchanged, unless the tree was read.
     ensures trace_unread { (trace.new ≡ trace.old) ⊎ WasTreeRead (T.Source.remaining tree.old) (T.Source.failures tree.old) (T.Source.failures tree.new) }
 {
@@ -357,8 +357,8 @@ pub fn live_replayed<H: Threads + Wait, P: Wait + Sync, T: Source, S: Source>(
     ensures read_failures { T.Source.failures tree.new + S.Source.failures trace.new
         ≡ read_failures result (T.Source.failures tree.old + S.Source.failures trace.old) }
     // At most one byte past its limit is read from each source.
-    ensures tree_limit { Takes (most_tree_bytes + 1) (T.Source.remaining tree.old) (T.Source.remaining tree.new) }
-    ensures trace_limit { Takes (most_trace_bytes + 1) (S.Source.remaining trace.old) (S.Source.remaining trace.new) }
+    ensures tree_limit { Takes (MAX_TREE_BYTES + 1) (T.Source.remaining tree.old) (T.Source.remaining tree.new) }
+    ensures trace_limit { Takes (MAX_TRACE_BYTES + 1) (S.Source.remaining trace.old) (S.Source.remaining trace.new) }
     // The trace is unchanged, unless the tree was read.
     ensures trace_unread { (trace.new ≡ trace.old) ⊎ WasTreeRead (T.Source.remaining tree.old) (T.Source.failures tree.old) (T.Source.failures tree.new) }
 {

@@ -2,7 +2,7 @@
 
 ghost use Rattle.std.specs.Prelude.{◌≡◌, ◌+◌, true, map, IfOk, IfErr};
 ghost use Rattle.clk_packet.specs.Bytes.{Takes, read_failures, write_failures};
-ghost use Rattle.clk_packet.specs.Trace.{most_trace_bytes};
+ghost use Rattle.clk_packet.specs.declared.limits.TheConstants.{MAX_TRACE_BYTES};
 ghost use Rattle.clk_sched.specs.Packed.{logged};
 ghost use Rattle.clk_packet.specs.Written.{WroteWhat};
 ghost use Rattle.clk_command.specs.Running.{ExplainsRun, RunWrites};
@@ -50,7 +50,7 @@ pub fn run_trace<H: Threads + Wait, P: Wait + Sync, R: Source, W: Sink>(
     ensures write_failures { W.Sink.failures writer.new ≡ write_failures result (W.Sink.failures writer.old) }
 
     // At most one byte past the limit is read.
-    ensures limit { Takes (most_trace_bytes + 1) (R.Source.remaining trace.old) (R.Source.remaining trace.new) }
+    ensures limit { Takes (MAX_TRACE_BYTES + 1) (R.Source.remaining trace.old) (R.Source.remaining trace.new) }
 {
     let traces = Traces::read_csv(alloc, trace)?;
     // Once the text of the trace is freed, so that the system has its memory back.

@@ -6,7 +6,7 @@ ghost use Rattle.clk_packet.specs.declared.fault.Fault.TheVariants.{Memory};
 ghost use Rattle.clk_sched.specs.Closing.{left_in};
 ghost use Rattle.clk_sched.specs.Drain.{drain_start};
 ghost use Rattle.clk_sched.specs.Keeps.{keeps_visits};
-ghost use Rattle.clk_sched.specs.Limits.{most_left, end_of_drains};
+ghost use Rattle.clk_sched.specs.declared.limits.TheConstants.{MAX_LEFT, END_OF_DRAINS};
 ghost use Rattle.clk_sched.specs.Session.{progress_of};
 ghost use Rattle.clk_drain.specs.Line.{AreLinesOf, HaveOwnSenders};
 ghost use Rattle.clk_drain.specs.Closing.{accepted_over, evicted_over, left_over, seated, AreInOrder, tallies_in, IsDrainedOver, IsFaultOfDrain};
@@ -43,8 +43,8 @@ pub fn close_and_drain<W: Wait>(
 ) -> Result<Drained, Fault>
     requires lines { AreLinesOf (progress_of session) lines.items }
     requires senders { HaveOwnSenders lines.items }
-    requires few { accepted_over lines.items ≤ most_left }
-    requires moment { drain_start session moment < end_of_drains }
+    requires few { accepted_over lines.items ≤ MAX_LEFT }
+    requires moment { drain_start session moment < END_OF_DRAINS }
     ensures drained { keeps_visits session.keeps ≡ true → session.gone ≡ 0 → IfOk result (IsDrainedOver (progress_of session) lines.items moment) }
     ensures fault { IfErr result (IsFaultOfDrain lines.items) }
 {
@@ -66,8 +66,8 @@ pub(crate) fn close<W: Wait>(
 ) -> Result<Drained<PackedLog>, Fault>
     requires lines { AreLinesOf (progress_of session) lines.items }
     requires senders { HaveOwnSenders lines.items }
-    requires few { accepted_over lines.items ≤ most_left }
-    requires moment { drain_start session moment < end_of_drains }
+    requires few { accepted_over lines.items ≤ MAX_LEFT }
+    requires moment { drain_start session moment < END_OF_DRAINS }
     ensures drained { session.gone ≡ 0 → IfOk result (IsDrainedAs (progress_of session) session.keeps lines.items moment) }
     ensures reached { OnOk result (AllByRecursion HasReached (map seated lines.items)) }
     ensures fault { IfErr result (IsFaultOfDrain lines.items) }
@@ -115,9 +115,9 @@ fn drain<W: Wait>(
 ) -> Result<(Session, Vec<Line>), Fault>
     requires lines { AreLinesOf (progress_of session) lines.items }
     requires gathered { AllByRecursion IsGathered lines.items }
-    requires few { left ≤ most_left }
+    requires few { left ≤ MAX_LEFT }
     requires left { left ≡ left_in session.tree session.log (held_at lines.items) }
-    requires moment { drain_start session moment < end_of_drains }
+    requires moment { drain_start session moment < END_OF_DRAINS }
     ensures drained { IfOk result (λ drained. IsDrainOf (progress_of session) lines.items moment left (progress_of drained.0) drained.1.items) }
     ensures keeps { IfOk result (λ drained. drained.0.keeps ≡ session.keeps) }
     ensures gone { IfOk result (λ drained. drained.0.gone ≡ session.gone) }
@@ -134,7 +134,7 @@ fn drain<W: Wait>(
 fn left(session: &Session, lines: &[Line]) -> u64
     requires lines { AreLinesOf (progress_of session.now) lines.now }
     requires gathered { AllByRecursion IsGathered lines.now }
-    requires few { accepted_over lines.now ≤ most_left }
+    requires few { accepted_over lines.now ≤ MAX_LEFT }
     ensures over { result ≡ left_over (progress_of session.now) lines.now }
     ensures held { result ≡ left_in session.now.tree session.now.log (held_at lines.now) }
 {
@@ -147,7 +147,7 @@ fn left(session: &Session, lines: &[Line]) -> u64
 
 // How many packets the queues accepted.
 fn accepted(lines: &[Line]) -> u64
-    requires few { accepted_over lines.now ≤ most_left }
+    requires few { accepted_over lines.now ≤ MAX_LEFT }
     ensures { result ≡ accepted_over lines.now }
 {
     let mut accepted = 0;
@@ -159,7 +159,7 @@ fn accepted(lines: &[Line]) -> u64
 
 // How many packets the queues evicted.
 fn evicted(lines: &[Line]) -> u64
-    requires few { evicted_over lines.now ≤ most_left }
+    requires few { evicted_over lines.now ≤ MAX_LEFT }
     ensures { result ≡ evicted_over lines.now }
 {
     let mut evicted = 0;

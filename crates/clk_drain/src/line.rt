@@ -44,7 +44,7 @@ impl Line {
     ghost use Rattle.std.specs.Prelude.{◌≡◌, ◌≤◌, List, None, IfOk, IfErr};
     ghost use Rattle.clk_packet.specs.declared.packet.Packet.{Packet};
     ghost use Rattle.clk_ruled.specs.Settle.{IsSettled, IsFaultOfSettle, AreTogether, accepted_count, evicted_count};
-    ghost use Rattle.clk_sched.specs.Limits.{most_left};
+    ghost use Rattle.clk_sched.specs.declared.limits.TheConstants.{MAX_LEFT};
     ghost use Rattle.clk_drain.specs.Line.{pulling, packets_of, seats_of};
     ghost use Rattle.clk_drain.specs.Parts.{HasGathered, IsWithin, HasAllTaken};
     ghost use Rattle.clk_drain.specs.inside.Parts.{IsGatheredFrom};
@@ -72,7 +72,7 @@ impl Line {
 
     // How many packets the queue accepted.
     pub(crate) fn accepted(&self) -> u64
-        requires few { accepted_count (seats_of self.now) ≤ most_left }
+        requires few { accepted_count (seats_of self.now) ≤ MAX_LEFT }
         ensures { result ≡ accepted_count (seats_of self.now) }
     {
         let mut accepted = 0;
@@ -84,7 +84,7 @@ impl Line {
 
     // How many packets the queue evicted.
     pub(crate) fn evicted(&self) -> u64
-        requires few { evicted_count (seats_of self.now) ≤ most_left }
+        requires few { evicted_count (seats_of self.now) ≤ MAX_LEFT }
         ensures { result ≡ evicted_count (seats_of self.now) }
     {
         let mut evicted = 0;

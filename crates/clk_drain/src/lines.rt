@@ -35,7 +35,7 @@ impl<'a, W: Wait> Model for Lines<'a, W> {
 
 impl<'a, W: Wait> Lines<'a, W> {
     ghost use Rattle.std.specs.Prelude.{◌≡◌, ◌<◌, IfOk, OnErr, IsOkUnless};
-    ghost use Rattle.clk_sched.specs.Limits.{end_of_moments};
+    ghost use Rattle.clk_sched.specs.declared.limits.TheConstants.{END_OF_MOMENTS};
     ghost use Rattle.clk_sched.specs.Session.{IsPulledOnce, progress_of};
     ghost use Rattle.clk_packet.specs.Lists.{AreRising};
     ghost use Rattle.clk_drain.specs.Line.{AreStill, AreLinesOf, leaves_of};
@@ -61,7 +61,7 @@ impl<'a, W: Wait> Lines<'a, W> {
     ///
     /// Fault 1 if an allocation fails, or if 2^63 pulls were made before. Then nothing has changed, and nothing was asked.
     pub fn pull(&mut self, session: &mut Session, moment: u64) -> Result<Option<Packet>, Fault>
-        requires moment { moment < end_of_moments }
+        requires moment { moment < END_OF_MOMENTS }
         requires lines { AreLinesOf (progress_of session.old) self.old }
         ensures pulled { IfOk result (IsPulledOnce (progress_of session.old) (progress_of session.new) moment) }
         ensures keeps { session.new.keeps ≡ session.old.keeps }

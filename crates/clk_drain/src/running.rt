@@ -13,7 +13,7 @@ mod threads;
 
 ghost use Rattle.std.specs.Prelude.{◌≡◌, ◌≤◌, ◌<◌, true, false, [], IfOk, IfErr};
 ghost use Rattle.clk_sched.specs.Keeps.{keeps_visits};
-ghost use Rattle.clk_gate.specs.Limits.{most_step, most_limit};
+ghost use Rattle.clk_gate.specs.declared.limits.TheConstants.{MAX_STEP, MAX_LIMIT};
 ghost use Rattle.clk_gate.specs.Known.{senders_in, AreKnown};
 ghost use Rattle.clk_drain.specs.Run.{IsRunOutcome, IsKeptRun, IsFaultOfRun};
 
@@ -57,8 +57,8 @@ pub fn run<R: Threads + Wait, W: Wait + Sync, G: Gate + Sync>(
     limit: u32,
     gate: &G,
 ) -> Result<Outcome, Fault>
-    requires step { (1 ≤ step) × (step ≤ most_step) }
-    requires limit { (1 ≤ limit) × (limit ≤ most_limit) }
+    requires step { (1 ≤ step) × (step ≤ MAX_STEP) }
+    requires limit { (1 ≤ limit) × (limit ≤ MAX_LIMIT) }
     ensures outcome { IfOk result (IsRunOutcome plan.now traces.now step limit) }
     ensures known { IfOk result (λ _. AreKnown (senders_in plan.now) traces.now) }
     ensures fault { IfErr result (IsFaultOfRun plan.now traces.now) }
@@ -86,8 +86,8 @@ pub fn run_with<R: Threads + Wait, W: Wait + Sync, G: Gate + Sync>(
     gate: &G,
     keeps: Keeps,
 ) -> Result<Outcome<PackedLog>, Fault>
-    requires step { (1 ≤ step) × (step ≤ most_step) }
-    requires limit { (1 ≤ limit) × (limit ≤ most_limit) }
+    requires step { (1 ≤ step) × (step ≤ MAX_STEP) }
+    requires limit { (1 ≤ limit) × (limit ≤ MAX_LIMIT) }
     ensures outcome { IfOk result (IsKeptRun keeps plan.now traces.now step limit) }
     ensures none { keeps_visits keeps ≡ false → IfOk result (λ outcome. outcome.logs.items ≡ []) }
     ensures known { IfOk result (λ _. AreKnown (senders_in plan.now) traces.now) }
@@ -113,8 +113,8 @@ fn run_keeping<R: Threads + Wait, W: Wait + Sync, G: Gate + Sync>(
     gate: &G,
     keeps: Keeps,
 ) -> Result<Outcome<PackedLog>, Fault>
-    requires step { (1 ≤ step) × (step ≤ most_step) }
-    requires limit { (1 ≤ limit) × (limit ≤ most_limit) }
+    requires step { (1 ≤ step) × (step ≤ MAX_STEP) }
+    requires limit { (1 ≤ limit) × (limit ≤ MAX_LIMIT) }
     ensures outcome { IfOk result (IsKeptRun keeps plan.now traces.now step limit) }
     ensures known { IfOk result (λ _. AreKnown (senders_in plan.now) traces.now) }
     ensures fault { IfErr result (IsFaultOfRun plan.now traces.now) }

@@ -3,7 +3,7 @@ use Rattle.std.proofs.Common.{◌≡◌, ℕ, Bool, true, false, List, [], ◌�
 use Rattle.std.proofs.lemmas.List.{append-nil}
 use Rattle.clk_packet.specs.declared.fault.Fault.{Fault}
 use Rattle.clk_packet.specs.declared.fault.Fault.TheVariants.{TooLarge}
-use Rattle.clk_packet.specs.Limits.{most_inputs, most_levels}
+use Rattle.clk_packet.specs.declared.limits.TheConstants.{MAX_INPUTS, MAX_LEVELS}
 use Rattle.clk_packet.specs.Scheduler.{Scheduler}
 use Rattle.clk_sched.specs.Tree.{Tree, queue, scheduler, root, leaves, height}
 use Rattle.clk_sched.specs.Built.{built, row}
@@ -21,5 +21,5 @@ one-built false false tree made e = cc
 pub leaves-built : (class : Scheduler) (trees : List Tree) (numbers : List ℕ) (tree : Tree) → Ok tree ≡ built class trees → trees ≡ map queue numbers → leaves (root tree) ≡ numbers
 unfolding built
 leaves-built class trees numbers tree made are =
-    ap (λ t. leaves (root t)) (one-built (nat_lt most_inputs (length trees)) (nat_lt most_levels (suc (height (row trees)))) tree (scheduler class (row trees)) made)
+    ap (λ t. leaves (root t)) (one-built (nat_lt MAX_INPUTS (length trees)) (nat_lt MAX_LEVELS (suc (height (row trees)))) tree (scheduler class (row trees)) made)
     ∙ append-nil (leaves (row trees)) ∙ ap (λ ts. leaves (row ts)) are ∙ leaves-of-queues numbers

@@ -1,7 +1,7 @@
 //! Runs of plans with several devices.
 
 ghost use Rattle.std.specs.Prelude.{◌≤◌};
-ghost use Rattle.clk_gate.specs.Limits.{most_limit};
+ghost use Rattle.clk_gate.specs.declared.limits.TheConstants.{MAX_LIMIT};
 
 use crate::gates::{Calls, DevicesMeet};
 use crate::running::{
@@ -135,7 +135,7 @@ fn assert_rounds<R: Threads + Wait + Abort + Sync>(
     alloc: Global,
     limit: u32,
 ) -> Result<(), Fault>
-    requires limit { (1 ≤ limit) × (limit ≤ most_limit) }
+    requires limit { (1 ≤ limit) × (limit ≤ MAX_LIMIT) }
 {
     let plan = Plan::read(alloc, many_devices(alloc)?.as_bytes())?;
     let traces = traces(alloc, many_records(alloc)?)?;

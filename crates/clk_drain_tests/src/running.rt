@@ -1,7 +1,7 @@
 //! Runs of plans over traces, on threads.
 
 ghost use Rattle.std.specs.Prelude.{◌≤◌};
-ghost use Rattle.clk_gate.specs.Limits.{most_limit};
+ghost use Rattle.clk_gate.specs.declared.limits.TheConstants.{MAX_LIMIT};
 
 use crate::gates::{AllMeet, Calls, Counted, HeldForTwoPulls, InTurns};
 use clk_drain::{Free, Gate, Outcome, run, run_with};
@@ -69,7 +69,7 @@ pub fn run_text<R: Threads + Wait + Sync, G: Gate + Sync>(
     limit: u32,
     gate: &G,
 ) -> Result<Outcome, Fault>
-    requires limit { (1 ≤ limit) × (limit ≤ most_limit) }
+    requires limit { (1 ≤ limit) × (limit ≤ MAX_LIMIT) }
 {
     let plan = Plan::read(alloc, text.as_bytes())?;
     run(rt, alloc, rt, &plan, traces, 1, limit, gate)

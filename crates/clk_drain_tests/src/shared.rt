@@ -2,11 +2,11 @@
 
 ghost use Rattle.std.specs.Prelude.{◌≡◌, ◌≤◌, [], true, map, IfOk};
 ghost use Rattle.std.specs.List.{AllByRecursion};
-ghost use Rattle.clk_packet.specs.Limits.{most_capacity};
+ghost use Rattle.clk_packet.specs.declared.limits.TheConstants.{MAX_CAPACITY};
 ghost use Rattle.clk_packet.specs.Lists.{are_distinct, AreRising};
 ghost use Rattle.clk_ruled.specs.Rooms.{named_in, rooms_in_all};
 ghost use Rattle.clk_ruled.specs.Settle.{AreOpenedTogether, closing};
-ghost use Rattle.clk_sched.specs.Limits.{most_left};
+ghost use Rattle.clk_sched.specs.declared.limits.TheConstants.{MAX_LEFT};
 ghost use Rattle.clk_sched.specs.Tree.{root, leaves, leaves_distinct, queue};
 ghost use Rattle.clk_drain.specs.Line.{leaves_of, seats_in, senders_at};
 ghost use Rattle.clk_drain.specs.Closing.{accepted_over};
@@ -73,9 +73,9 @@ pub fn line<R: Abort + Wait>(
     senders: &[(u16, u32)],
     offers: &[(usize, u16)],
 ) -> Result<Line, Fault>
-    requires capacity { (1 ≤ capacity) × (capacity ≤ most_capacity) }
+    requires capacity { (1 ≤ capacity) × (capacity ≤ MAX_CAPACITY) }
     requires rising { AreRising (named_in senders.now) }
-    requires room { rooms_in_all senders.now ≤ most_capacity }
+    requires room { rooms_in_all senders.now ≤ MAX_CAPACITY }
     ensures leaf { IfOk result (λ line. line.leaf ≡ leaf) }
     ensures fresh { IfOk result (λ line. line.tap.taken ≡ []) }
 {
@@ -114,7 +114,7 @@ fn assert_apart(rt: &impl Abort, senders: &[u16])
 // The senders of all seats. Fails unless their queues accepted few enough packets.
 fn senders(rt: &impl Abort, alloc: Global, lines: &[Line]) -> Result<Vec<u16>, Fault>
     ensures senders { IfOk result (λ senders. senders.items ≡ senders_at (seats_in lines.now)) }
-    ensures few { IfOk result (λ _. accepted_over lines.now ≤ most_left) }
+    ensures few { IfOk result (λ _. accepted_over lines.now ≤ MAX_LEFT) }
 {
     let mut senders = Vec::new(alloc);
     let mut spare = MOST_LEFT;

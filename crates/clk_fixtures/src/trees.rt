@@ -1,7 +1,7 @@
 //! The trees of the rows.
 
 ghost use Rattle.std.specs.Prelude.{◌≤◌};
-ghost use Rattle.clk_packet.specs.Limits.{most_quantum, most_tickets};
+ghost use Rattle.clk_packet.specs.declared.limits.TheConstants.{MAX_QUANTUM, MAX_TICKETS};
 
 use clk_packet::Fault;
 use clk_sched::Tree;
@@ -19,14 +19,14 @@ pub fn round_robin_over_three(alloc: Global) -> Result<Tree, Fault> {
 
 /// A DRRSched over queue 0, with this quantum.
 pub fn drr_over_one(alloc: Global, quantum: u32) -> Result<Tree, Fault>
-    requires { (1 ≤ quantum) × (quantum ≤ most_quantum) }
+    requires { (1 ≤ quantum) × (quantum ≤ MAX_QUANTUM) }
 {
     drr_over(alloc, quantum, Tree::leaf(0))
 }
 
 /// So many DRRScheds of one quantum, one over another, over queue 0.
 pub fn drr_path(alloc: Global, count: u8, quantum: u32) -> Result<Tree, Fault>
-    requires { (1 ≤ quantum) × (quantum ≤ most_quantum) }
+    requires { (1 ≤ quantum) × (quantum ≤ MAX_QUANTUM) }
 {
     let mut tree = Tree::leaf(0);
     for _ in 0..count {
@@ -37,7 +37,7 @@ pub fn drr_path(alloc: Global, count: u8, quantum: u32) -> Result<Tree, Fault>
 
 /// So many DRRScheds of one quantum, one over another, over queue 0, under a Shaper of one packet each tick.
 pub fn shaped_drr_path(alloc: Global, count: u8, quantum: u32) -> Result<Tree, Fault>
-    requires { (1 ≤ quantum) × (quantum ≤ most_quantum) }
+    requires { (1 ≤ quantum) × (quantum ≤ MAX_QUANTUM) }
 {
     Tree::shaper(alloc, 1, 1, drr_path(alloc, count, quantum)?)
 }
@@ -53,15 +53,15 @@ pub fn drr_over_prio(alloc: Global) -> Result<Tree, Fault> {
 }
 
 fn drr_over(alloc: Global, quantum: u32, child: Tree) -> Result<Tree, Fault>
-    requires { (1 ≤ quantum) × (quantum ≤ most_quantum) }
+    requires { (1 ≤ quantum) × (quantum ≤ MAX_QUANTUM) }
 {
     Tree::drr(vec![in alloc; quantum]?, vec![in alloc; child]?)
 }
 
 /// A DRRSched over queues 0 and 1, with these quanta.
 pub fn drr_over_two(alloc: Global, first: u32, second: u32) -> Result<Tree, Fault>
-    requires first { (1 ≤ first) × (first ≤ most_quantum) }
-    requires second { (1 ≤ second) × (second ≤ most_quantum) }
+    requires first { (1 ≤ first) × (first ≤ MAX_QUANTUM) }
+    requires second { (1 ≤ second) × (second ≤ MAX_QUANTUM) }
 {
     Tree::drr(
         vec![in alloc; first, second]?,
@@ -71,8 +71,8 @@ pub fn drr_over_two(alloc: Global, first: u32, second: u32) -> Result<Tree, Faul
 
 /// A StrideSched over queues 0 and 1, with these tickets.
 pub fn stride_over_two(alloc: Global, first: u32, second: u32) -> Result<Tree, Fault>
-    requires first { (1 ≤ first) × (first ≤ most_tickets) }
-    requires second { (1 ≤ second) × (second ≤ most_tickets) }
+    requires first { (1 ≤ first) × (first ≤ MAX_TICKETS) }
+    requires second { (1 ≤ second) × (second ≤ MAX_TICKETS) }
 {
     Tree::stride(
         vec![in alloc; first, second]?,

@@ -3,7 +3,7 @@ use Rattle.std.specs.Prelude.{◌≡◌, ℕ, ◌<◌, false, true, List, length
 use Rattle.clk_packet.specs.declared.packet.Packet.{Packet}
 use Rattle.clk_packet.specs.declared.fault.Fault.{Fault}
 use Rattle.clk_packet.specs.declared.fault.Fault.TheVariants.{UnknownSender}
-use Rattle.clk_packet.specs.Limits.{most_sender}
+use Rattle.clk_packet.specs.declared.limits.TheConstants.{MAX_SENDER}
 use Rattle.clk_packet.specs.Trace.{sent_by}
 use Rattle.clk_packet.specs.Lists.{stands_in}
 use Rattle.clk_tree.specs.Plan.{Planned}
@@ -19,7 +19,7 @@ AreKnownBelow senders traces n = (s : ℕ) → s < n → 0 < length (sent_by tra
 
 -- Each sender that sends something is one of `senders`.
 abbrev pub AreKnown : List ℕ → List (List Packet) → Type 0
-AreKnown senders traces = AreKnownBelow senders traces (suc most_sender)
+AreKnown senders traces = AreKnownBelow senders traces (suc MAX_SENDER)
 
 -- `s` is the least sender that sends something and is none of `senders`.
 pub record IsFirstUnknown (senders : List ℕ) (traces : List (List Packet)) (s : ℕ) : Type 0 where

@@ -1,4 +1,3 @@
 -- The limits of a run, what its senders send, and whether the plan has them.
-pub mod Limits
 pub mod Sent
 pub mod Known

@@ -4,7 +4,7 @@ use Rattle.std.proofs.lemmas.List.{length-append, length-take}
 use Rattle.std.proofs.lemmas.List.Elements.{All-from_recursion}
 use Rattle.std.proofs.lemmas.List.Folds.{list_any-append}
 use Rattle.rtrb.specs.Fifo.{EachAllowed}
-use Rattle.clk_inlet.specs.Limits.{most_packets}
+use Rattle.clk_inlet.specs.declared.limits.TheConstants.{MAX_PACKETS}
 use Rattle.clk_inlet.specs.Items.{MayFollow, IsShort, AreShort, has_end, is_end, packets}
 use Rattle.clk_inlet.specs.declared.item.Item.{Item}
 use Rattle.clk_inlet.proofs.Taking.{more}
@@ -19,7 +19,7 @@ grown : (before xs : List Item) → has_end before ≡ false → has_end xs ≡ 
 grown before xs b x = ap length (more before xs b x) ∙ length-append (packets before) xs
 
 -- packets that keep below the limit may follow, one after the other
-pub each_may_follow : (before xs : List Item) → has_end before ≡ false → has_end xs ≡ false → AreShort xs → length (packets before) + length xs ≤ most_packets → EachAllowed MayFollow before xs
+pub each_may_follow : (before xs : List Item) → has_end before ≡ false → has_end xs ≡ false → AreShort xs → length (packets before) + length xs ≤ MAX_PACKETS → EachAllowed MayFollow before xs
 each_may_follow before xs b x short room = λ i d near. record {
   not_ended = both before (take i xs) b (front xs i x);
   short = All-from_recursion IsShort xs short i d near;

@@ -1,7 +1,7 @@
 -- What contracts see of the two halves of an inlet's ring.
 use Rattle.std.specs.Prelude.{◌≡◌, ℕ, ◌==◌, ◌||◌, ◌⊎◌, Bool, false, List, length, slice_get, IfSome}
 use Rattle.rtrb.specs.Ring.{sent, received, known_items, IsPair}
-use Rattle.clk_inlet.specs.Limits.{most_packets}
+use Rattle.clk_inlet.specs.declared.limits.TheConstants.{MAX_PACKETS}
 use Rattle.clk_inlet.specs.Items.{packets, is_packet, has_end}
 use Rattle.clk_inlet.specs.declared.item.Item.{Item}
 use Rattle.clk_inlet.specs.declared.inlet.Inlet.{Inlet}
@@ -25,7 +25,7 @@ fits i = i.free
 
 -- no more packets go in: the end was pushed, or as many packets as an inlet takes in all
 abbrev pub at_end : Inlet → Bool
-at_end i = has_end (pushed i) || (next_number i == most_packets)
+at_end i = has_end (pushed i) || (next_number i == MAX_PACKETS)
 
 -- A batch stops after its first `count` items: no item is left, the next one is no packet, or no packet is sure to fit any more.
 abbrev pub StopsAt : (count : ℕ) → List Item → Inlet → Type 0

@@ -2,7 +2,7 @@
 use Rattle.std.specs.Prelude.{◌≡◌, ◌<◌, ◌≤◌, ◌==◌, ◌&&◌, nat_lt, nat_le, ℕ, Bool, false, not, List, [], ◌++◌, filter, length}
 use Rattle.std.specs.List.{list_any, AllByRecursion}
 use Rattle.rtrb.specs.Fifo.{Allowed}
-use Rattle.clk_inlet.specs.Limits.{most_packets, most_bytes}
+use Rattle.clk_inlet.specs.declared.limits.TheConstants.{MAX_PACKETS, MAX_LENGTH}
 use Rattle.clk_inlet.specs.declared.item.Item.{Item}
 
 -- a packet of this many bytes, with the caller's token
@@ -23,11 +23,11 @@ packets items = filter (λ x. not (is_end x)) items
 
 -- whether an item is a packet: it has a length that a packet may have
 abbrev pub is_packet : Item → Bool
-is_packet x = nat_lt 0 x.length && nat_le x.length most_bytes
+is_packet x = nat_lt 0 x.length && nat_le x.length MAX_LENGTH
 
 -- an item is no longer than a packet may be
 abbrev pub IsShort : Item → Type 0
-IsShort x = x.length ≤ most_bytes
+IsShort x = x.length ≤ MAX_LENGTH
 
 -- no item is longer than a packet may be
 abbrev pub AreShort : List Item → Type 0
@@ -38,7 +38,7 @@ AreShort items = AllByRecursion IsShort items
 pub record MayFollow (before : List Item) (x : Item) : Type 0 where
   pub not_ended : has_end before ≡ false
   pub short : IsShort x
-  pub numbered : is_end x ≡ false → length (packets before) < most_packets
+  pub numbered : is_end x ≡ false → length (packets before) < MAX_PACKETS
 
 -- These are all items that a sender can send: no longer list that begins with them may go through the ring.
 abbrev pub IsWhole : List Item → Type 0

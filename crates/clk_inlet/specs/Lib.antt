@@ -1,5 +1,4 @@
 -- What goes through an inlet, and what contracts see of its halves.
-pub mod Limits
 pub mod Items
 pub mod Halves
 pub mod Examples

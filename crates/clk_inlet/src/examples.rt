@@ -3,7 +3,7 @@
 ghost use Rattle.std.specs.Prelude.{◌≡◌, [], ◌∷◌, List, length};
 ghost use Rattle.rtrb.specs.Fifo.{Allowed};
 ghost use Rattle.clk_inlet.specs.declared.item.Item.{Item};
-ghost use Rattle.clk_inlet.specs.Limits.{most_packets};
+ghost use Rattle.clk_inlet.specs.declared.limits.TheConstants.{MAX_PACKETS};
 ghost use Rattle.clk_inlet.specs.Items.{packets, MayFollow, IsWhole};
 ghost use Rattle.clk_inlet.specs.Examples.{first, second, longest, too_long, the_end, one_packet, just_ended, ended, ended_early};
 
@@ -20,7 +20,7 @@ pub fn order_examples()
     ensures not_after_end { ¬ (MayFollow ended second) }
     ensures not_ended_twice { ¬ (MayFollow just_ended the_end) }
     ensures not_ended_early { ¬ (Allowed MayFollow [] ended_early) }
-    ensures not_one_too_many { (before : List Item) → length (packets before) ≡ most_packets → ¬ (MayFollow before first) }
+    ensures not_one_too_many { (before : List Item) → length (packets before) ≡ MAX_PACKETS → ¬ (MayFollow before first) }
 {}
 
 /// Which lists are all that a sender ever sent: those that have the end.

@@ -3,7 +3,7 @@
 ghost use Rattle.std.specs.Prelude.{◌≡◌, ◌+◌, ◌-◌, ◌<◌, ◌≤◌, true, false, length, take, slice_get, IfSome};
 ghost use Rattle.rtrb.specs.Ring.{sent, known_free};
 ghost use Rattle.clk_inlet.specs.Items.{has_end, is_packet, packets, AreShort};
-ghost use Rattle.clk_inlet.specs.Limits.{most_packets};
+ghost use Rattle.clk_inlet.specs.declared.limits.TheConstants.{MAX_PACKETS};
 
 use crate::item::{Item, ItemOrder};
 use crate::limits::MAX_PACKETS;
@@ -28,7 +28,7 @@ pub struct Inlet {
     ghost end_is_last: { has_end (take (length (sent producer) - 1) (sent producer)) ≡ false },
     // A slot is reserved for the end.
     ghost reserved: { ended ≡ false → free < known_free producer },
-    ghost numbers_left: { next + free ≤ most_packets },
+    ghost numbers_left: { next + free ≤ MAX_PACKETS },
     ghost full_at_end: { ended ≡ true → free ≡ 0 },
 }
 
@@ -50,7 +50,7 @@ pub enum Refusal {
 impl Inlet {
     ghost use Rattle.std.specs.Prelude.{◌≡◌, ◌↔◌, ◌+◌, ◌<◌, ◌≤◌, ◌++◌, ◌∷◌, [], true, false, length, take, Ok, Err, IsOk, IfOk, OnOk, OnErr};
     ghost use Rattle.rtrb.specs.Ring.{sent, known_free};
-    ghost use Rattle.clk_inlet.specs.Limits.{most_packets};
+    ghost use Rattle.clk_inlet.specs.declared.limits.TheConstants.{MAX_PACKETS};
     ghost use Rattle.clk_inlet.specs.Items.{packet_item, has_end, packets};
     ghost use Rattle.clk_inlet.specs.Halves.{pushed, offered, next_number, fits, at_end, StopsAt, AreHalves};
     ghost use Rattle.clk_inlet.specs.declared.outlet.Outlet.{Outlet};

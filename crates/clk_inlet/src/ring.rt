@@ -1,7 +1,7 @@
 //! How the ring of an inlet is opened.
 
 ghost use Rattle.std.specs.Prelude.{◌≡◌, ◌≤◌, [], IfOk};
-ghost use Rattle.clk_inlet.specs.Limits.{most_room};
+ghost use Rattle.clk_inlet.specs.declared.limits.TheConstants.{MAX_ROOM};
 ghost use Rattle.clk_inlet.specs.Halves.{pushed, fits, popped, AreHalves};
 
 use crate::inlet::Inlet;
@@ -18,7 +18,7 @@ use std::alloc::{AllocError, Global};
 ///
 /// Fails if the allocation fails.
 pub fn open(alloc: Global, room: u32) -> Result<(Inlet, Outlet), AllocError>
-    requires room { (1 ≤ room) × (room ≤ most_room) }
+    requires room { (1 ≤ room) × (room ≤ MAX_ROOM) }
     ensures halves { IfOk result (λ r. AreHalves r.0 r.1) }
     ensures empty { IfOk result (λ r. (pushed r.0 ≡ []) × (popped r.1 ≡ [])) }
     ensures fits { IfOk result (λ r. fits r.0 ≡ room) }

@@ -12,7 +12,7 @@ use Rattle.clk_packet.specs.declared.packet.Offered.{Offered}
 use Rattle.clk_packet.specs.declared.packet.Offered.TheVariants.{Accepted, Refused, Evicted}
 use Rattle.clk_packet.specs.Lists.{of_sender}
 use Rattle.clk_sched.specs.declared.visit.Visit.{Visit}
-use Rattle.clk_inlet.specs.Limits.{most_packets}
+use Rattle.clk_inlet.specs.declared.limits.TheConstants.{MAX_PACKETS}
 use Rattle.clk_inlet.specs.declared.item.Item.{Item}
 use Rattle.circular_buffer.specs.Buffer.{Buffer}
 use Rattle.clk_tree.specs.PlanParts.{number_of}
@@ -140,7 +140,7 @@ module _ (c : Course) (items : List (List Item)) (buffers : List (Buffer ℕ)) (
       let same = length-map c.setup.senders number_of in
       member items i (omega (arith, within, same, kept.places))
 
-  sent-few : (i n : ℕ) → slice_get (sender_numbers c.setup) i ≡ Some n → length (numbers_of n c.events) ≤ most_packets
+  sent-few : (i n : ℕ) → slice_get (sender_numbers c.setup) i ≡ Some n → length (numbers_of n c.events) ≤ MAX_PACKETS
   sent-few i n at =
       let its = items-at i n at in
       let many = as-many n c.events in
@@ -149,14 +149,14 @@ module _ (c : Course) (items : List (List Item)) (buffers : List (Buffer ℕ)) (
       omega (arith, many, same, few)
 
   -- A sender from whose inlet fewer packets were taken than an inlet takes in all can offer the next one.
-  pub can-offer : (place : ℕ) (its : List Item) → slice_get items place ≡ Some its → length its < most_packets → CanOffer c place
+  pub can-offer : (place : ℕ) (its : List Item) → slice_get items place ≡ Some its → length its < MAX_PACKETS → CanOffer c place
   can-offer place its here few = record {
     there = (let within = slice_get_within items place its here in omega (arith, within, kept.places));
     numbers = λ sender at. (let many = as-many sender c.events in let same = taken-many place sender its here at in omega (arith, many, same, few));
     packets = λ device at.
         (let numbers = length-map c.setup.senders number_of in
         let all = all-counted c.setup c.events can.senders in
-        let some = bounded c.events most_packets (sender_numbers c.setup) sent-few in
+        let some = bounded c.events MAX_PACKETS (sender_numbers c.setup) sent-few in
         let accepted = accepted-offered c.setup device c.events in
         omega (arith, numbers, all, some, accepted, kept.places, kept.few_places));
   }

@@ -9,7 +9,7 @@ use Rattle.circular_buffer.specs.Buffer.{Buffer}
 use Rattle.rtrb.specs.Fifo.{Allowed}
 use Rattle.clk_inlet.specs.Halves.{popped, taken}
 use Rattle.clk_inlet.specs.Items.{MayFollow, has_end, is_end, packets}
-use Rattle.clk_inlet.specs.Limits.{most_packets}
+use Rattle.clk_inlet.specs.declared.limits.TheConstants.{MAX_PACKETS}
 use Rattle.clk_inlet.specs.declared.item.Item.{Item}
 use Rattle.clk_inlet.specs.declared.outlet.Outlet.{Outlet}
 use Rattle.clk_tree.specs.PlanParts.{number_of}
@@ -81,12 +81,12 @@ all-joined P [] (suc from) (suc count) le h k = tt
 all-joined P (t ∷ ts) (suc from) (suc count) le h k = all-joined P ts from count (omega (arith, le)) h k
 
 -- packets that may follow others are no more than an inlet takes in all
-pub few-follow : (before xs : List Item) → length (packets before) ≤ most_packets → Allowed MayFollow before xs → has_end xs ≡ false → length (packets before) + length xs ≤ most_packets
+pub few-follow : (before xs : List Item) → length (packets before) ≤ MAX_PACKETS → Allowed MayFollow before xs → has_end xs ≡ false → length (packets before) + length xs ≤ MAX_PACKETS
 few-follow before [] few allowed packets_only = omega (arith, few)
 few-follow before (x ∷ xs) few allowed packets_only = by_test (is_end x) refl packets_only (few-follow (before ++ x ∷ []) xs)
   where
-    by_test : (b : Bool) → is_end x ≡ b → (b || has_end xs) ≡ false → (length (packets (before ++ x ∷ [])) ≤ most_packets → Allowed MayFollow (before ++ x ∷ []) xs → has_end xs ≡ false → length (packets (before ++ x ∷ [])) + length xs ≤ most_packets)
-        → length (packets before) + suc (length xs) ≤ most_packets
+    by_test : (b : Bool) → is_end x ≡ b → (b || has_end xs) ≡ false → (length (packets (before ++ x ∷ [])) ≤ MAX_PACKETS → Allowed MayFollow (before ++ x ∷ []) xs → has_end xs ≡ false → length (packets (before ++ x ∷ [])) + length xs ≤ MAX_PACKETS)
+        → length (packets before) + suc (length xs) ≤ MAX_PACKETS
     by_test true e h rest = absurd (grind (arith, h))
     by_test false e h rest =
         let one : packets (before ++ x ∷ []) ≡ packets before ++ x ∷ [] = filter-append (λ y. not (is_end y)) before (x ∷ []) ∙ ap (λ b. packets before ++ (if not b then x ∷ [] else [])) e in
@@ -112,7 +112,7 @@ module _ (c : Course) (outlets : List Outlet) (buffers : List (Buffer ℕ)) (pla
   its-items = slice_get-map taken outlets place ∙ ap (option_map taken) its
 
   -- so many packets more can be offered
-  pub can-run : (many : ℕ) → length (taken o) + many ≤ most_packets → CanRun c buffers (map taken outlets) place (taken o) many
+  pub can-run : (many : ℕ) → length (taken o) + many ≤ MAX_PACKETS → CanRun c buffers (map taken outlets) place (taken o) many
   can-run many few = record { kept = kept; its = its-items; few = few }
 
   -- packets that may follow can be offered

@@ -16,7 +16,7 @@ use Rattle.clk_sched.specs.Log.{visits_of, result_of}
 use Rattle.clk_tree.specs.declared.plan.parts.SenderSpec.{SenderSpec}
 use Rattle.clk_tree.specs.PlanParts.{SendsWithin, number_of}
 use Rattle.clk_inlet.specs.Items.{packet_item}
-use Rattle.clk_inlet.specs.Limits.{most_packets}
+use Rattle.clk_inlet.specs.declared.limits.TheConstants.{MAX_PACKETS}
 use Rattle.clk_inlet.specs.declared.item.Item.{Item}
 use Rattle.clk_packet.specs.declared.counts.Total.{Total}
 use Rattle.clk_router.specs.declared.accounts.Account.{Account}
@@ -104,7 +104,7 @@ pub record Stands (old : Course) (items : List (List Item)) (buffers : List (Buf
 -- The packet that comes next after those from the inlet at a place was offered.
 pub record TookNext (old : Course) (items : List (List Item)) (place : ℕ) (before : List Item) (x : Item) (p : Packet) (outcome : Offered) : Type 0 where
   pub its : slice_get items place ≡ Some before
-  pub few : length before < most_packets
+  pub few : length before < MAX_PACKETS
   pub sender : sender_at old.setup place ≡ Some p.sender
   pub bytes : p.length ≡ x.length
   pub more : CanHappen old.setup (old.events ++ offered p outcome ∷ [])

@@ -7,7 +7,7 @@ ghost use Rattle.clk_tree.specs.PlanParts.{queues_of};
 ghost use Rattle.clk_tree.specs.Shares.{AreTreesOf};
 ghost use Rattle.clk_tree.specs.Drrs.{AreDrrsAbove};
 ghost use Rattle.clk_sched.specs.Tree.{Tree};
-ghost use Rattle.clk_inlet.specs.Limits.{most_room};
+ghost use Rattle.clk_inlet.specs.declared.limits.TheConstants.{MAX_ROOM};
 ghost use Rattle.clk_inlet.specs.Halves.{pushed, popped, fits, AreHalves};
 ghost use Rattle.clk_live.specs.inside.Opened.{AreRoomy};
 
@@ -32,7 +32,7 @@ impl Live {
     ///
     /// Fault 1 if an allocation fails.
     pub fn open(alloc: Global, plan: &Plan, room: u32) -> Result<(Live, Vec<Inlet>), Fault>
-        requires room { (1 ≤ room) × (room ≤ most_room) }
+        requires room { (1 ≤ room) × (room ≤ MAX_ROOM) }
         ensures opened { IfOk result (λ r. IsLiveOpened plan.now room r.0 r.1.items) }
         ensures fault { IsOkUnless result Fault.Memory }
     {
@@ -55,7 +55,7 @@ impl Live {
 
 // An inlet and its outlet for each of these senders. Fault 1 if an allocation fails.
 fn halves_of(alloc: Global, senders: &[u16], room: u32) -> Result<(Vec<Inlet>, Vec<Outlet>), Fault>
-    requires room { (1 ≤ room) × (room ≤ most_room) }
+    requires room { (1 ≤ room) × (room ≤ MAX_ROOM) }
     requires rising { AreRising senders.now }
     ensures halves { IfOk result (λ r. AllZip AreHalves r.0.items r.1.items) }
     ensures offered { IfOk result (λ r. AllByRecursion (λ i. (pushed i ≡ []) × (fits i ≡ room)) r.0.items) }

@@ -8,7 +8,7 @@ use Rattle.std.proofs.lemmas.Bool.Decides.{nat_tests}
 use Rattle.clk_inlet.specs.Halves.{taken}
 use Rattle.clk_packet.specs.declared.packet.Packet.{Packet}
 use Rattle.clk_sched.specs.declared.visit.Visit.{Visit}
-use Rattle.clk_sched.specs.Limits.{end_of_drains, end_of_drained_pulls}
+use Rattle.clk_sched.specs.declared.limits.TheConstants.{END_OF_DRAINS, END_OF_DRAINED_PULLS}
 use Rattle.clk_sched.specs.Log.{visits_of, result_of}
 use Rattle.clk_sched.specs.Results.{emitted}
 use Rattle.clk_sched.specs.Session.{given_in, LastGives}
@@ -208,8 +208,8 @@ can-still-close old now d setup same can =
     record {
       there = subst (λ (s : Setup). d < length s.trees) (sym setup) can.there;
       left = omega (arith, a, b, c, was);
-      moments = subst (λ n. max n 0 < end_of_drains) (sym m) can.moments;
-      pulls = subst (λ n. n < end_of_drained_pulls) (sym p) can.pulls;
+      moments = subst (λ n. max n 0 < END_OF_DRAINS) (sym m) can.moments;
+      pulls = subst (λ n. n < END_OF_DRAINED_PULLS) (sym p) can.pulls;
     }
 
 -- The devices are drained one after the other.

@@ -5,10 +5,11 @@ use Rattle.std.proofs.lemmas.List.{length-map}
 use Rattle.std.proofs.lemmas.Simd.{map-map}
 use Rattle.clk_packet.specs.declared.packet.Packet.{Packet}
 use Rattle.clk_packet.specs.declared.packet.Offered.TheVariants.{Accepted, Refused, Evicted}
-use Rattle.clk_packet.specs.Trace.{sent_by, packets_in, most_records}
+use Rattle.clk_packet.specs.Trace.{sent_by, packets_in}
+use Rattle.clk_packet.specs.declared.limits.TheConstants.{MAX_RECORDS}
 use Rattle.clk_packet.specs.Lists.{AreRising}
 use Rattle.clk_packet.proofs.Callers.Lists.{rising-distinct}
-use Rattle.clk_gate.specs.Limits.{most_limit}
+use Rattle.clk_gate.specs.declared.limits.TheConstants.{MAX_LIMIT}
 use Rattle.clk_gate.specs.Sent.{sent_in}
 use Rattle.clk_gate.proofs.Callers.TraceSums.{within-trace}
 use Rattle.clk_inlet.specs.Halves.{pushed, popped, offered as offered_items, fits, taken, AreHalves}
@@ -16,7 +17,7 @@ use Rattle.clk_inlet.specs.Items.{packets}
 use Rattle.clk_inlet.specs.declared.inlet.Inlet.{Inlet}
 use Rattle.clk_inlet.specs.declared.item.Item.{Item}
 use Rattle.clk_inlet.specs.declared.outlet.Outlet.{Outlet}
-use Rattle.clk_sched.specs.Limits.{most_left}
+use Rattle.clk_sched.specs.declared.limits.TheConstants.{MAX_LEFT}
 use Rattle.clk_router.specs.Course.{Course, events_of, CanClose}
 use Rattle.clk_router.specs.Settled.{offered_in, IsCourseSettled, AreAllOut}
 use Rattle.clk_router.specs.Events.{Setup, Event, offered, pulled, happens_at, events_at, moment_in, accepted_in, sender_numbers, CanHappen}
@@ -26,7 +27,7 @@ use Rattle.clk_live.specs.State.{LiveState, seen, AllGoOn}
 use Rattle.clk_live.proofs.Callers.Halves.{all_go_on}
 use Rattle.clk_live.proofs.Callers.Sending.{nothing_yet, come_back, all_offered}
 use Rattle.clk_live.specs.Outcome.{item_length, packet_length, AreOffersOf, IsLiveOutcome}
-use Rattle.clk_script.specs.Script.{most_moment, most_lines}
+use Rattle.clk_script.specs.declared.limits.TheConstants.{MAX_MOMENT, MAX_LINES}
 use Rattle.clk_script.specs.Record.{FitsLimits}
 use Rattle.clk_script.specs.Meaning.{CloseFirst, command_of}
 use Rattle.clk_live_run.specs.declared.senders.SenderInlet.{SenderInlet}
@@ -51,7 +52,7 @@ paced-none step l none popped_none =
     record {
       many = omega (arith, events, items, no_pulls);
       offers = omega (arith, offers, items);
-      early = subst (λ es. AllByRecursion (λ m. m ≤ most_moment) (filter_map moment_in es)) (sym none) tt;
+      early = subst (λ es. AllByRecursion (λ m. m ≤ MAX_MOMENT) (filter_map moment_in es)) (sym none) tt;
       moments = λ d low. ap (λ es. moments_at l.course.setup es d) none;
     }
 
@@ -98,31 +99,31 @@ fold-low b most [] low h = low
 fold-low b most (m ∷ ms) low h = fold-low (max b m) most ms (omega (arith, low, h.0)) h.1
 
 -- Each device can be closed.
-pub can-close : (step pulls limit : ℕ) (l : LiveState) → HasPaced step pulls l → pulls ≤ limit → limit ≤ most_limit → taken_in l ≤ most_left → (d : ℕ) → d < length l.course.setup.trees → CanClose l.course d 0
+pub can-close : (step pulls limit : ℕ) (l : LiveState) → HasPaced step pulls l → pulls ≤ limit → limit ≤ MAX_LIMIT → taken_in l ≤ MAX_LEFT → (d : ℕ) → d < length l.course.setup.trees → CanClose l.course d 0
 can-close step pulls limit l so few low sent d there =
     record {
       there = there;
       left = let accepted = accepted-few l.course.setup d l.course.events in omega (arith, accepted, so.offers, sent);
       moments =
-          let most = fold-low 0 most_moment (moments_at l.course.setup l.course.events d) (omega arith) (early-there l.course.events so.early) in
+          let most = fold-low 0 MAX_MOMENT (moments_at l.course.setup l.course.events d) (omega arith) (early-there l.course.events so.early) in
           omega (arith, most);
       pulls =
           let many = as-many (events_of l.course d) ∙ ap length (so.moments d there) ∙ length-map (range_with_len 1 pulls) (λ n. n * step) ∙ length-range 1 pulls in
           omega (arith, many, few, low);
     }
   where
-    early-there : (events : List Event) → AllByRecursion (λ m. m ≤ most_moment) (filter_map moment_in events) → AllByRecursion (λ m. m ≤ most_moment) (filter_map moment_in (events_at l.course.setup d events))
+    early-there : (events : List Event) → AllByRecursion (λ m. m ≤ MAX_MOMENT) (filter_map moment_in events) → AllByRecursion (λ m. m ≤ MAX_MOMENT) (filter_map moment_in (events_at l.course.setup d events))
     early-there [] h = tt
     early-there (offered p outcome ∷ events) h = by_place (happens_at l.course.setup d (offered p outcome)) refl (early-there events h)
       where
-        by_place : (b : Bool) → happens_at l.course.setup d (offered p outcome) ≡ b → AllByRecursion (λ m. m ≤ most_moment) (filter_map moment_in (events_at l.course.setup d events))
-            → AllByRecursion (λ m. m ≤ most_moment) (filter_map moment_in (events_at l.course.setup d (offered p outcome ∷ events)))
+        by_place : (b : Bool) → happens_at l.course.setup d (offered p outcome) ≡ b → AllByRecursion (λ m. m ≤ MAX_MOMENT) (filter_map moment_in (events_at l.course.setup d events))
+            → AllByRecursion (λ m. m ≤ MAX_MOMENT) (filter_map moment_in (events_at l.course.setup d (offered p outcome ∷ events)))
         by_place true e rest = rw e rest
         by_place false e rest = rw e rest
     early-there (pulled device moment visits ∷ events) h = by_place (device == d) refl (early-there events h.1)
       where
-        by_place : (b : Bool) → (device == d) ≡ b → AllByRecursion (λ m. m ≤ most_moment) (filter_map moment_in (events_at l.course.setup d events))
-            → AllByRecursion (λ m. m ≤ most_moment) (filter_map moment_in (events_at l.course.setup d (pulled device moment visits ∷ events)))
+        by_place : (b : Bool) → (device == d) ≡ b → AllByRecursion (λ m. m ≤ MAX_MOMENT) (filter_map moment_in (events_at l.course.setup d events))
+            → AllByRecursion (λ m. m ≤ MAX_MOMENT) (filter_map moment_in (events_at l.course.setup d (pulled device moment visits ∷ events)))
         by_place true e rest = rw e (h.0, rest)
         by_place false e rest = rw e rest
 
@@ -131,7 +132,7 @@ can-close step pulls limit l so few low sent d there =
     length-range first (suc count) = ap suc (length-range (first + 1) count)
 
 -- The record fits a script.
-pub fits-script : (step pulls limit : ℕ) (l : LiveState) → HasPaced step pulls l → pulls ≤ limit → taken_in l + length l.course.setup.trees * limit + 1 ≤ most_lines → FitsLimits l.course.events (Some 0)
+pub fits-script : (step pulls limit : ℕ) (l : LiveState) → HasPaced step pulls l → pulls ≤ limit → taken_in l + length l.course.setup.trees * limit + 1 ≤ MAX_LINES → FitsLimits l.course.events (Some 0)
 fits-script step pulls limit l so few low =
     record {
       moments = so.early;
@@ -191,7 +192,7 @@ still-halves traces senders old new before after inlets halves sent goes =
 pub taken-is : (traces : List (List Packet)) (senders : List SenderInlet) (l : LiveState) (numbers : List ℕ) → (seen l).items ≡ map (sends traces) senders → map (λ (s : SenderInlet). s.number) senders ≡ numbers → taken_in l ≡ sent_in traces numbers
 taken-is traces senders l numbers items are = ap items_in items ∙ items-sent traces senders ∙ ap (sent_in traces) are
 
-pub sent-few : (traces : List (List Packet)) (numbers : List ℕ) → AreRising numbers → packets_in traces ≤ most_records → sent_in traces numbers ≤ most_left
+pub sent-few : (traces : List (List Packet)) (numbers : List ℕ) → AreRising numbers → packets_in traces ≤ MAX_RECORDS → sent_in traces numbers ≤ MAX_LEFT
 sent-few traces numbers rising few = let within = within-trace traces numbers (rising-distinct numbers rising) in omega (arith, within, few)
 
 -- What was written of the record, and how often the sink failed.
@@ -207,7 +208,7 @@ recorded recording failed start now events its_fit ended = (
   counts recording failed refl refl,
 )
   where
-    low : recording ≡ true → length (map command_of events) < most_lines
+    low : recording ≡ true → length (map command_of events) < MAX_LINES
     low e = let few = (its_fit e).few in let many = length-map events command_of in omega (arith, few, many)
 
     counts : (r f : Bool) → recording ≡ r → failed ≡ f → now.failures ≡ failures_with failed start.failures

@@ -12,10 +12,10 @@ use Rattle.clk_sched.specs.declared.visit.Visit.{Visit}
 use Rattle.clk_inlet.specs.Halves.{taken as taken_items}
 use Rattle.clk_router.specs.Settled.{offered_in}
 use Rattle.clk_router.specs.Course.{Course, after, events_of, CanPull}
-use Rattle.clk_gate.specs.Limits.{most_limit, most_step}
+use Rattle.clk_gate.specs.declared.limits.TheConstants.{MAX_LIMIT, MAX_STEP}
 use Rattle.clk_router.specs.Events.{Setup, Event, offered, pulled, happens_at, events_at, moment_in, pull_in}
 use Rattle.clk_router.proofs.Callers.Events.{all-join, events-here, events-elsewhere}
-use Rattle.clk_script.specs.Script.{most_moment}
+use Rattle.clk_script.specs.declared.limits.TheConstants.{MAX_MOMENT}
 use Rattle.clk_live.specs.State.{LiveState, Seen, seen, GoesOn, AllGoOn}
 use Rattle.clk_live.specs.Taking.{IsTaken, offer_outcome}
 use Rattle.clk_live.specs.declared.taking.Taken.{Taken}
@@ -120,8 +120,8 @@ pulled-more count moment old l new got so one outlets =
           ap (λ (c : Course). length (filter_map offered_in c.events)) one.pulled.goes_on ∙ ap length (filter_map-append offered_in l.course.events (pulled count moment one.pulled.visits ∷ []) ∙ append-nil (filter_map offered_in l.course.events))
           ∙ so.offers;
       early = λ low h.
-          subst (AllByRecursion (λ m. m ≤ most_moment)) (sym (ap (λ (c : Course). filter_map moment_in c.events) one.pulled.goes_on ∙ filter_map-append moment_in l.course.events (pulled count moment one.pulled.visits ∷ [])))
-          (all-join (λ m. m ≤ most_moment) (filter_map moment_in l.course.events) (moment ∷ []) (so.early low h) (low, tt));
+          subst (AllByRecursion (λ m. m ≤ MAX_MOMENT)) (sym (ap (λ (c : Course). filter_map moment_in c.events) one.pulled.goes_on ∙ filter_map-append moment_in l.course.events (pulled count moment one.pulled.visits ∷ [])))
+          (all-join (λ m. m ≤ MAX_MOMENT) (filter_map moment_in l.course.events) (moment ∷ []) (so.early low h) (low, tt));
       moments = λ d.
           ap (λ (c : Course). moments_at c.setup c.events d) one.pulled.goes_on ∙ moments-pull l.course.setup l.course.events count moment one.pulled.visits d
           ∙ ap (λ ms. ms ++ (if count == d then moment ∷ [] else [])) (so.moments d)
@@ -150,14 +150,14 @@ paced-took step pulls old new so took =
           let product = ap (λ n. n * pulls) trees in
           omega (arith, so.many, took.many, product);
       offers = omega (arith, so.offers, took.offers);
-      early = subst (AllByRecursion (λ m. m ≤ most_moment)) (sym took.handed_in) so.early;
+      early = subst (AllByRecursion (λ m. m ≤ MAX_MOMENT)) (sym took.handed_in) so.early;
       moments = λ d low. took.moments d ∙ so.moments d (subst (λ n. d < n) trees low);
     }
 
 paced-more : (step pulls : ℕ) → paced step (pulls + 1) ≡ paced step pulls ++ (pulls + 1) * step ∷ []
 paced-more step pulls = map-range_with_len_more (λ n. n * step) 1 pulls (pulls + 1) (omega arith)
 
-pub paced-pulled : (step pulls : ℕ) (old new : LiveState) → HasPaced step pulls old → PulledFirst (length old.course.setup.trees) ((pulls + 1) * step) old new → (pulls + 1) * step ≤ most_moment → HasPaced step (pulls + 1) new
+pub paced-pulled : (step pulls : ℕ) (old new : LiveState) → HasPaced step pulls old → PulledFirst (length old.course.setup.trees) ((pulls + 1) * step) old new → (pulls + 1) * step ≤ MAX_MOMENT → HasPaced step (pulls + 1) new
 paced-pulled step pulls old new so each low_moment =
     let taken : taken_in new ≡ taken_in old = ap (λ outlets. items_in (map taken_items outlets)) each.outlets in
     let trees : length new.course.setup.trees ≡ length old.course.setup.trees = ap (λ (s : Setup). length s.trees) each.setup in
@@ -190,7 +190,7 @@ pub leads-then : (old mid new : RecordAt) (before between after : List Command) 
 leads-then old mid new before between after a b = λ recording start h. b recording start (a recording start h)
 
 -- The next device of a round can be pulled.
-pub can-pull : (count moment : ℕ) (old l : LiveState) → PulledFirst count moment old l → count < length old.course.setup.trees → moment ≤ most_moment → length (moments_at old.course.setup old.course.events count) ≤ most_limit → CanPull l.course count moment
+pub can-pull : (count moment : ℕ) (old l : LiveState) → PulledFirst count moment old l → count < length old.course.setup.trees → moment ≤ MAX_MOMENT → length (moments_at old.course.setup old.course.events count) ≤ MAX_LIMIT → CanPull l.course count moment
 can-pull count moment old l so there early few =
     record {
       there = subst (λ (s : Setup). count < length s.trees) (sym so.setup) there;
@@ -214,9 +214,9 @@ paced-length step count = length-map (range_with_len 1 count) (λ n. n * step) �
     length-range first (suc many) = ap suc (length-range (first + 1) many)
 
 -- a script can name the moment of each round
-pub round-early : (round step : ℕ) → round ≤ most_limit → step ≤ most_step → round * step ≤ most_moment
-round-early round step low small = let most : round * step ≤ most_limit * most_step = mul-le-mul low small in omega (arith, most)
+pub round-early : (round step : ℕ) → round ≤ MAX_LIMIT → step ≤ MAX_STEP → round * step ≤ MAX_MOMENT
+round-early round step low small = let most : round * step ≤ MAX_LIMIT * MAX_STEP = mul-le-mul low small in omega (arith, most)
 
 -- a round: packets were taken, and then each device was pulled
-pub paced-round : (step round : ℕ) (old mid new : LiveState) → HasPaced step round old → OnlyTook old mid → PulledFirst (length mid.course.setup.trees) ((round + 1) * step) mid new → (round + 1) * step ≤ most_moment → HasPaced step (round + 1) new
+pub paced-round : (step round : ℕ) (old mid new : LiveState) → HasPaced step round old → OnlyTook old mid → PulledFirst (length mid.course.setup.trees) ((round + 1) * step) mid new → (round + 1) * step ≤ MAX_MOMENT → HasPaced step (round + 1) new
 paced-round step round old mid new so took each early = paced-pulled step round mid new (paced-took step round old mid so took) each early

@@ -16,7 +16,7 @@ use Rattle.clk_router.specs.Course.{Course}
 use Rattle.clk_live.specs.Outcome.{packet_length}
 use Rattle.clk_gate.specs.Known.{senders_in, IsFirstUnknown}
 use Rattle.clk_script.specs.Meaning.{IsClosed}
-use Rattle.clk_script.specs.Script.{most_lines}
+use Rattle.clk_script.specs.declared.limits.TheConstants.{MAX_LINES}
 
 -- the moments of `count` pulls, `step` ticks apart, the first at moment `step`
 abbrev pub paced : (step count : ℕ) → List ℕ
@@ -59,7 +59,7 @@ pub record LiveRunOf (plan : List Planned) (traces : List (List Packet)) (step l
 -- The record of a run may take more lines than a script may have. It takes one for each packet that is sent, one for each pull that may be
 -- made while senders send, and one for the drain.
 abbrev pub MayBeTooLong : List Planned → List (List Packet) → ℕ → Type 0
-MayBeTooLong plan traces limit = most_lines < sent_in traces (senders_in plan) + device_count plan * limit + 1
+MayBeTooLong plan traces limit = MAX_LINES < sent_in traces (senders_in plan) + device_count plan * limit + 1
 
 -- Why a run fails: an allocation or the start of a thread failed, the plan lacks a sender of the trace, or its record may be too long.
 -- Fault 15 names the least sender that the plan lacks. Only a run that is to be recorded has a record.

@@ -20,9 +20,9 @@ pub struct RecordedLive<R: Sink + Drop> {
 
 impl<R: Sink + Drop> RecordedLive<R> {
     ghost use Rattle.std.specs.Prelude.{◌≡◌, ◌≤◌, ◌<◌, ◌*◌, ℕ, length};
-    ghost use Rattle.clk_gate.specs.Limits.{most_limit, most_step};
-    ghost use Rattle.clk_sched.specs.Limits.{end_of_moments};
-    ghost use Rattle.clk_script.specs.Script.{most_moment};
+    ghost use Rattle.clk_gate.specs.declared.limits.TheConstants.{MAX_LIMIT, MAX_STEP};
+    ghost use Rattle.clk_sched.specs.declared.limits.TheConstants.{END_OF_MOMENTS};
+    ghost use Rattle.clk_script.specs.declared.limits.TheConstants.{MAX_MOMENT};
     ghost use Rattle.clk_live.specs.State.{AllGoOn};
     ghost use Rattle.clk_live_run.specs.Run.{moments_at};
     ghost use Rattle.clk_live_run.specs.inside.Recording.{LeadsOn};
@@ -31,8 +31,8 @@ impl<R: Sink + Drop> RecordedLive<R> {
     /// Takes packets and pulls devices in rounds, until all inlets have ended and all that was sent is taken. A round takes at most 64
     /// packets of each sender. In each of the first `limit` rounds it then pulls each device once, in the n-th at moment `n * step`.
     pub fn consume<P: Wait, G: Gate>(&mut self, wait: &P, step: u32, limit: u32, gate: &G)
-        requires step { step ≤ most_step }
-        requires limit { limit ≤ most_limit }
+        requires step { step ≤ MAX_STEP }
+        requires limit { limit ≤ MAX_LIMIT }
         requires unpulled { HasPaced step 0 self.old.live }
         ensures consumed { HasConsumed step limit self.old.live self.new.live }
         ensures recorded { LeadsOn self.old.recording self.new.recording (commands_of self.old.live.course) (commands_of self.new.live.course) }
@@ -50,8 +50,8 @@ impl<R: Sink + Drop> RecordedLive<R> {
     // Takes packets of each sender, and pulls each device once more if it was pulled fewer than `limit` times. Returns how often each
     // device was pulled then. If there was nothing to take, yields to other threads.
     fn round<G: Gate>(&mut self, pulls: u32, step: u32, limit: u32, gate: &G) -> u32
-        requires step { step ≤ most_step }
-        requires limit { (pulls ≤ limit) × (limit ≤ most_limit) }
+        requires step { step ≤ MAX_STEP }
+        requires limit { (pulls ≤ limit) × (limit ≤ MAX_LIMIT) }
         requires paced { HasPaced step pulls self.old.live }
         ensures paced { HasPaced step result self.new.live }
         ensures few { result ≤ limit }
@@ -106,8 +106,8 @@ impl<R: Sink + Drop> RecordedLive<R> {
 
     // Pulls each device once, in the round with this number, counted from 1.
     fn pull_round<G: Gate>(&mut self, round: u32, step: u32, gate: &G)
-        requires moment { (step ≤ most_step) × (round ≤ most_limit) }
-        requires few { (d : ℕ) → d < length self.old.live.course.setup.trees → length (moments_at self.old.live.course.setup self.old.live.course.events d) ≤ most_limit }
+        requires moment { (step ≤ MAX_STEP) × (round ≤ MAX_LIMIT) }
+        requires few { (d : ℕ) → d < length self.old.live.course.setup.trees → length (moments_at self.old.live.course.setup self.old.live.course.events d) ≤ MAX_LIMIT }
         ensures pulled { PulledFirst (length self.old.live.course.setup.trees) (round * step) self.old.live self.new.live }
         ensures recorded { LeadsOn self.old.recording self.new.recording (commands_of self.old.live.course) (commands_of self.new.live.course) }
     {

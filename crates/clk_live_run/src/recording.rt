@@ -37,7 +37,7 @@ impl<R: Sink + Drop> Recording<R> {
     ghost use Rattle.std.specs.Prelude.{◌≡◌, ◌≤◌, ◌++◌, ◌∷◌, [], List, IfSome};
     ghost use Rattle.clk_script.specs.declared.script.Command.{Command};
     ghost use Rattle.clk_script.specs.Record.{handed_in};
-    ghost use Rattle.clk_script.specs.Script.{most_moment};
+    ghost use Rattle.clk_script.specs.declared.limits.TheConstants.{MAX_MOMENT};
     ghost use Rattle.clk_live_run.specs.inside.Recording.{SinkAt, IsRecordOf, IsEnded, LeadsOn};
 
     /// A record without a line, or none if the run is not to be recorded.
@@ -59,7 +59,7 @@ impl<R: Sink + Drop> Recording<R> {
     /// Adds the line of a command, unless the record has ended.
     #[inline(always)]
     pub fn note(&mut self, command: Command)
-        requires early { IfSome (handed_in command) (λ moment. moment ≤ most_moment) }
+        requires early { IfSome (handed_in command) (λ moment. moment ≤ MAX_MOMENT) }
         ensures noted { (commands : List Command) → LeadsOn self.old self.new commands (commands ++ command ∷ []) }
     {
         // A record grows line by line, by this law, which does nothing.

@@ -2,7 +2,7 @@
 
 ghost use Rattle.std.specs.Prelude.{◌≡◌, ◌≢◌, ◌+◌, ◌*◌, ◌<◌, ◌≤◌, true, ℕ, List, map, length, IfOk, IfErr, OnOk, IsErrOf};
 ghost use Rattle.clk_packet.specs.declared.fault.Fault.TheVariants.{Memory, TooLarge};
-ghost use Rattle.clk_gate.specs.Limits.{most_limit, most_step};
+ghost use Rattle.clk_gate.specs.declared.limits.TheConstants.{MAX_LIMIT, MAX_STEP};
 ghost use Rattle.clk_gate.specs.Sent.{sent_in};
 ghost use Rattle.clk_tree.specs.PlanParts.{number_of, senders_of};
 ghost use Rattle.clk_tree.specs.PlanTree.{device_count};
@@ -11,7 +11,7 @@ ghost use Rattle.clk_inlet.specs.Halves.{offered, taken, AreHalves};
 ghost use Rattle.clk_live.specs.State.{seen};
 ghost use Rattle.clk_live.specs.Outcome.{AreAllEnded, IsLiveOutcome};
 ghost use Rattle.clk_router.specs.Course.{CanClose};
-ghost use Rattle.clk_script.specs.Script.{most_lines};
+ghost use Rattle.clk_script.specs.declared.limits.TheConstants.{MAX_LINES};
 ghost use Rattle.clk_script.specs.declared.script.Command.{Command};
 ghost use Rattle.clk_live_run.specs.inside.Consuming.{HasClosed};
 ghost use Rattle.clk_live_run.specs.inside.Counts.{capped};
@@ -65,8 +65,8 @@ pub fn run_live<H: Threads + Wait, P: Wait + Sync, G: Gate + Sync, R: Sink + Dro
     recording: bool,
     sink: R,
 ) -> Result<LiveOutcome<R>, Fault>
-    requires step { (1 ≤ step) × (step ≤ most_step) }
-    requires limit { (1 ≤ limit) × (limit ≤ most_limit) }
+    requires step { (1 ≤ step) × (step ≤ MAX_STEP) }
+    requires limit { (1 ≤ limit) × (limit ≤ MAX_LIMIT) }
     ensures ran { IfOk result (λ outcome. LiveRunOf plan.now traces.now step limit outcome.live.course (λ setup events closed. IsRecorded recording outcome.write_failed (R.Sink.taken sink) (R.Sink.taken outcome.sink) events)) }
     ensures failures { IfOk result (λ outcome. R.Sink.failures outcome.sink ≡ failures_with outcome.write_failed (R.Sink.failures sink)) }
     ensures fault { IfErr result (IsFaultOfLive plan.now traces.now limit recording) }
@@ -127,7 +127,7 @@ fn close<P: Wait, R: Sink + Drop>(wait: &P, ended: Ended<R>) -> LiveOutcome<R>
 
 // Fails with fault 18 if the record of a run may have more lines than a script.
 fn check_length(plan: &Plan, traces: &Traces, limit: u32) -> Result<(), Fault>
-    ensures fits { OnOk result (sent_in traces.now (map number_of (senders_of plan.now)) + device_count plan.now * limit + 1 ≤ most_lines) }
+    ensures fits { OnOk result (sent_in traces.now (map number_of (senders_of plan.now)) + device_count plan.now * limit + 1 ≤ MAX_LINES) }
     ensures too_long { IfErr result (λ fault. (fault ≡ TooLarge) × MayBeTooLong plan.now traces.now limit) }
 {
     let pulls = u64::from(plan.devices()) * u64::from(limit);

@@ -2,7 +2,7 @@
 
 ghost use Rattle.std.specs.Prelude.{◌≡◌, ◌≤◌, IfOk};
 ghost use Rattle.std.specs.List.{AllZip};
-ghost use Rattle.clk_gate.specs.Limits.{most_limit, most_step};
+ghost use Rattle.clk_gate.specs.declared.limits.TheConstants.{MAX_LIMIT, MAX_STEP};
 ghost use Rattle.clk_packet.specs.Trace.{sent_by};
 ghost use Rattle.clk_live.specs.Sending.{HasSent};
 ghost use Rattle.clk_live_run.specs.inside.Consuming.{items_of, commands_of, HasConsumed, HasPaced};
@@ -121,8 +121,8 @@ pub fn run_threads<H: Threads + Wait, P: Wait + Sync, G: Gate + Sync, R: Sink + 
     consumer: RecordedLive<R>,
     senders: Vec<SenderInlet>,
 ) -> Result<Ended<R>, AllocError>
-    requires step { terms.now.step ≤ most_step }
-    requires limit { terms.now.limit ≤ most_limit }
+    requires step { terms.now.step ≤ MAX_STEP }
+    requires limit { terms.now.limit ≤ MAX_LIMIT }
     requires unpulled { HasPaced terms.now.step 0 consumer.live }
     ensures consumed { IfOk result (λ ended. HasConsumed terms.now.step terms.now.limit consumer.live ended.consumer.live) }
     ensures recorded { IfOk result (λ ended. LeadsOn consumer.recording ended.consumer.recording (commands_of consumer.live.course) (commands_of ended.consumer.live.course)) }
@@ -132,7 +132,7 @@ pub fn run_threads<H: Threads + Wait, P: Wait + Sync, G: Gate + Sync, R: Sink + 
         thread::scope_env(),
         rt,
         move |scope| -> Result<Ended<R>, AllocError>
-            requires { (terms.now.step ≤ most_step) × (terms.now.limit ≤ most_limit) × HasPaced terms.now.step 0 consumer.live }
+            requires { (terms.now.step ≤ MAX_STEP) × (terms.now.limit ≤ MAX_LIMIT) × HasPaced terms.now.step 0 consumer.live }
             ensures { IfOk result (λ ended. HasConsumed terms.entry.now.step terms.entry.now.limit consumer.live ended.consumer.live × AllZip (HasSentAll terms.entry.now.traces.now) senders.items ended.inlets.items
                 × LeadsOn consumer.recording ended.consumer.recording (commands_of consumer.live.course) (commands_of ended.consumer.live.course)) }
         {

@@ -2,7 +2,7 @@
 #![tactic(auto)]
 
 ghost use Rattle.std.specs.Prelude.{◌≤◌, IsOkUnless};
-ghost use Rattle.clk_packet.specs.Limits.{most_capacity};
+ghost use Rattle.clk_packet.specs.declared.limits.TheConstants.{MAX_CAPACITY};
 ghost use Rattle.clk_ring.specs.QueueHistory.{NamesOffer};
 
 use clk_packet::{Fault, Kind, Offered, Packet};
@@ -24,7 +24,7 @@ impl Locked {
     ///
     /// Fault 1 if an allocation fails.
     pub fn new(alloc: Global, kind: Kind, capacity: usize) -> Result<Locked, Fault>
-        requires capacity { (1 ≤ capacity) × (capacity ≤ most_capacity) }
+        requires capacity { (1 ≤ capacity) × (capacity ≤ MAX_CAPACITY) }
         ensures { IsOkUnless result Fault.Memory }
     {
         Ok(Locked {

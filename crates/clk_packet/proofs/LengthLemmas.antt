@@ -4,12 +4,12 @@ use Rattle.std.proofs.lemmas.Bool.{false≢true}
 use Rattle.std.proofs.lemmas.Bool.Decides.{nat_tests}
 use Rattle.std.proofs.lemmas.List.{append-nil, length-append, get_or-set_same, get_or-set_other}
 use Rattle.std.proofs.Math.Bridge.{le_prop}
-use Rattle.clk_packet.specs.Limits.{most_length}
+use Rattle.clk_packet.specs.declared.limits.TheConstants.{MAX_LENGTH, MAX_RECORDS}
 use Rattle.clk_packet.specs.declared.fault.Fault.{Fault}
 use Rattle.clk_packet.specs.declared.lengths.Length.{Length}
 use Rattle.clk_packet.specs.declared.packet.Packet.{Packet}
 use Rattle.clk_packet.specs.Dealt.{AreNumbered}
-use Rattle.clk_packet.specs.Trace.{most_records, packets_in, sent_by, sent_from, shown}
+use Rattle.clk_packet.specs.Trace.{packets_in, sent_by, sent_from, shown}
 use Rattle.clk_packet.specs.inside.Lengths.{IsAdded, IsWider, lengths_in, packet_of, packets_by, packets_from}
 
 -- the packets of a sender in a table
@@ -59,7 +59,7 @@ slice_get-packets_from s n (l ∷ more) (suc i) = let e : n + 1 + i ≡ n + suc 
 pub row-packet : (traces : List (List Packet)) (s n : ℕ) (lengths : List Length) → sent_by traces s ≡ packets_from s 0 lengths → slice_get (sent_by traces s) n ≡ option_map (packet_of s n) (slice_get lengths n)
 row-packet traces s n lengths is = let e : 0 + n ≡ n = omega arith in ap (λ ps. slice_get ps n) is ∙ slice_get-packets_from s 0 lengths n ∙ rw e refl
 
-pub packet-made : (s n : ℕ) (l : Length) (some : 1 ≤ l.bytes) (within : l.bytes ≤ most_length)
+pub packet-made : (s n : ℕ) (l : Length) (some : 1 ≤ l.bytes) (within : l.bytes ≤ MAX_LENGTH)
     → Some (record { number = n; sender = s; length = l.bytes; has_length = some; is_within = within }) ≡ Some (packet_of s n l)
 packet-made s n l some within = λ i. Some (record { number = n; sender = s; length = l.bytes; has_length = le_prop some l.has_bytes i; is_within = le_prop within l.is_within i })
 
@@ -129,7 +129,7 @@ lengths_in-same (first ∷ more) zero = refl
 lengths_in-same (first ∷ more) (suc i) = let e = lengths_in-same more i in omega (arith, e)
 
 pub set-few : (old table : List (List Length)) (i : ℕ) (lengths : List Length) (l : Length) (r : Result (Unit {0}) Fault) → IsWider old table → i < length table → OnOk r (lengths ≡ get_or table i [] ++ l ∷ [])
-    → OnErr r (lengths ≡ get_or table i []) → packets_in (packets_by 0 old) < most_records → packets_in (packets_by 0 (set table i lengths)) ≤ most_records
+    → OnErr r (lengths ≡ get_or table i []) → packets_in (packets_by 0 old) < MAX_RECORDS → packets_in (packets_by 0 (set table i lengths)) ≤ MAX_RECORDS
 set-few old table i lengths l (Ok x) wider within added same few =
     let before = packets_in-table 0 old in
     let after = packets_in-table 0 (set table i lengths) in

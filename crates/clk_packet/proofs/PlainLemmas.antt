@@ -9,10 +9,10 @@ use Rattle.csv.specs.declared.parser.State.{State}
 use Rattle.csv.specs.declared.parser.State.TheVariants as st
 use Rattle.csv.specs.declared.parser.Action.TheVariants as act
 use Rattle.csv.proofs.ReadFacts.{run-copies}
-use Rattle.clk_packet.specs.Limits.{most_sender, most_length}
+use Rattle.clk_packet.specs.declared.limits.TheConstants.{MAX_SENDER, MAX_LENGTH, MAX_RECORDS}
 use Rattle.clk_packet.specs.inside.Plain.{IsPlainLine}
 use Rattle.clk_packet.specs.inside.Lengths.{IsAdded}
-use Rattle.clk_packet.specs.Trace.{most_records, pair_in, record_fault}
+use Rattle.clk_packet.specs.Trace.{pair_in, record_fault}
 use Rattle.clk_packet.specs.declared.packet.Packet.{Packet}
 use Rattle.clk_packet.proofs.DigitLemmas.{AreDigits, first-digit, number-digits}
 use Rattle.clk_packet.proofs.TraceLemmas.{Goes, IsRead, Stands, Stands-end, Stands-more, Stands-none}
@@ -60,8 +60,8 @@ next-fields sender size rest are also =
 fields-plain : (text : List ℕ) (sender size : ℕ) (rest : List ℕ) (h : IsPlainLine text sender size rest)
     → next_record default_config st.StartRecord [] [] text ≡ Some (h.sender_is.digits ∷ h.size_is.digits ∷ [], st.StartRecord, rest)
 fields-plain text sender size rest h =
-    let first = number-digits 0 most_sender h.sender_is.digits sender h.sender_is.number_is in
-    let second = number-digits 1 most_length h.size_is.digits size h.size_is.number_is in
+    let first = number-digits 0 MAX_SENDER h.sender_is.digits sender h.sender_is.number_is in
+    let second = number-digits 1 MAX_LENGTH h.size_is.digits size h.size_is.number_is in
     let text_is : text ≡ h.sender_is.digits ++ 44 ∷ (h.size_is.digits ++ 10 ∷ rest) = h.sender_is.text_is ∙ ap (λ middle. h.sender_is.digits ++ 44 ∷ middle) h.size_is.text_is in
     ap (next_record default_config st.StartRecord [] []) text_is ∙ next-fields h.sender_is.digits h.size_is.digits rest first second
 
@@ -89,7 +89,7 @@ StandsPlain-none text unmarked = Stands-none text st.StartRecord (Some text) ref
 
 -- one plain line more
 pub StandsPlain-more : (text : List ℕ) (row : ℕ) (rest : List ℕ) (traces : List (List Packet)) (sender size : ℕ) (after : List ℕ) (new : List (List Packet))
-    → row ≤ most_records → StandsPlain text row rest traces → IsPlainLine rest sender size after → IsAdded traces sender size new → StandsPlain text (row + 1) after new
+    → row ≤ MAX_RECORDS → StandsPlain text row rest traces → IsPlainLine rest sender size after → IsAdded traces sender size new → StandsPlain text (row + 1) after new
 StandsPlain-more text row rest traces sender size after new few stands line added unmarked =
     Stands-more text row st.StartRecord st.StartRecord (Some rest) (Some after) both (sender, size) traces new here goes sound says added
   where
@@ -97,7 +97,7 @@ StandsPlain-more text row rest traces sender size after new few stands line adde
     both = line.sender_is.digits ∷ line.size_is.digits ∷ []
 
     first : AreDigits line.sender_is.digits
-    first = number-digits 0 most_sender line.sender_is.digits sender line.sender_is.number_is
+    first = number-digits 0 MAX_SENDER line.sender_is.digits sender line.sender_is.number_is
 
     here : Stands text row st.StartRecord (Some rest) traces
     here = stands (ap strip_bom line.sender_is.text_is ∙ marked-not line.sender_is.digits (44 ∷ line.middle) first ∙ sym line.sender_is.text_is)
@@ -113,7 +113,7 @@ StandsPlain-more text row rest traces sender size after new few stands line adde
     says = rw (line.sender_is.number_is, line.size_is.number_is) refl
 
     sound : record_fault row both ≡ None
-    sound = let within : nat_lt most_records row ≡ false = grind (arith, nat_tests) in rw (within, says) refl
+    sound = let within : nat_lt MAX_RECORDS row ≡ false = grind (arith, nat_tests) in rw (within, says) refl
 
 -- no line is left
 pub StandsPlain-end : (text : List ℕ) (row : ℕ) (rest : List ℕ) (traces : List (List Packet)) → length rest ≡ 0 → StandsPlain text row rest traces → IsRead text traces

@@ -11,7 +11,8 @@ use Rattle.csv.specs.declared.parser.State.TheVariants as st
 use Rattle.csv.proofs.ReadFacts.{rows-more}
 use Rattle.clk_packet.specs.Bytes.{read_failures}
 use Rattle.clk_packet.specs.inside.Lengths.{IsAdded}
-use Rattle.clk_packet.specs.Trace.{ExplainsTrace, bad_unless, first_fault, most_records, most_trace_bytes, packets_in, pair_in, pairs_of, record_fault, records_of, sent, sent_by, sent_from, shown, trace_fault}
+use Rattle.clk_packet.specs.Trace.{ExplainsTrace, bad_unless, first_fault, packets_in, pair_in, pairs_of, record_fault, records_of, sent, sent_by, sent_from, shown, trace_fault}
+use Rattle.clk_packet.specs.declared.limits.TheConstants.{MAX_RECORDS, MAX_TRACE_BYTES}
 use Rattle.clk_packet.specs.declared.fault.Fault.{Fault}
 use Rattle.clk_packet.specs.declared.fault.Fault.TheVariants.{Memory, TooLarge, BadTrace}
 use Rattle.clk_packet.specs.declared.packet.Packet.{Packet}
@@ -130,34 +131,34 @@ Stands-end text row s left traces h none =
       sent_is = λ sender. sym (h.sent_is sender ∙ ap (λ rs. shown (sent_by traces sender) ++ sent_from sender (length (sent_by traces sender)) (filter_map pair_in rs)) end ∙ append-nil (shown (sent_by traces sender)));
     }
 
-pub row-few : (row : ℕ) (fields : List (List ℕ)) → record_fault row fields ≡ None → row ≤ most_records
-row-few row fields e = by_test (nat_lt most_records row) refl
+pub row-few : (row : ℕ) (fields : List (List ℕ)) → record_fault row fields ≡ None → row ≤ MAX_RECORDS
+row-few row fields e = by_test (nat_lt MAX_RECORDS row) refl
   where
-    by_test : (b : Bool) → nat_lt most_records row ≡ b → row ≤ most_records
+    by_test : (b : Bool) → nat_lt MAX_RECORDS row ≡ b → row ≤ MAX_RECORDS
     by_test true f = absurd (cc (rw f at e))
     by_test false f = grind (arith, nat_tests)
 
 -- a text that isn't too long
-pub trace_fault-short : (text : List ℕ) → length text ≤ most_trace_bytes → trace_fault text ≡ first_fault 1 (records_of text)
+pub trace_fault-short : (text : List ℕ) → length text ≤ MAX_TRACE_BYTES → trace_fault text ≡ first_fault 1 (records_of text)
 trace_fault-short text short =
-    let no : nat_lt most_trace_bytes (length text) ≡ false = grind (arith, nat_tests) in
+    let no : nat_lt MAX_TRACE_BYTES (length text) ≡ false = grind (arith, nat_tests) in
     rw no refl
 
 -- one byte past the limit is enough to tell what is wrong
-trace-cut : (all : List ℕ) → trace_fault (take (most_trace_bytes + 1) all) ≡ trace_fault all
-trace-cut all = by_test (nat_lt most_trace_bytes (length all)) refl
+trace-cut : (all : List ℕ) → trace_fault (take (MAX_TRACE_BYTES + 1) all) ≡ trace_fault all
+trace-cut all = by_test (nat_lt MAX_TRACE_BYTES (length all)) refl
   where
-    by_test : (b : Bool) → nat_lt most_trace_bytes (length all) ≡ b → trace_fault (take (most_trace_bytes + 1) all) ≡ trace_fault all
+    by_test : (b : Bool) → nat_lt MAX_TRACE_BYTES (length all) ≡ b → trace_fault (take (MAX_TRACE_BYTES + 1) all) ≡ trace_fault all
     by_test true e =
-        let cut : nat_lt most_trace_bytes (length (take (most_trace_bytes + 1) all)) ≡ true = rw length-take (grind (arith, nat_tests)) in
+        let cut : nat_lt MAX_TRACE_BYTES (length (take (MAX_TRACE_BYTES + 1) all)) ≡ true = rw length-take (grind (arith, nat_tests)) in
         rw (cut, e) refl
     by_test false e = ap trace_fault (take_all 33554433 all (grind (arith, nat_tests)))
 
 -- a trace that isn't too long is read whole
-whole : (all : List ℕ) → trace_fault (take (most_trace_bytes + 1) all) ≡ None → take (most_trace_bytes + 1) all ≡ all
-whole all e = by_test (nat_lt most_trace_bytes (length all)) refl
+whole : (all : List ℕ) → trace_fault (take (MAX_TRACE_BYTES + 1) all) ≡ None → take (MAX_TRACE_BYTES + 1) all ≡ all
+whole all e = by_test (nat_lt MAX_TRACE_BYTES (length all)) refl
   where
-    by_test : (b : Bool) → nat_lt most_trace_bytes (length all) ≡ b → take (most_trace_bytes + 1) all ≡ all
+    by_test : (b : Bool) → nat_lt MAX_TRACE_BYTES (length all) ≡ b → take (MAX_TRACE_BYTES + 1) all ≡ all
     by_test true f =
         let too_large : trace_fault all ≡ Some TooLarge = rw f refl in
         let none = sym (trace-cut all) ∙ e in
@@ -165,15 +166,15 @@ whole all e = by_test (nat_lt most_trace_bytes (length all)) refl
     by_test false f = take_all 33554433 all (grind (arith, nat_tests))
 
 -- what was read of the first bytes is what the text says
-sound-known : (known : Option (List ℕ)) (bytes : List ℕ) → IfSome known (λ all. bytes ≡ take (most_trace_bytes + 1) all) → trace_fault bytes ≡ None → IfSome known (λ text. trace_fault text ≡ None)
+sound-known : (known : Option (List ℕ)) (bytes : List ℕ) → IfSome known (λ all. bytes ≡ take (MAX_TRACE_BYTES + 1) all) → trace_fault bytes ≡ None → IfSome known (λ text. trace_fault text ≡ None)
 sound-known None bytes is sound = tt
 sound-known (Some all) bytes is sound = sym (trace-cut all) ∙ ap trace_fault (sym is) ∙ sound
 
-sent-known : (known : Option (List ℕ)) (bytes : List ℕ) (traces : List (List Packet)) → IfSome known (λ all. bytes ≡ take (most_trace_bytes + 1) all) → trace_fault bytes ≡ None
+sent-known : (known : Option (List ℕ)) (bytes : List ℕ) (traces : List (List Packet)) → IfSome known (λ all. bytes ≡ take (MAX_TRACE_BYTES + 1) all) → trace_fault bytes ≡ None
     → ((s : ℕ) → shown (sent_by traces s) ≡ sent s (pairs_of bytes)) → IfSome known (λ text. (s : ℕ) → shown (sent_by traces s) ≡ sent s (pairs_of text))
 sent-known None bytes traces is sound h = tt
 sent-known (Some all) bytes traces is sound h =
-    let here : trace_fault (take (most_trace_bytes + 1) all) ≡ None = ap trace_fault (sym is) ∙ sound in
+    let here : trace_fault (take (MAX_TRACE_BYTES + 1) all) ≡ None = ap trace_fault (sym is) ∙ sound in
     subst (λ (text : List ℕ). (s : ℕ) → shown (sent_by traces s) ≡ sent s (pairs_of text)) (is ∙ whole all here) h
 
 -- the faults that a trace may have
@@ -183,13 +184,13 @@ IsOfTrace (BadTrace row) = Unit {0}
 IsOfTrace fault = ⊥
 
 of_record : (row : ℕ) (fields : List (List ℕ)) → IfSome (record_fault row fields) IsOfTrace
-of_record row fields = by_test (nat_lt most_records row) refl
+of_record row fields = by_test (nat_lt MAX_RECORDS row) refl
   where
     by_pair : (o : Option (ℕ × ℕ)) → pair_in fields ≡ o → IfSome (bad_unless row (pair_in fields)) IsOfTrace
     by_pair None e = rw e tt
     by_pair (Some pair) e = rw e tt
 
-    by_test : (b : Bool) → nat_lt most_records row ≡ b → IfSome (record_fault row fields) IsOfTrace
+    by_test : (b : Bool) → nat_lt MAX_RECORDS row ≡ b → IfSome (record_fault row fields) IsOfTrace
     by_test true e = rw e tt
     by_test false e = rw e (by_pair (pair_in fields) refl)
 
@@ -202,9 +203,9 @@ of_first row (fields ∷ rows) = by_fault (record_fault row fields) refl (of_rec
     by_fault (Some fault) e here rest = rw e (rw e at here)
 
 of_trace : (text : List ℕ) → IfSome (trace_fault text) IsOfTrace
-of_trace text = by_test (nat_lt most_trace_bytes (length text)) refl
+of_trace text = by_test (nat_lt MAX_TRACE_BYTES (length text)) refl
   where
-    by_test : (b : Bool) → nat_lt most_trace_bytes (length text) ≡ b → IfSome (trace_fault text) IsOfTrace
+    by_test : (b : Bool) → nat_lt MAX_TRACE_BYTES (length text) ≡ b → IfSome (trace_fault text) IsOfTrace
     by_test true e = rw e tt
     by_test false e = rw e (of_first 1 (records_of text))
 
@@ -213,7 +214,7 @@ record IsRefusal (known : Option (List ℕ)) (fault : Fault) : Type 0 where
   pub explains : ExplainsTrace known fault
   pub reads : (n : ℕ) → read_failures {T = List (List Packet)} (Err fault) n ≡ n
 
-named : (known : Option (List ℕ)) (bytes : List ℕ) (fault : Fault) → IfSome known (λ all. bytes ≡ take (most_trace_bytes + 1) all) → trace_fault bytes ≡ Some fault
+named : (known : Option (List ℕ)) (bytes : List ℕ) (fault : Fault) → IfSome known (λ all. bytes ≡ take (MAX_TRACE_BYTES + 1) all) → trace_fault bytes ≡ Some fault
     → IfSome known (λ all. trace_fault all ≡ Some fault)
 named None bytes fault is e = tt
 named (Some all) bytes fault is e = sym (trace-cut all) ∙ ap trace_fault (sym is) ∙ e
@@ -223,7 +224,7 @@ by_kind known TooLarge kind h = record { explains = h; reads = λ n. refl }
 by_kind known (BadTrace row) kind h = record { explains = h; reads = λ n. refl }
 by_kind known fault kind h = absurd kind
 
-IsRefusal-trace : (known : Option (List ℕ)) (bytes : List ℕ) (fault : Fault) → IfSome known (λ all. bytes ≡ take (most_trace_bytes + 1) all) → (fault ≡ Memory) ⊎ (trace_fault bytes ≡ Some fault)
+IsRefusal-trace : (known : Option (List ℕ)) (bytes : List ℕ) (fault : Fault) → IfSome known (λ all. bytes ≡ take (MAX_TRACE_BYTES + 1) all) → (fault ≡ Memory) ⊎ (trace_fault bytes ≡ Some fault)
     → IsRefusal known fault
 IsRefusal-trace known bytes fault is (inl e) = subst (λ (f : Fault). IsRefusal known f) (sym e) (record { explains = tt; reads = λ n. refl })
 IsRefusal-trace known bytes fault is (inr e) =
@@ -234,12 +235,12 @@ IsRefusal-trace known bytes fault is (inr e) =
 pub record IsAnswer (known : Option (List ℕ)) (r : Result (List (List Packet)) Fault) : Type 0 where
   pub sound : OnOk r (IfSome known (λ text. trace_fault text ≡ None))
   pub sent_is : IfOk r (λ traces. IfSome known (λ text. (s : ℕ) → shown (sent_by traces s) ≡ sent s (pairs_of text)))
-  pub within : IfOk r (λ traces. packets_in traces ≤ most_records)
+  pub within : IfOk r (λ traces. packets_in traces ≤ MAX_RECORDS)
   pub explains : IfErr r (ExplainsTrace known)
   pub reads : (n : ℕ) → read_failures r n ≡ n
 
-pub IsAnswer-of : (known : Option (List ℕ)) (bytes : List ℕ) (r : Result (List (List Packet)) Fault) → IfSome known (λ all. bytes ≡ take (most_trace_bytes + 1) all)
-    → MatchResult r (λ traces. (trace_fault bytes ≡ None) × ((s : ℕ) → shown (sent_by traces s) ≡ sent s (pairs_of bytes)) × (packets_in traces ≤ most_records)) (λ fault. (fault ≡ Memory) ⊎ (trace_fault bytes ≡ Some fault))
+pub IsAnswer-of : (known : Option (List ℕ)) (bytes : List ℕ) (r : Result (List (List Packet)) Fault) → IfSome known (λ all. bytes ≡ take (MAX_TRACE_BYTES + 1) all)
+    → MatchResult r (λ traces. (trace_fault bytes ≡ None) × ((s : ℕ) → shown (sent_by traces s) ≡ sent s (pairs_of bytes)) × (packets_in traces ≤ MAX_RECORDS)) (λ fault. (fault ≡ Memory) ⊎ (trace_fault bytes ≡ Some fault))
     → IsAnswer known r
 IsAnswer-of known bytes (Ok traces) is h = record { sound = sound-known known bytes is h.0; sent_is = sent-known known bytes traces is h.0 h.1; within = h.2; explains = tt; reads = λ n. refl }
 IsAnswer-of known bytes (Err fault) is h =

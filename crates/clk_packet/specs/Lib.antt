@@ -6,7 +6,6 @@ pub mod Examples
 pub mod Failing
 pub mod Fault
 pub mod Io
-pub mod Limits
 pub mod Lists
 pub mod Numbers
 pub mod Packets

@@ -2,7 +2,7 @@
 use Rattle.std.specs.Prelude.{◌≡◌, ℕ, ◌≤◌, List, [], ◌∷◌, length, replicate, Option, Some, None, if◌then◌else◌, codes, ⊤}
 use Rattle.std.specs.List.{AllByRecursion}
 use Rattle.std.specs.Str.{bytes_eq}
-use Rattle.clk_packet.specs.Limits.{most_quantum, most_tickets, most_rate, most_burst, default_quantum}
+use Rattle.clk_packet.specs.declared.limits.TheConstants.{MAX_QUANTUM, MAX_TICKETS, MAX_RATE, MAX_BURST, DEFAULT_QUANTUM}
 use Rattle.clk_packet.specs.declared.scheduler.SchedulerName.{SchedulerName}
 use Rattle.clk_packet.specs.declared.scheduler.SchedulerName.TheVariants as named
 use Rattle.clk_packet.specs.declared.scheduler.Scheduler as declared
@@ -62,16 +62,16 @@ arguments_of (shaper rate burst) = rate ∷ burst ∷ []
 abbrev pub most_argument : SchedulerName → ℕ
 most_argument named.Prio = 0
 most_argument named.RoundRobin = 0
-most_argument named.Drr = most_quantum
-most_argument named.Stride = most_tickets
-most_argument named.Shaper = most_rate
+most_argument named.Drr = MAX_QUANTUM
+most_argument named.Stride = MAX_TICKETS
+most_argument named.Shaper = MAX_RATE
 
 -- A scheduler with these arguments, if it takes so many. A DRRSched without any has the default quantum, and a Shaper with one has its rate
 -- as its burst.
 abbrev pub scheduler_with : SchedulerName → List ℕ → Option Scheduler
 scheduler_with named.Prio [] = Some prio
 scheduler_with named.RoundRobin [] = Some round_robin
-scheduler_with named.Drr [] = Some (drr (default_quantum ∷ []))
+scheduler_with named.Drr [] = Some (drr (DEFAULT_QUANTUM ∷ []))
 scheduler_with named.Drr (quantum ∷ more) = Some (drr (quantum ∷ more))
 scheduler_with named.Stride (tickets ∷ more) = Some (stride (tickets ∷ more))
 scheduler_with named.Shaper (rate ∷ []) = Some (shaper rate rate)
@@ -103,7 +103,7 @@ over_inputs s inputs = s
 
 -- the arguments of a scheduler over so many inputs are within their limits: those for inputs are one for each
 abbrev pub HasArguments : Scheduler → ℕ → Type 0
-HasArguments (drr quanta) inputs = (length quanta ≡ inputs) × AllByRecursion (λ n. (1 ≤ n) × (n ≤ most_quantum)) quanta
-HasArguments (stride tickets) inputs = (length tickets ≡ inputs) × AllByRecursion (λ n. (1 ≤ n) × (n ≤ most_tickets)) tickets
-HasArguments (shaper rate burst) inputs = (inputs ≡ 1) × ((1 ≤ rate) × (rate ≤ most_rate)) × ((1 ≤ burst) × (burst ≤ most_burst))
+HasArguments (drr quanta) inputs = (length quanta ≡ inputs) × AllByRecursion (λ n. (1 ≤ n) × (n ≤ MAX_QUANTUM)) quanta
+HasArguments (stride tickets) inputs = (length tickets ≡ inputs) × AllByRecursion (λ n. (1 ≤ n) × (n ≤ MAX_TICKETS)) tickets
+HasArguments (shaper rate burst) inputs = (inputs ≡ 1) × ((1 ≤ rate) × (rate ≤ MAX_RATE)) × ((1 ≤ burst) × (burst ≤ MAX_BURST))
 HasArguments s inputs = ⊤

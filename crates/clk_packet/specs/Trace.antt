@@ -3,20 +3,11 @@ use Rattle.std.specs.Prelude.{ℕ, ◌+◌, List, [], ◌∷◌, length, map, �
 use Rattle.std.specs.Option.{option_or}
 use Rattle.std.specs.List.{filter_map}
 use Rattle.csv.specs.Reading.{default_config, records, strip_bom}
-use Rattle.clk_packet.specs.Limits.{most_sender, most_length}
+use Rattle.clk_packet.specs.declared.limits.TheConstants.{MAX_SENDER, MAX_LENGTH, MAX_TRACE_BYTES, MAX_RECORDS}
 use Rattle.clk_packet.specs.Numbers.{number_in}
-use Rattle.clk_packet.specs.declared.limits.TheConstants.{MAX_TRACE_BYTES, MAX_RECORDS}
 use Rattle.clk_packet.specs.declared.packet.Packet.{Packet}
 use Rattle.clk_packet.specs.declared.fault.Fault.{Fault}
 use Rattle.clk_packet.specs.declared.fault.Fault.TheVariants.{Memory, Read, TooLarge, BadTrace}
-
--- how many bytes a trace may have
-abbrev pub most_trace_bytes : ℕ
-most_trace_bytes = MAX_TRACE_BYTES
-
--- how many records a trace may have
-abbrev pub most_records : ℕ
-most_records = MAX_RECORDS
 
 -- The records of a text, each a list of fields: lines of fields between commas, as the crate csv reads them without a header row. A byte
 -- order mark at the front and empty lines are no records.
@@ -31,7 +22,7 @@ pair_of (Some sender) (Some size) = Some (sender, size)
 
 -- what a record says: two fields, a sender's number and the length of its next packet in bytes
 abbrev pub pair_in : List (List ℕ) → Option (ℕ × ℕ)
-pair_in (sender ∷ size ∷ []) = pair_of (number_in 0 most_sender sender) (number_in 1 most_length size)
+pair_in (sender ∷ size ∷ []) = pair_of (number_in 0 MAX_SENDER sender) (number_in 1 MAX_LENGTH size)
 pair_in fields = None
 
 -- fault 14 at this record, unless it says a sender and a length
@@ -41,7 +32,7 @@ bad_unless row (Some pair) = None
 
 -- what is wrong with a record, by its number: it is one too many, whatever it holds, or it doesn't say a sender and a length
 abbrev pub record_fault : ℕ → List (List ℕ) → Option Fault
-record_fault row fields = if nat_lt most_records row then Some TooLarge else bad_unless row (pair_in fields)
+record_fault row fields = if nat_lt MAX_RECORDS row then Some TooLarge else bad_unless row (pair_in fields)
 
 -- the fault of the first record that has one, if the records are counted from a number on
 abbrev pub first_fault : ℕ → List (List (List ℕ)) → Option Fault
@@ -50,7 +41,7 @@ first_fault row (fields ∷ more) = option_or (record_fault row fields) (first_f
 
 -- What is wrong with a trace: it has too many bytes, or else the fault of the first record that has one.
 abbrev pub trace_fault : List ℕ → Option Fault
-trace_fault text = if nat_lt most_trace_bytes (length text) then Some TooLarge else first_fault 1 (records_of text)
+trace_fault text = if nat_lt MAX_TRACE_BYTES (length text) then Some TooLarge else first_fault 1 (records_of text)
 
 -- the senders and lengths that a trace tells, in order
 abbrev pub pairs_of : List ℕ → List (ℕ × ℕ)

@@ -1,7 +1,7 @@
 //! Lengths of packets, two bytes each.
 
 ghost use Rattle.std.specs.Prelude.{◌≤◌};
-ghost use Rattle.clk_packet.specs.Limits.{most_length};
+ghost use Rattle.clk_packet.specs.declared.limits.TheConstants.{MAX_LENGTH};
 
 use crate::fault::Fault;
 use std::alloc::Global;
@@ -13,7 +13,7 @@ pub struct Length {
     /// In bytes, from 1 to 65,535.
     pub bytes: u16,
     ghost has_bytes: { 1 ≤ bytes },
-    ghost is_within: { bytes ≤ most_length },
+    ghost is_within: { bytes ≤ MAX_LENGTH },
 }
 
 /// The lengths of a sender's packets, in order.

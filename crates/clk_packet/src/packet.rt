@@ -1,6 +1,6 @@
 //! Packets, kinds of queues, and results of an offer.
 ghost use Rattle.std.specs.Prelude.{◌≤◌};
-ghost use Rattle.clk_packet.specs.Limits.{most_length};
+ghost use Rattle.clk_packet.specs.declared.limits.TheConstants.{MAX_LENGTH};
 
 /// A packet: its sender, its place among that sender's packets, and its length. Contents aren't kept.
 // The number stands first so that a packet takes eight bytes.
@@ -14,7 +14,7 @@ pub struct Packet {
     pub length: u16,
     ghost has_length: { 1 ≤ length },
     // The type says so of any `u16`. It is stated here for laws of lengths to cite.
-    ghost is_within: { length ≤ most_length },
+    ghost is_within: { length ≤ MAX_LENGTH },
 }
 
 /// What a queue does with a packet that arrives when it is full.

@@ -23,14 +23,15 @@ pub struct Traces {
 impl Model for Traces {
     ghost use Rattle.std.specs.Prelude.{List, ◌≤◌};
     ghost use Rattle.clk_packet.specs.declared.packet.Packet.{Packet};
-    ghost use Rattle.clk_packet.specs.Trace.{packets_in, most_records};
+    ghost use Rattle.clk_packet.specs.Trace.{packets_in};
+    ghost use Rattle.clk_packet.specs.declared.limits.TheConstants.{MAX_RECORDS};
     ghost use Rattle.clk_packet.specs.inside.Lengths.{packets_by};
 
     ghost Value = { List (List Packet) };
 
     ghost view = { λ traces. packets_by 0 traces.senders.items };
 
-    ghost invariant = { λ traces. packets_in (packets_by 0 traces.senders.items) ≤ most_records };
+    ghost invariant = { λ traces. packets_in (packets_by 0 traces.senders.items) ≤ MAX_RECORDS };
 }
 
 impl Traces {
@@ -38,7 +39,8 @@ impl Traces {
     ghost use Rattle.clk_packet.specs.Bytes.{Takes, read_failures};
     ghost use Rattle.clk_packet.specs.Dealt.{AreNumbered};
     ghost use Rattle.clk_packet.specs.inside.Lengths.{IsAdded};
-    ghost use Rattle.clk_packet.specs.Trace.{ExplainsTrace, most_records, most_trace_bytes, packets_in, pairs_of, sent, sent_by, shown, trace_fault};
+    ghost use Rattle.clk_packet.specs.Trace.{ExplainsTrace, packets_in, pairs_of, sent, sent_by, shown, trace_fault};
+    ghost use Rattle.clk_packet.specs.declared.limits.TheConstants.{MAX_RECORDS, MAX_TRACE_BYTES};
 
     /// Reads a trace to its end: a record for each packet, with its sender's number, from 0 to 65,535, and its length in bytes, from 1
     /// to 65,535. A sender's packets are counted from 0. Records are lines of fields between commas, as `csv` reads them without a
@@ -52,14 +54,14 @@ impl Traces {
     pub fn read_csv<R: Source>(alloc: Global, reader: &mut R) -> Result<Traces, Fault>
         ensures sound { OnOk result (IfSome (R.Source.remaining reader.old) (λ text. trace_fault text ≡ None)) }
         ensures sent { IfOk result (λ traces. IfSome (R.Source.remaining reader.old) (λ text. (s : _) → shown (sent_by traces s) ≡ sent s (pairs_of text))) }
-        ensures within { IfOk result (λ traces. packets_in traces ≤ most_records) }
+        ensures within { IfOk result (λ traces. packets_in traces ≤ MAX_RECORDS) }
 
         // Each fault has its cause.
         ensures fault { IfErr result (ExplainsTrace (R.Source.remaining reader.old)) }
         ensures failures { R.Source.failures reader.new ≡ read_failures result (R.Source.failures reader.old) }
 
         // The reader is read to one byte past the limit at most.
-        ensures limit { Takes (most_trace_bytes + 1) (R.Source.remaining reader.old) (R.Source.remaining reader.new) }
+        ensures limit { Takes (MAX_TRACE_BYTES + 1) (R.Source.remaining reader.old) (R.Source.remaining reader.new) }
     {
         let text = read_up_to(alloc, reader, MAX_TRACE_BYTES + 1)?;
         let traces = read_text(alloc, &text);
@@ -70,7 +72,7 @@ impl Traces {
     /// How many packets a sender sends; all senders together send at most 1,000,000. Takes constant time.
     pub fn count(&self, sender: u16) -> u32
         ensures count { result ≡ length (sent_by self.now sender) }
-        ensures within { packets_in self.now ≤ most_records }
+        ensures within { packets_in self.now ≤ MAX_RECORDS }
     {
         match self.senders.get(usize::from(sender)) {
             Some(lengths) => lengths.len() as u32,
@@ -112,7 +114,7 @@ impl Traces {
 
     /// Adds the next packet of a sender. Fault 1 if an allocation fails.
     fn add(&mut self, alloc: Global, sender: u16, length: Length) -> Result<(), Fault>
-        requires room { packets_in self.old < most_records }
+        requires room { packets_in self.old < MAX_RECORDS }
         ensures added { OnOk result (IsAdded self.old sender length.bytes self.new) }
         ensures fault { IsOkUnless result Fault.Memory }
     {

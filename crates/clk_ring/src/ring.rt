@@ -31,7 +31,7 @@ impl Model for Ring {
 
 impl Ring {
     ghost use Rattle.std.specs.Prelude.{◌≡◌, ◌≤◌, ◌↔◌, length, [], IsTrue, IfOk, IsOkUnless};
-    ghost use Rattle.clk_packet.specs.Limits.{most_capacity};
+    ghost use Rattle.clk_packet.specs.declared.limits.TheConstants.{MAX_CAPACITY};
     ghost use Rattle.clk_ring.specs.Queue.{empty_queue, IsOffered, IsPulled};
 
     /// An empty queue of this kind that holds at most `capacity` packets, from 1 to 1,000,000. Its memory is allocated here.
@@ -40,7 +40,7 @@ impl Ring {
     ///
     /// Fault 1 if an allocation fails.
     pub fn new(alloc: Global, kind: Kind, capacity: usize) -> Result<Ring, Fault>
-        requires capacity { (1 ≤ capacity) × (capacity ≤ most_capacity) }
+        requires capacity { (1 ≤ capacity) × (capacity ≤ MAX_CAPACITY) }
         ensures empty { IfOk result (λ ring. ring ≡ empty_queue kind capacity) }
         ensures fault { IsOkUnless result Fault.Memory }
     {

@@ -8,7 +8,7 @@ use Rattle.clk_packet.specs.declared.packet.Offered.{Offered}
 use Rattle.clk_packet.specs.declared.packet.Offered.TheVariants.{Accepted, Refused, Evicted}
 use Rattle.clk_tree.specs.declared.plan.parts.SenderSpec.{SenderSpec}
 use Rattle.clk_tree.specs.PlanParts.{number_of}
-use Rattle.clk_router.specs.Course.{end_of_packets}
+use Rattle.clk_router.specs.declared.limits.TheConstants.{END_OF_PACKETS}
 use Rattle.clk_router.specs.Events.{Setup, Event, offered, pulled, IsOfSender, sender_numbers, numbers_of, events_at, accepted_in, happens_at}
 use Rattle.clk_router.specs.inside.Parts.{HasSentFew, sender_after}
 
@@ -79,7 +79,7 @@ offered-few (s ∷ specs) events few = let rest = offered-few specs events few.1
 
 -- So a device has accepted fewer packets than it takes.
 pub never-full : (setup : Setup) (events : List Event) (d : ℕ) → AllByRecursion (IsOfSender setup) events → AllByRecursion HasSentFew (map (sender_after events) setup.senders) → length setup.senders ≤ 2 ^ 16
-    → length (filter_map accepted_in (events_at setup d events)) < end_of_packets
+    → length (filter_map accepted_in (events_at setup d events)) < END_OF_PACKETS
 never-full setup events d all few senders =
     let accepted = accepted-few setup d events all in
     let sent = offered-few setup.senders events few in

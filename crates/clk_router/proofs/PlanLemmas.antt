@@ -2,7 +2,7 @@
 use Rattle.std.proofs.Common.{◌≡◌, ℕ, ◌+◌, ◌≤◌, ◌<◌, ◌⊎◌, inl, inr, List, [], ◌∷◌, ◌++◌, length, map, zero, suc, Some, slice_get, refl, sym, ap, ◌∙◌, subst, arith, rules}
 use Rattle.std.specs.List.{AllByRecursion}
 use Rattle.std.proofs.lemmas.List.{length-append, length-map}
-use Rattle.clk_packet.specs.Limits.{most_elements, most_capacity}
+use Rattle.clk_packet.specs.declared.limits.TheConstants.{MAX_ELEMENTS, MAX_CAPACITY}
 use Rattle.clk_sched.specs.Tree.{Tree}
 use Rattle.clk_tree.specs.declared.plan.parts.SenderSpec.{SenderSpec}
 use Rattle.clk_tree.specs.Plan.{Planned}
@@ -38,13 +38,13 @@ all-rooms : (n : ℕ) (queues : List Queued) → AllByRecursion (λ (q : Queued)
 all-rooms n [] h = tt
 all-rooms n (q ∷ queues) h = (h.0, all-rooms n queues h.1)
 
-all-fit : (queues : List Queued) → AllByRecursion HasCapacity queues → AllByRecursion (λ (room : Room). room.capacity ≤ most_capacity) (map room_of queues)
+all-fit : (queues : List Queued) → AllByRecursion HasCapacity queues → AllByRecursion (λ (room : Room). room.capacity ≤ MAX_CAPACITY) (map room_of queues)
 all-fit [] h = tt
 all-fit (q ∷ queues) h = (h.0.1, all-fit queues h.1)
 
 -- a router can run over a plan
-pub plan-whole : (names : List (List ℕ)) (plan : List Planned) (trees : List Tree) (queues : List Queued) (senders : List SenderSpec) → AreTreesOf plan trees → 1 ≤ length trees → length trees ≤ most_elements → queues ≡ queues_of plan → AreRising (map number_of senders)
-    → AllByRecursion (SendsWithin (length (queues_of plan))) senders → AllByRecursion (λ (q : Queued). q.device < device_count plan) (queues_of plan) → length (queues_of plan) ≤ most_elements → AllByRecursion HasCapacity (queues_of plan)
+pub plan-whole : (names : List (List ℕ)) (plan : List Planned) (trees : List Tree) (queues : List Queued) (senders : List SenderSpec) → AreTreesOf plan trees → 1 ≤ length trees → length trees ≤ MAX_ELEMENTS → queues ≡ queues_of plan → AreRising (map number_of senders)
+    → AllByRecursion (SendsWithin (length (queues_of plan))) senders → AllByRecursion (λ (q : Queued). q.device < device_count plan) (queues_of plan) → length (queues_of plan) ≤ MAX_ELEMENTS → AllByRecursion HasCapacity (queues_of plan)
     → IsWhole (setup_of names trees queues senders)
 plan-whole names plan trees queues senders are some few its rising wired paths queues_few capacities = record {
   some = some;

@@ -7,7 +7,7 @@ use Rattle.clk_packet.specs.declared.packet.Packet.{Packet}
 use Rattle.clk_sched.specs.Conservation.{ConservesCounts}
 use Rattle.clk_sched.specs.declared.session.departures.Departure.{Departure}
 use Rattle.clk_sched.specs.Session.{SessionLists, progress_of, pulls_made}
-use Rattle.clk_sched.specs.Limits.{end_of_pulls, end_of_drains}
+use Rattle.clk_sched.specs.declared.limits.TheConstants.{END_OF_PULLS, END_OF_DRAINS}
 use Rattle.clk_sched.specs.Log.{pulls, visits_of, result_of}
 use Rattle.clk_sched.specs.Results.{emitted}
 use Rattle.clk_sched.specs.Run.{IsRun}
@@ -45,7 +45,7 @@ module _ (setup : Setup) (events : List Event) (parts : Parts) (stand : Stand se
   made : pulls_made (progress_of its.member.session) ≡ pulls_at (course setup events parts) d
   made = ap (λ l. length (pulls l)) there.is.log ∙ ap length there.runs.pull_by_pull
 
-  pub pulls-when : pulls_at (course setup events parts) d < end_of_pulls → CanPullAt parts.keeps (slice_get parts.devices.items d)
+  pub pulls-when : pulls_at (course setup events parts) d < END_OF_PULLS → CanPullAt parts.keeps (slice_get parts.devices.items d)
   pulls-when few = subst (CanPullAt parts.keeps) (sym its.here) (keeps, let m = made in omega (arith, m, few))
 
   -- what is kept is what came out and what is left
@@ -76,7 +76,7 @@ module _ (setup : Setup) (events : List Event) (parts : Parts) (stand : Stand se
         let few = can.left in
         let pulls = can.pulls in
         subst (CanCloseAt moment) (sym its.here)
-        (least, omega (arith, kept, o, few), subst (λ n. max n moment < end_of_drains) (sym latest) can.moments, omega (arith, m, pulls))
+        (least, omega (arith, kept, o, few), subst (λ n. max n moment < END_OF_DRAINS) (sym latest) can.moments, omega (arith, m, pulls))
 
 -- a sender that can offer a packet
 module _ (setup : Setup) (events : List Event) (parts : Parts) (stand : Stand setup events parts) (place : ℕ) (can : CanOffer (course setup events parts) place) where

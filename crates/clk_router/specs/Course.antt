@@ -7,7 +7,7 @@ use Rattle.clk_sched.specs.declared.session.departures.Departure.{Departure}
 use Rattle.clk_sched.specs.declared.session.keeps.Keeps.{Keeps}
 use Rattle.clk_sched.specs.declared.visit.Visit.{Visit}
 use Rattle.clk_sched.specs.Departures.{departures_in}
-use Rattle.clk_sched.specs.Limits.{most_left, end_of_moments, end_of_drains, end_of_pulls, end_of_drained_pulls}
+use Rattle.clk_sched.specs.declared.limits.TheConstants.{MAX_LEFT, END_OF_MOMENTS, END_OF_DRAINS, END_OF_PULLS, END_OF_DRAINED_PULLS}
 use Rattle.clk_sched.specs.Log.{visits_of, moment_of, result_of}
 use Rattle.clk_sched.specs.Results.{emitted}
 use Rattle.clk_sched.specs.Session.{latest_of}
@@ -75,29 +75,25 @@ its_device queues (Some s) = option_map room_device (slice_get queues s.queue)
 abbrev pub device_at : Setup → ℕ → Option ℕ
 device_at setup place = its_device setup.queues (slice_get setup.senders place)
 
--- A device takes one more packet only if fewer packets than this were accepted there and not evicted, those that it emitted included.
-abbrev pub end_of_packets : ℕ
-end_of_packets = END_OF_PACKETS
-
 -- The sender at a place can offer a packet: it exists, has offered fewer than 2^32 - 1 packets, and its device takes one more.
 pub record CanOffer (c : Course) (place : ℕ) : Type 0 where
   pub there : place < length c.setup.senders
   pub numbers : (sender : ℕ) → sender_at c.setup place ≡ Some sender → length (numbers_of sender c.events) + 1 < 2 ^ 32
-  pub packets : (device : ℕ) → device_at c.setup place ≡ Some device → accepted_at c device < end_of_packets + evicted_at c device
+  pub packets : (device : ℕ) → device_at c.setup place ≡ Some device → accepted_at c device < END_OF_PACKETS + evicted_at c device
 
 -- A device can be pulled at a moment: it exists, the moment is below 2^44, and it was pulled fewer than 2^63 times.
 pub record CanPull (c : Course) (device moment : ℕ) : Type 0 where
   pub there : device < length c.setup.trees
-  pub moments : moment < end_of_moments
-  pub pulls : pulls_at c device < end_of_pulls
+  pub moments : moment < END_OF_MOMENTS
+  pub pulls : pulls_at c device < END_OF_PULLS
 
 -- A device can be drained from a moment on: it exists, no more is left than a drain may emit, and neither moments nor its pulls are near
 -- their end.
 pub record CanClose (c : Course) (device moment : ℕ) : Type 0 where
   pub there : device < length c.setup.trees
-  pub left : accepted_at c device ≤ evicted_at c device + emitted_at c device + most_left
-  pub moments : max (moment_at c device) moment < end_of_drains
-  pub pulls : pulls_at c device < end_of_drained_pulls
+  pub left : accepted_at c device ≤ evicted_at c device + emitted_at c device + MAX_LEFT
+  pub moments : max (moment_at c device) moment < END_OF_DRAINS
+  pub pulls : pulls_at c device < END_OF_DRAINED_PULLS
 
 -- A router was made over a plan.
 pub record IsOpened (plan : List Planned) (keeps : Keeps) (c : Course) : Type 0 where

@@ -19,12 +19,12 @@ pub struct RouterDevice {
 
 impl RouterDevice {
     ghost use Rattle.std.specs.Prelude.{◌≡◌, ◌+◌, ◌<◌};
-    ghost use Rattle.clk_router.specs.Course.{end_of_packets};
+    ghost use Rattle.clk_router.specs.declared.limits.TheConstants.{END_OF_PACKETS};
     ghost use Rattle.clk_router.specs.inside.Parts.{kept_by};
 
     /// Counts an offer with this outcome to one of its queues.
     pub fn count(&mut self, outcome: Offered)
-        requires { self.old.kept < end_of_packets }
+        requires { self.old.kept < END_OF_PACKETS }
         ensures kept { self.new.kept ≡ self.old.kept + kept_by outcome }
         ensures session { self.new.session ≡ self.old.session }
     {

@@ -34,7 +34,7 @@ impl Parts {
     ghost use Rattle.std.specs.Prelude.{◌≡◌, ℕ, ◌+◌, ◌<◌, ◌≤◌, ◌++◌, List, ◌∷◌, [], Some, map, length, slice_get, IfOk, OnErr, IsOk, IsOkUnless, false};
     ghost use Rattle.std.specs.List.{AllByRecursion};
     ghost use Rattle.clk_sched.specs.Keeps.{grows};
-    ghost use Rattle.clk_sched.specs.Limits.{end_of_moments};
+    ghost use Rattle.clk_sched.specs.declared.limits.TheConstants.{END_OF_MOMENTS};
     ghost use Rattle.clk_sched.specs.Results.{emitted};
     ghost use Rattle.clk_tree.specs.PlanParts.{queued, HasCapacity};
     ghost use Rattle.clk_router.specs.Events.{Setup, Event, offered, setup_of};
@@ -94,7 +94,7 @@ impl Parts {
     #[inline(always)]
     pub fn pull(&mut self, device: u16, moment: u64) -> Result<Option<Packet>, Fault>
         requires can { CanPullAt self.old.keeps (slice_get self.old.devices.items device) }
-        requires moment { moment < end_of_moments }
+        requires moment { moment < END_OF_MOMENTS }
         ensures leads { IfOk result (λ got. (setup : Setup) (events : _) → IsAt setup events self.old → LeadsOnByPull setup self.new device moment got events) }
         ensures keeps { self.new.keeps ≡ self.old.keeps }
         ensures fault { IsOkUnless result Fault.Memory }

@@ -2,7 +2,7 @@
 
 ghost use Rattle.std.specs.Prelude.{◌≡◌, ◌≤◌, length, IfOk, IsOkUnless};
 ghost use Rattle.std.specs.List.{AllByRecursion};
-ghost use Rattle.clk_packet.specs.Limits.{most_elements};
+ghost use Rattle.clk_packet.specs.declared.limits.TheConstants.{MAX_ELEMENTS};
 ghost use Rattle.clk_packet.specs.declared.fault.Fault.TheVariants.{Memory};
 ghost use Rattle.clk_tree.specs.Shares.{AreTreesOf};
 ghost use Rattle.clk_router.specs.inside.Parts.{CanStand};
@@ -44,10 +44,10 @@ impl Model for Router {
 
 impl Router {
     ghost use Rattle.std.specs.Prelude.{◌≡◌, ℕ, ◌+◌, ◌^◌, ◌<◌, ◌≤◌, List, ◌∷◌, [], Some, None, true, false, map, length, IfSome, IfOk, OnErr, IsOk, IsOkUnless};
-    ghost use Rattle.clk_packet.specs.Limits.{most_elements, most_capacity};
+    ghost use Rattle.clk_packet.specs.declared.limits.TheConstants.{MAX_ELEMENTS, MAX_CAPACITY};
     ghost use Rattle.clk_sched.specs.declared.visit.Visit.{Visit};
     ghost use Rattle.clk_sched.specs.Keeps.{grows};
-    ghost use Rattle.clk_sched.specs.Limits.{end_of_moments};
+    ghost use Rattle.clk_sched.specs.declared.limits.TheConstants.{END_OF_MOMENTS};
     ghost use Rattle.clk_sched.specs.Results.{emitted};
     ghost use Rattle.clk_packet.specs.Lists.{AreRising};
     ghost use Rattle.clk_router.specs.Course.{after, events_of, sender_at, accepted_at, evicted_at, emitted_at, moment_at, latest_visits, device_at, CanOffer, CanPull, CanClose, IsOpened, IsPulled, IsClosed, IsQueueState};
@@ -97,7 +97,7 @@ impl Router {
     pub fn devices(&self) -> usize
         ensures count { result ≡ length self.now.setup.trees }
         ensures some { 1 ≤ result }
-        ensures few { result ≤ most_elements }
+        ensures few { result ≤ MAX_ELEMENTS }
     {
         self.parts.devices.len()
     }
@@ -290,7 +290,7 @@ impl Router {
     pub fn moment(&self, device: u16) -> u64
         requires { device < length self.now.setup.trees }
         ensures moment { result ≡ moment_at self.now device }
-        ensures limit { result < end_of_moments }
+        ensures limit { result < END_OF_MOMENTS }
     {
         self.parts.devices[usize::from(device)].session.now()
     }
@@ -298,7 +298,7 @@ impl Router {
     /// How many queues it has.
     pub fn queues(&self) -> usize
         ensures count { result ≡ length self.now.setup.queues }
-        ensures few { result ≤ most_elements }
+        ensures few { result ≤ MAX_ELEMENTS }
     {
         self.parts.paths.len()
     }
@@ -307,7 +307,7 @@ impl Router {
     pub fn queue(&self, number: u16) -> QueueState
         requires { number < length self.now.setup.queues }
         ensures state { IsQueueState self.now number result }
-        ensures capacity { result.capacity ≤ most_capacity }
+        ensures capacity { result.capacity ≤ MAX_CAPACITY }
         ensures held { result.held ≤ result.capacity }
     {
         let number = usize::from(number);
@@ -370,7 +370,7 @@ fn trees_of(alloc: Global, plan: &Plan) -> Result<Vec<Tree>, Fault>
     ensures trees { IfOk result (λ trees. AreTreesOf plan.now trees.items) }
     ensures each { IfOk result (λ trees. AllByRecursion CanStand trees.items) }
     ensures some { IfOk result (λ trees. 1 ≤ length trees.items) }
-    ensures few { IfOk result (λ trees. length trees.items ≤ most_elements) }
+    ensures few { IfOk result (λ trees. length trees.items ≤ MAX_ELEMENTS) }
     ensures fault { IsOkUnless result Memory }
 {
     let mut trees = Vec::new(alloc);

@@ -2,7 +2,7 @@
 
 ghost use Rattle.std.specs.Prelude.{◌≡◌, ◌≤◌, [], ◌∷◌, ◌++◌, true, false, min, max, IfOk, OnOk, IsOkUnless};
 ghost use Rattle.crossbeam_queue.specs.Passes.{view, IsPassOf, IsSamePass};
-ghost use Rattle.clk_packet.specs.Limits.{most_capacity};
+ghost use Rattle.clk_packet.specs.declared.limits.TheConstants.{MAX_CAPACITY};
 ghost use Rattle.clk_packet.specs.Lists.{stands_in, AreRising};
 ghost use Rattle.clk_ruled.specs.Rooms.{named_in, room_of, rooms_in_all};
 ghost use Rattle.clk_ruled.specs.Queue.{setup_of, empty_seat};
@@ -61,7 +61,7 @@ fn seat_for<S: Sending>(
 
 // How many packets may be offered in all.
 fn room_in_all(senders: &[(u16, u32)]) -> u32
-    requires { rooms_in_all senders.now ≤ most_capacity }
+    requires { rooms_in_all senders.now ≤ MAX_CAPACITY }
     ensures { result ≡ rooms_in_all senders.now }
 {
     let mut rest = senders;
@@ -155,9 +155,9 @@ impl RuledQueue {
         capacity: u32,
         senders: &[(u16, u32)],
     ) -> Result<Opened, Fault>
-        requires capacity { (1 ≤ capacity) × (capacity ≤ most_capacity) }
+        requires capacity { (1 ≤ capacity) × (capacity ≤ MAX_CAPACITY) }
         requires rising { AreRising (named_in senders.now) }
-        requires room { rooms_in_all senders.now ≤ most_capacity }
+        requires room { rooms_in_all senders.now ≤ MAX_CAPACITY }
         ensures opened { IfOk result (λ opened. IsOpened (setup_of kind capacity senders.now) opened.queue opened.seats.items opened.tap) }
         ensures keeps { IfOk result (λ opened. opened.tap.keeps ≡ true) }
         ensures fault { IsOkUnless result Fault.Memory }
@@ -177,9 +177,9 @@ impl RuledQueue {
         senders: &[(u16, u32)],
         keeps: bool,
     ) -> Result<Opened, Fault>
-        requires capacity { (1 ≤ capacity) × (capacity ≤ most_capacity) }
+        requires capacity { (1 ≤ capacity) × (capacity ≤ MAX_CAPACITY) }
         requires rising { AreRising (named_in senders.now) }
-        requires room { rooms_in_all senders.now ≤ most_capacity }
+        requires room { rooms_in_all senders.now ≤ MAX_CAPACITY }
         ensures opened { IfOk result (λ opened. IsOpened (setup_of kind capacity senders.now) opened.queue opened.seats.items opened.tap) }
         ensures keeps { IfOk result (λ opened. opened.tap.keeps ≡ keeps) }
         ensures fault { IsOkUnless result Fault.Memory }

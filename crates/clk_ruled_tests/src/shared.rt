@@ -1,7 +1,7 @@
 //! A shared queue on one thread, as the tests call it.
 
 ghost use Rattle.std.specs.Prelude.{◌≡◌, ◌≤◌};
-ghost use Rattle.clk_packet.specs.Limits.{most_capacity};
+ghost use Rattle.clk_packet.specs.declared.limits.TheConstants.{MAX_CAPACITY};
 ghost use Rattle.clk_packet.specs.Lists.{AreRising};
 ghost use Rattle.clk_ruled.specs.Rooms.{named_in, rooms_in_all};
 
@@ -60,9 +60,9 @@ impl Shared {
         capacity: u32,
         senders: &[(u16, u32)],
     ) -> Result<Shared, Fault>
-        requires capacity { (1 ≤ capacity) × (capacity ≤ most_capacity) }
+        requires capacity { (1 ≤ capacity) × (capacity ≤ MAX_CAPACITY) }
         requires rising { AreRising (named_in senders.now) }
-        requires room { rooms_in_all senders.now ≤ most_capacity }
+        requires room { rooms_in_all senders.now ≤ MAX_CAPACITY }
     {
         calls_keep_together();
         let Opened { queue, seats, tap } = RuledQueue::open(alloc, kind, capacity, senders)?;
@@ -76,9 +76,9 @@ impl Shared {
         capacity: u32,
         senders: &[(u16, u32)],
     ) -> Result<Shared, Fault>
-        requires capacity { (1 ≤ capacity) × (capacity ≤ most_capacity) }
+        requires capacity { (1 ≤ capacity) × (capacity ≤ MAX_CAPACITY) }
         requires rising { AreRising (named_in senders.now) }
-        requires room { rooms_in_all senders.now ≤ most_capacity }
+        requires room { rooms_in_all senders.now ≤ MAX_CAPACITY }
     {
         calls_keep_together();
         let Opened { queue, seats, tap } = RuledQueue::open_keeping(

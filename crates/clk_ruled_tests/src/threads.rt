@@ -1,7 +1,7 @@
 //! Seats of one queue, each in a thread of its own, and the tap in the test's.
 
 ghost use Rattle.std.specs.Prelude.{◌≡◌, ◌+◌, ◌<◌, ◌≤◌, IfOk};
-ghost use Rattle.clk_packet.specs.Limits.{most_capacity};
+ghost use Rattle.clk_packet.specs.declared.limits.TheConstants.{MAX_CAPACITY};
 ghost use Rattle.clk_packet.specs.Lists.{AreRising};
 ghost use Rattle.clk_ruled.specs.Rooms.{named_in, rooms_in_all};
 ghost use Rattle.clk_ruled.specs.Queue.{IsSeatOf, IsTapOf};
@@ -225,9 +225,9 @@ fn share<R: Threads + Wait + Abort + Sync>(
     senders: &[(u16, u32)],
     capacity: u32,
 ) -> Result<(), Fail>
-    requires capacity { (1 ≤ capacity) × (capacity ≤ most_capacity) }
+    requires capacity { (1 ≤ capacity) × (capacity ≤ MAX_CAPACITY) }
     requires rising { AreRising (named_in senders.now) }
-    requires room { rooms_in_all senders.now ≤ most_capacity }
+    requires room { rooms_in_all senders.now ≤ MAX_CAPACITY }
 {
     let Opened { queue, seats, tap } = RuledQueue::open(alloc, kind, capacity, senders)?;
     let (tap, closed) = run(rt, &queue, tap, seats)?;
@@ -255,7 +255,7 @@ fn share_queues<R: Threads + Wait + Abort + Sync>(
     senders: &[(u16, u32)],
 ) -> Result<(), Fail>
     requires rising { AreRising (named_in senders.now) }
-    requires room { rooms_in_all senders.now ≤ most_capacity }
+    requires room { rooms_in_all senders.now ≤ MAX_CAPACITY }
 {
     for kind in [Kind::TailDrop, Kind::FrontDrop] {
         share(rt, alloc, kind, senders, 1)?;

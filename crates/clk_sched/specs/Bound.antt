@@ -1,7 +1,7 @@
 -- How many pulls a drain of a tree makes at most (this project's own bound).
 use Rattle.std.specs.Prelude.{ℕ, ◌+◌, ◌*◌, ◌-◌, ◌/◌, List, [], map, fold, max}
 use Rattle.std.specs.List.{flat_map}
-use Rattle.clk_packet.specs.Limits.{most_length}
+use Rattle.clk_packet.specs.declared.limits.TheConstants.{MAX_LENGTH}
 use Rattle.clk_packet.specs.Scheduler.{Scheduler, drr}
 use Rattle.clk_sched.specs.Tree.{Tree, PlacedScheduler, schedulers_of, root, height}
 
@@ -12,7 +12,7 @@ quanta_of class = []
 
 -- the rounds that a packet may need at an input with this quantum: the greatest length over the quantum, rounded up, plus 1
 abbrev pub rounds_for : ℕ → ℕ
-rounds_for quantum = 1 + (most_length + (quantum - 1)) / quantum
+rounds_for quantum = 1 + (MAX_LENGTH + (quantum - 1)) / quantum
 
 -- the most rounds that a packet may need at an input of a tree: 1 without a DRRSched
 abbrev pub rounds : Tree → ℕ

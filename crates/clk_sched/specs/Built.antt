@@ -2,7 +2,7 @@
 use Rattle.std.specs.Prelude.{ℕ, List, [], ◌∷◌, length, nat_lt, Result, Ok, Err, suc, if◌then◌else◌}
 use Rattle.clk_packet.specs.declared.fault.Fault.{Fault}
 use Rattle.clk_packet.specs.declared.fault.Fault.TheVariants.{TooLarge}
-use Rattle.clk_packet.specs.Limits.{most_inputs, most_levels}
+use Rattle.clk_packet.specs.declared.limits.TheConstants.{MAX_INPUTS, MAX_LEVELS}
 use Rattle.clk_packet.specs.Scheduler.{Scheduler}
 use Rattle.clk_sched.specs.Tree.{Row, end, leaf, node, Tree, queue, scheduler, height, leaves}
 
@@ -25,4 +25,4 @@ leaves_of (scheduler class inputs) = leaves inputs
 -- A scheduler over some trees, or fault 18 if they are too many or too many schedulers would stand on a path.
 unfoldable pub built : Scheduler → List Tree → Result Tree Fault
 built class children =
-    if nat_lt most_inputs (length children) then Err TooLarge else (if nat_lt most_levels (suc (height (row children))) then Err TooLarge else Ok (scheduler class (row children)))
+    if nat_lt MAX_INPUTS (length children) then Err TooLarge else (if nat_lt MAX_LEVELS (suc (height (row children))) then Err TooLarge else Ok (scheduler class (row children)))

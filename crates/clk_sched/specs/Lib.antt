@@ -1,5 +1,4 @@
 -- What a tree of schedulers is, and what its runs are.
-pub mod Limits
 pub mod Tree
 pub mod Stored
 pub mod Built

@@ -2,7 +2,7 @@
 -- runs of a tree.
 use Rattle.std.specs.Prelude.{◌≡◌, ℕ, ◌+◌, ◌-◌, ◌*◌, ◌<◌, ◌≤◌, ◌==◌, ◌&&◌, List, [], ◌∷◌, ◌++◌, length, reverse, max, ⊤, IsSome, if◌then◌else◌}
 use Rattle.std.specs.List.{AllByRecursion}
-use Rattle.clk_packet.specs.Limits.{most_length}
+use Rattle.clk_packet.specs.declared.limits.TheConstants.{MAX_LENGTH}
 use Rattle.clk_sched.specs.declared.visit.Visit.{Visit}
 use Rattle.clk_packet.specs.Scheduler.{Scheduler, drr, stride, shaper}
 use Rattle.clk_sched.specs.Tree.{Tree, PlacedScheduler, schedulers_of, width, is_number}
@@ -39,9 +39,9 @@ pub record SharesByDeficit (quanta : List ℕ) (inputs : ℕ) (turns : List Turn
   pub arrivals_near : (before range after : List Visit) → all_visits turns ≡ before ++ (range ++ after) → (i j : ℕ) → i < inputs → j < inputs
       → Near 1 (arrivals_in i (reverse before) range) (arrivals_in j (reverse before) range)
   pub deficit_bound : (before after : List Visit) (v : Visit) → all_visits turns ≡ before ++ v ∷ after
-      → (deficit : ℕ) × IsDeficit quanta (reverse before) v.input deficit × (deficit ≤ quantum_at quanta v.input + (most_length - 1))
+      → (deficit : ℕ) × IsDeficit quanta (reverse before) v.input deficit × (deficit ≤ quantum_at quanta v.input + (MAX_LENGTH - 1))
   pub bytes_near : (before range after : List Visit) → all_visits turns ≡ before ++ (range ++ after) → (i : ℕ) → i < inputs → AlwaysGets i range
-      → Near (quantum_at quanta i + (most_length - 1)) (bytes_in i range) (quantum_at quanta i * arrivals_in i (reverse before) range)
+      → Near (quantum_at quanta i + (MAX_LENGTH - 1)) (bytes_in i range) (quantum_at quanta i * arrivals_in i (reverse before) range)
 
 -- the largest stride of some inputs
 abbrev pub largest_stride : List ℕ → ℕ

@@ -3,7 +3,7 @@ use Rattle.std.specs.Prelude.{ℕ, ◌+◌, ◌≤◌, ◌==◌, ◌&&◌, ◌++
 use Rattle.std.specs.Option.{option_or}
 use Rattle.clk_packet.specs.Lists.{are_distinct}
 use Rattle.clk_packet.specs.Scheduler.{Scheduler, HasArguments}
-use Rattle.clk_packet.specs.Limits.{most_inputs}
+use Rattle.clk_packet.specs.declared.limits.TheConstants.{MAX_INPUTS}
 
 -- Inputs in order, and what stands at each: a queue, by its number, or a scheduler with inputs of its own.
 pub data Row : Type 0 where
@@ -89,11 +89,11 @@ IsSound end = ⊤
 IsSound (leaf q row) = IsSound row
 IsSound (node class inputs row) = (1 ≤ width inputs) × HasArguments class (width inputs) × IsSound inputs × IsSound row
 
--- Each scheduler of a row has from 1 to `most_inputs` inputs, and arguments within their limits. Every `Tree` of the code is well formed.
+-- Each scheduler of a row has from 1 to `MAX_INPUTS` inputs, and arguments within their limits. Every `Tree` of the code is well formed.
 abbrev pub IsWellFormed : Row → Type 0
 IsWellFormed end = ⊤
 IsWellFormed (leaf q row) = IsWellFormed row
-IsWellFormed (node class inputs row) = ((1 ≤ width inputs) × (width inputs ≤ most_inputs)) × HasArguments class (width inputs) × IsWellFormed inputs × IsWellFormed row
+IsWellFormed (node class inputs row) = ((1 ≤ width inputs) × (width inputs ≤ MAX_INPUTS)) × HasArguments class (width inputs) × IsWellFormed inputs × IsWellFormed row
 
 -- how many schedulers stand on the longest path through a row
 abbrev pub height : Row → ℕ

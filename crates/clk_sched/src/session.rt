@@ -51,7 +51,7 @@ pub struct Session {
 
 impl Model for Session {
     ghost use Rattle.std.specs.Prelude.{◌≡◌, ◌<◌, ◌≤◌, true, drop, length};
-    ghost use Rattle.clk_sched.specs.Limits.{end_of_moments};
+    ghost use Rattle.clk_sched.specs.declared.limits.TheConstants.{END_OF_MOMENTS};
     ghost use Rattle.clk_sched.specs.Tree.{leaves_distinct};
     ghost use Rattle.clk_sched.specs.inside.Places.{edges_of};
     ghost use Rattle.clk_sched.specs.inside.Session.{IsAfterRun};
@@ -71,7 +71,7 @@ impl Model for Session {
       gone = s.nodes.log.kind.gone;
     } };
 
-    ghost invariant = { λ s. IsAfterRun s.tree s.nodes × (s.nodes.moment < end_of_moments) × (leaves_distinct s.tree ≡ true)
+    ghost invariant = { λ s. IsAfterRun s.tree s.nodes × (s.nodes.moment < END_OF_MOMENTS) × (leaves_distinct s.tree ≡ true)
         × (s.emitted.keeps ≡ true → s.emitted.packets.items ≡ emitted_in s.nodes.log.items)
         × (s.emitted.count ≡ length (emitted_in s.nodes.log.items)) × (s.emitted.count ≤ s.nodes.pull)
         × (drop s.nodes.log.kind.start s.nodes.log.items ≡ latest_pull s.nodes.log.items)
@@ -80,9 +80,9 @@ impl Model for Session {
 
 impl Session {
     ghost use Rattle.std.specs.Prelude.{◌≡◌, ℕ, ◌+◌, ◌<◌, ◌≤◌, ◌^◌, true, false, [], drop, length, max, Ok, Err, IfOk, IfErr, OnOk, OnErr, IsOk, IsOkUnless};
-    ghost use Rattle.clk_packet.specs.Limits.{most_elements};
+    ghost use Rattle.clk_packet.specs.declared.limits.TheConstants.{MAX_ELEMENTS};
     ghost use Rattle.clk_sched.specs.Tree.{root, leaves_distinct, IsSound};
-    ghost use Rattle.clk_sched.specs.Limits.{most_left, end_of_moments, end_of_drains, end_of_pulls, end_of_drained_pulls};
+    ghost use Rattle.clk_sched.specs.declared.limits.TheConstants.{MAX_LEFT, END_OF_MOMENTS, END_OF_DRAINS, END_OF_PULLS, END_OF_DRAINED_PULLS};
     ghost use Rattle.clk_sched.specs.LaidOut.{IsRefused};
     ghost use Rattle.clk_sched.specs.Packed.{logged};
     ghost use Rattle.clk_sched.specs.Run.{IsRun};
@@ -106,9 +106,9 @@ impl Session {
     pub fn new(alloc: Global, tree: Tree) -> Result<Session, Fault>
         requires distinct { leaves_distinct tree ≡ true }
         ensures made { IfOk result (λ s. s ≡ record { tree = tree; log = []; keeps = keeps_all; gone = 0 }) }
-        ensures fits { IfOk result (λ s. 1 + elements (root tree) ≤ most_elements) }
+        ensures fits { IfOk result (λ s. 1 + elements (root tree) ≤ MAX_ELEMENTS) }
         ensures refused { IfErr result (λ fault. IsRefused tree fault) }
-        ensures too_large { most_elements < 1 + elements (root tree) → result ≡ Err Fault.TooLarge }
+        ensures too_large { MAX_ELEMENTS < 1 + elements (root tree) → result ≡ Err Fault.TooLarge }
     {
         Session::keeping(alloc, tree, Keeps::ALL)
     }
@@ -121,9 +121,9 @@ impl Session {
     pub fn keeping(alloc: Global, tree: Tree, keeps: Keeps) -> Result<Session, Fault>
         requires distinct { leaves_distinct tree ≡ true }
         ensures made { IfOk result (λ s. s ≡ record { tree = tree; log = []; keeps = keeps; gone = 0 }) }
-        ensures fits { IfOk result (λ s. 1 + elements (root tree) ≤ most_elements) }
+        ensures fits { IfOk result (λ s. 1 + elements (root tree) ≤ MAX_ELEMENTS) }
         ensures refused { IfErr result (λ fault. IsRefused tree fault) }
-        ensures too_large { most_elements < 1 + elements (root tree) → result ≡ Err Fault.TooLarge }
+        ensures too_large { MAX_ELEMENTS < 1 + elements (root tree) → result ≡ Err Fault.TooLarge }
     {
         let nodes = lay_out(alloc, &tree, keeps)?;
         Ok(Session {
@@ -142,14 +142,14 @@ impl Session {
     /// keeps nothing, or only the visits of the latest pull, allocates nothing.
     #[inline(always)]
     pub fn pull<Q: Ask>(&mut self, q: &mut Q, moment: u64) -> Result<Option<Packet>, Fault>
-        requires moment { moment < end_of_moments }
+        requires moment { moment < END_OF_MOMENTS }
         ensures pulled { IfOk result (IsPulledOnce (progress_of self.old) (progress_of self.new) moment) }
         ensures answers { OnOk result (Answers Q.gives (tree_queue self.old.tree) q.old (newly (progress_of self.old) (progress_of self.new)) q.new) }
         ensures keeps { self.new.keeps ≡ self.old.keeps }
         ensures gone { self.new.gone ≡ self.old.gone }
         ensures fault { IsOkUnless result Fault.Memory }
-        ensures steady { grows self.old.keeps ≡ false → pulls_made (progress_of self.old) < end_of_pulls → IsOk result }
-        ensures ended { end_of_pulls ≤ pulls_made (progress_of self.old) → result ≡ Err Fault.Memory }
+        ensures steady { grows self.old.keeps ≡ false → pulls_made (progress_of self.old) < END_OF_PULLS → IsOk result }
+        ensures ended { END_OF_PULLS ≤ pulls_made (progress_of self.old) → result ≡ Err Fault.Memory }
         ensures unchanged { OnErr result (self.new ≡ self.old) }
         ensures unasked { OnErr result (q.new ≡ q.old) }
     {
@@ -191,10 +191,10 @@ impl Session {
     /// made before. Fault 17, with the number of pulls, if `bound(left)` pulls emitted fewer packets. The session then holds the pulls that
     /// were made. Fault 17 never comes if `q` loses nothing, and the heads and the leaves of the tree together hold exactly `left` packets.
     pub fn drain<Q: Ask>(&mut self, q: &mut Q, left: u64, moment: u64) -> Result<u64, Fault>
-        requires left { left ≤ most_left }
-        requires moment { drain_start self.old moment < end_of_drains }
+        requires left { left ≤ MAX_LEFT }
+        requires moment { drain_start self.old moment < END_OF_DRAINS }
         ensures drained { HasDrained Q.gives Q.holds q.old q.new self.old self.new left moment result }
-        ensures steady { grows self.old.keeps ≡ false → pulls_made (progress_of self.old) < end_of_drained_pulls
+        ensures steady { grows self.old.keeps ≡ false → pulls_made (progress_of self.old) < END_OF_DRAINED_PULLS
             → IsOkUnless result (TooManyPulls (closing_bound self.old.tree left)) }
     {
         self.drain_to(q, &mut Departures::Dropped, left, moment)
@@ -208,10 +208,10 @@ impl Session {
         left: u64,
         moment: u64,
     ) -> Result<u64, Fault>
-        requires left { left ≤ most_left }
-        requires moment { drain_start self.old moment < end_of_drains }
+        requires left { left ≤ MAX_LEFT }
+        requires moment { drain_start self.old moment < END_OF_DRAINS }
         ensures drained { HasDrained Q.gives Q.holds q.old q.new self.old self.new left moment result }
-        ensures steady { grows self.old.keeps ≡ false → pulls_made (progress_of self.old) < end_of_drained_pulls → departures.old ≡ Dropped
+        ensures steady { grows self.old.keeps ≡ false → pulls_made (progress_of self.old) < END_OF_DRAINED_PULLS → departures.old ≡ Dropped
             → IsOkUnless result (TooManyPulls (closing_bound self.old.tree left)) }
         ensures departures { IsAddedTo departures.old (departures_in (pulls_since (progress_of self.old) (progress_of self.new))) departures.new }
     {
@@ -250,8 +250,8 @@ impl Session {
         left: u64,
         moment: u64,
     ) -> Result<Vec<Departure>, Fault>
-        requires left { left ≤ most_left }
-        requires moment { drain_start self.old moment < end_of_drains }
+        requires left { left ≤ MAX_LEFT }
+        requires moment { drain_start self.old moment < END_OF_DRAINS }
         ensures drained { (made : ℕ) × HasDrained Q.gives Q.holds q.old q.new self.old self.new left moment (after_pulls made result) }
         ensures departures { IfOk result (λ departures. departures.items ≡ departures_in (pulls_since (progress_of self.old) (progress_of self.new))) }
     {
@@ -267,7 +267,7 @@ impl Session {
     /// schedulers on the longest path, times the rounds that the packet may need. These are 1 without a DRRSched. Otherwise they are the
     /// greatest length over the least quantum, rounded up, plus 1.
     pub fn bound(&self, left: u64) -> u64
-        requires { left ≤ most_left }
+        requires { left ≤ MAX_LEFT }
         ensures value { result ≡ closing_bound self.now.tree left }
         ensures limit { result < 2 ^ 42 }
         ensures sound { IsSound (root self.now.tree) }
@@ -303,7 +303,7 @@ impl Session {
     /// The counted moment, in ticks: the latest at which the session was pulled, and 0 before the first pull.
     pub fn now(&self) -> u64
         ensures moment { result ≡ counted_moment (progress_of self.now) }
-        ensures limit { result < end_of_moments }
+        ensures limit { result < END_OF_MOMENTS }
     {
         self.nodes.moment
     }

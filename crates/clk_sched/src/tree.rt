@@ -5,7 +5,7 @@ mod distinct;
 mod drrs;
 
 ghost use Rattle.std.specs.Prelude.{◌≡◌, ◌≤◌, length};
-ghost use Rattle.clk_packet.specs.Limits.{most_quantum, most_tickets, most_rate, most_burst};
+ghost use Rattle.clk_packet.specs.declared.limits.TheConstants.{MAX_QUANTUM, MAX_TICKETS, MAX_RATE, MAX_BURST};
 ghost use Rattle.clk_packet.specs.Scheduler.{prio, round_robin, drr, stride, shaper};
 ghost use Rattle.clk_sched.specs.Tree.{queue, height, IsWellFormed};
 ghost use Rattle.clk_sched.specs.Built.{built, row};
@@ -41,12 +41,12 @@ impl Model for Tree {
 
     ghost use Rattle.clk_sched.specs.Tree.{root, IsWellFormed};
     ghost use Rattle.clk_sched.specs.Built.{levels};
-    ghost use Rattle.clk_packet.specs.Limits.{most_levels};
+    ghost use Rattle.clk_packet.specs.declared.limits.TheConstants.{MAX_LEVELS};
     ghost use Rattle.clk_sched.specs.inside.Kept.{kept};
 
     ghost view = { λ a. kept a.node };
 
-    ghost invariant = { λ a. (a.height ≡ levels (kept a.node)) × IsWellFormed (root (kept a.node)) × (a.height ≤ most_levels) };
+    ghost invariant = { λ a. (a.height ≡ levels (kept a.node)) × IsWellFormed (root (kept a.node)) × (a.height ≤ MAX_LEVELS) };
 
     ghost size = { levels };
 
@@ -104,7 +104,7 @@ impl Tree {
     pub fn drr(quanta: Vec<u32>, children: Vec<Tree>) -> Result<Tree, Fault>
         requires inputs { 1 ≤ length children.items }
         requires one_each { length quanta.items ≡ length children.items }
-        requires quanta { AllByRecursion (λ n. (1 ≤ n) × (n ≤ most_quantum)) quanta.items }
+        requires quanta { AllByRecursion (λ n. (1 ≤ n) × (n ≤ MAX_QUANTUM)) quanta.items }
         ensures { result ≡ built (drr quanta.items) children.items }
     {
         Tree::scheduler(Scheduler::Drr(quanta), children)
@@ -118,7 +118,7 @@ impl Tree {
     pub fn stride(tickets: Vec<u32>, children: Vec<Tree>) -> Result<Tree, Fault>
         requires inputs { 1 ≤ length children.items }
         requires one_each { length tickets.items ≡ length children.items }
-        requires tickets { AllByRecursion (λ n. (1 ≤ n) × (n ≤ most_tickets)) tickets.items }
+        requires tickets { AllByRecursion (λ n. (1 ≤ n) × (n ≤ MAX_TICKETS)) tickets.items }
         ensures { result ≡ built (stride tickets.items) children.items }
     {
         Tree::scheduler(Scheduler::Stride(tickets), children)
@@ -131,8 +131,8 @@ impl Tree {
     ///
     /// Fault 1 if an allocation fails, and fault 18 if more than 64 schedulers would stand on a path.
     pub fn shaper(alloc: Global, rate: u32, burst: u32, child: Tree) -> Result<Tree, Fault>
-        requires rate { (1 ≤ rate) × (rate ≤ most_rate) }
-        requires burst { (1 ≤ burst) × (burst ≤ most_burst) }
+        requires rate { (1 ≤ rate) × (rate ≤ MAX_RATE) }
+        requires burst { (1 ≤ burst) × (burst ≤ MAX_BURST) }
         ensures { (result ≡ Err Memory) ⊎ (result ≡ built (shaper rate burst) (child ∷ [])) }
     {
         let mut children = Vec::new(alloc);

@@ -1,7 +1,7 @@
 //! Trees with Shapers.
 
 ghost use Rattle.std.specs.Prelude.{◌≤◌};
-ghost use Rattle.clk_packet.specs.Limits.{most_burst};
+ghost use Rattle.clk_packet.specs.declared.limits.TheConstants.{MAX_BURST};
 
 use clk_fixtures::trees::{drr_over_one, drr_over_two};
 use clk_packet::Fault;
@@ -10,8 +10,8 @@ use std::alloc::Global;
 
 /// Two Shapers of one packet each tick and these bursts, the first over the second, over queue 0.
 pub fn shaper_over_shaper(alloc: Global, upper: u32, lower: u32) -> Result<Tree, Fault>
-    requires upper { (1 ≤ upper) × (upper ≤ most_burst) }
-    requires lower { (1 ≤ lower) × (lower ≤ most_burst) }
+    requires upper { (1 ≤ upper) × (upper ≤ MAX_BURST) }
+    requires lower { (1 ≤ lower) × (lower ≤ MAX_BURST) }
 {
     Tree::shaper(alloc, 1, upper, shaped(alloc, lower, Tree::leaf(0))?)
 }
@@ -61,7 +61,7 @@ pub fn shaped_turns(alloc: Global) -> Result<Tree, Fault> {
 
 // A Shaper of one packet each tick and this burst.
 fn shaped(alloc: Global, burst: u32, child: Tree) -> Result<Tree, Fault>
-    requires { (1 ≤ burst) × (burst ≤ most_burst) }
+    requires { (1 ≤ burst) × (burst ≤ MAX_BURST) }
 {
     Tree::shaper(alloc, 1, burst, child)
 }

@@ -1,13 +1,13 @@
 -- The script that records what happened, and the law that it means exactly that (this project's own).
 use Rattle.std.specs.Prelude.{ℕ, zero, suc, ◌+◌, ◌≤◌, ◌<◌, ◌^◌, List, [], ◌++◌, length, map, Option, Some, None, IfSome, codes, decimal}
 use Rattle.std.specs.List.{flat_map, filter_map, AllByRecursion}
-use Rattle.clk_packet.specs.Limits.{most_sender}
+use Rattle.clk_packet.specs.declared.limits.TheConstants.{MAX_SENDER}
 use Rattle.clk_sched.specs.Tree.{Tree}
 use Rattle.clk_tree.specs.Plan.{Planned}
 use Rattle.clk_router.specs.Events.{Setup, plan_setup, Event, offered, pulled, moment_in, IsOfSender, CanHappen, logs_of}
 use Rattle.clk_script.specs.declared.script.Command.{Command}
 use Rattle.clk_script.specs.declared.script.Command.TheVariants.{Send, Pull}
-use Rattle.clk_script.specs.Script.{most_lines, most_moment, most_device}
+use Rattle.clk_script.specs.declared.limits.TheConstants.{MAX_LINES, MAX_MOMENT, MAX_DEVICE}
 use Rattle.clk_script.specs.Meaning.{command_of, course_text, IsClosed, MeansWith, IsMeaning, MeansOverWith}
 
 -- how a line names the device that is pulled: device 0 by nothing, another by its number
@@ -41,20 +41,20 @@ handed_in (Pull device moment) = Some moment
 
 -- A record that has `lines` lines may go on with a line of this moment.
 pub record HasRoom (lines : ℕ) (moment : Option ℕ) : Type 0 where
-  pub few : lines < most_lines
-  pub early : IfSome moment (λ m. m ≤ most_moment)
+  pub few : lines < MAX_LINES
+  pub early : IfSome moment (λ m. m ≤ MAX_MOMENT)
 
 -- The moments that were handed in and that of the drain are in range, and there are at most as many lines as a script may have. The bytes
 -- of a record need no limit of their own, since a line has at most 25.
 pub record FitsLimits (events : List Event) (drain : Option ℕ) : Type 0 where
-  pub moments : AllByRecursion (λ moment. moment ≤ most_moment) (filter_map moment_in events)
-  pub last : IfSome drain (λ moment. moment ≤ most_moment)
-  pub few : length events + drain_count drain ≤ most_lines
+  pub moments : AllByRecursion (λ moment. moment ≤ MAX_MOMENT) (filter_map moment_in events)
+  pub last : IfSome drain (λ moment. moment ≤ MAX_MOMENT)
+  pub few : length events + drain_count drain ≤ MAX_LINES
 
 -- A line can name the sender of an offer, or the device of a pull. The sender is one of the setup, and both have numbers in range.
 abbrev pub FitsNames : Setup → Event → Type 0
-FitsNames setup (offered p outcome) = IsOfSender setup (offered p outcome) × (p.sender ≤ most_sender)
-FitsNames setup (pulled device moment visits) = device ≤ most_device
+FitsNames setup (offered p outcome) = IsOfSender setup (offered p outcome) × (p.sender ≤ MAX_SENDER)
+FitsNames setup (pulled device moment visits) = device ≤ MAX_DEVICE
 
 -- A script over the setup can record these events and this drain.
 pub record FitsScript (setup : Setup) (events : List Event) (drain : Option ℕ) : Type 0 where

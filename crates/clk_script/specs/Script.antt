@@ -4,7 +4,7 @@ use Rattle.std.specs.Option.{option_or}
 use Rattle.std.specs.List.{slice_split, filter_map, list_any}
 use Rattle.std.specs.Str.{bytes_eq}
 use Rattle.std.specs.Str.Lines.{lines}
-use Rattle.clk_packet.specs.Limits.{most_sender, most_length}
+use Rattle.clk_packet.specs.declared.limits.TheConstants.{MAX_SENDER, MAX_LENGTH}
 use Rattle.clk_packet.specs.Numbers.{has_bytes, number_in}
 use Rattle.clk_packet.specs.declared.fault.Fault.{Fault}
 use Rattle.clk_packet.specs.declared.fault.Fault.TheVariants.{TooLarge, BadScript, UnknownSender}
@@ -13,22 +13,6 @@ use Rattle.clk_script.specs.declared.script.Command.{Command}
 use Rattle.clk_script.specs.declared.script.Command.TheVariants.{Send, Pull}
 use Rattle.clk_script.specs.declared.script.ScriptLine.{ScriptLine}
 use Rattle.clk_script.specs.declared.script.ScriptLine.TheVariants as line
-
--- how many bytes a script may have at most
-abbrev pub most_script_bytes : ℕ
-most_script_bytes = MAX_SCRIPT_BYTES
-
--- how many lines a script may have at most
-abbrev pub most_lines : ℕ
-most_lines = MAX_LINES
-
--- the greatest moment that a script may name, in ticks
-abbrev pub most_moment : ℕ
-most_moment = MAX_MOMENT
-
--- the greatest number of a device that a line may hold
-abbrev pub most_device : ℕ
-most_device = MAX_DEVICE
 
 -- whether a byte is a space or a tab
 abbrev pub is_blank : ℕ → Bool
@@ -57,18 +41,18 @@ drain_of (Some moment) = line.Drain moment
 
 -- the line of the word `send` and these fields: a sender and a length
 abbrev pub sender_and_length : List (List ℕ) → ScriptLine
-sender_and_length (sender ∷ length ∷ []) = send_of (number_in 0 most_sender sender) (number_in 1 most_length length)
+sender_and_length (sender ∷ length ∷ []) = send_of (number_in 0 MAX_SENDER sender) (number_in 1 MAX_LENGTH length)
 sender_and_length arguments = line.Malformed
 
 -- the line of the word `pull` and these fields: a moment, and a device, which is device 0 if none is named
 abbrev pub moment_and_device : List (List ℕ) → ScriptLine
-moment_and_device (moment ∷ []) = pull_of (number_in 0 most_moment moment) (Some 0)
-moment_and_device (moment ∷ device ∷ []) = pull_of (number_in 0 most_moment moment) (number_in 0 most_device device)
+moment_and_device (moment ∷ []) = pull_of (number_in 0 MAX_MOMENT moment) (Some 0)
+moment_and_device (moment ∷ device ∷ []) = pull_of (number_in 0 MAX_MOMENT moment) (number_in 0 MAX_DEVICE device)
 moment_and_device arguments = line.Malformed
 
 -- the moment of the word `drain` and these fields, if they are one moment
 abbrev pub only_moment : List (List ℕ) → Option ℕ
-only_moment (moment ∷ []) = number_in 0 most_moment moment
+only_moment (moment ∷ []) = number_in 0 MAX_MOMENT moment
 only_moment arguments = None
 
 -- The line of these fields: `send S L`, `pull M`, `pull M D`, `drain M`, a blank line, or none of these.
@@ -103,7 +87,7 @@ line_fault names drained number (line.Drain moment) = if drained then Some (BadS
 
 -- The fault of the line with this number, if it has one: it is one line too many, whatever it says, or has a fault of its own.
 abbrev pub fault_at : Names → Bool → ℕ → ScriptLine → Option Fault
-fault_at names drained number l = if nat_lt most_lines number then Some TooLarge else line_fault names drained number l
+fault_at names drained number l = if nat_lt MAX_LINES number then Some TooLarge else line_fault names drained number l
 
 -- whether a line is a drain
 abbrev pub is_drain : ScriptLine → Bool
@@ -123,7 +107,7 @@ lines_of script = map line_of (lines script)
 
 -- The fault of a script, if it has one: it has too many bytes, or else the fault of the first line that has one.
 abbrev pub script_fault : Names → List ℕ → Option Fault
-script_fault names script = if nat_lt most_script_bytes (length script) then Some TooLarge else first_fault names false 1 (lines_of script)
+script_fault names script = if nat_lt MAX_SCRIPT_BYTES (length script) then Some TooLarge else first_fault names false 1 (lines_of script)
 
 -- the command of a line, if it is one
 abbrev pub command_in : ScriptLine → Option Command

@@ -4,7 +4,7 @@ ghost use Rattle.std.specs.Prelude.{◌≡◌, ◌≤◌, ◌∷◌, [], true, I
 ghost use Rattle.std.specs.List.{AllByRecursion};
 ghost use Rattle.clk_packet.specs.declared.fault.Fault.TheVariants.{Memory};
 ghost use Rattle.clk_report.specs.Devices.{lists_of};
-ghost use Rattle.clk_script.specs.Script.{most_lines, most_moment};
+ghost use Rattle.clk_script.specs.declared.limits.TheConstants.{MAX_LINES, MAX_MOMENT};
 ghost use Rattle.clk_router.specs.Events.{Setup};
 ghost use Rattle.clk_script.specs.inside.ScriptRouter.{names_in, IsReady, Starts};
 ghost use Rattle.clk_script.specs.inside.Rows.{asked_by, Answers, IsToDo, CanBeRun, AnswersRows, IsClosedFrom, IsClosedAt, closings_of};
@@ -45,7 +45,7 @@ pub fn answer_script(
     ensures answers { IfOk result (λ answer. (setup : Setup) → Starts setup script_router → Answers setup (asked_by script.rows.items) script.closing answer) }
     ensures drain { IfOk result (λ answer. answer.drain ≡ script.closing) }
     ensures packets { IfOk result (λ answer. answer.script_router.router.keeps.packets ≡ true) }
-    ensures rows { IfOk result (λ answer. length answer.rows.items ≤ most_lines) }
+    ensures rows { IfOk result (λ answer. length answer.rows.items ≤ MAX_LINES) }
     ensures closings { IfOk result (λ answer. IfSome answer.closing (λ closings. length closings.items ≡ length script_router.router.setup.trees)) }
     ensures fault { IsOkUnless result Fault.Memory }
 {
@@ -67,7 +67,7 @@ pub fn answer_script(
 fn carry_out(script_router: &mut ScriptRouter, rows: &mut [ScriptRow]) -> Result<(), Fault>
     requires fresh { (setup : Setup) × Starts setup script_router.old }
     requires to_do { AllByRecursion (IsToDo (names_in script_router.old)) rows.old }
-    requires few { length rows.old ≤ most_lines }
+    requires few { length rows.old ≤ MAX_LINES }
     ensures done { OnOk result (AnswersRows script_router.old script_router.new rows.old rows.new) }
     ensures fault { IsOkUnless result Fault.Memory }
 {
@@ -114,7 +114,7 @@ fn close(
     moment: Option<u64>,
 ) -> Result<Option<Vec<Vec<Departure>>>, Fault>
     requires ready { IsReady script_router.old }
-    requires moment { IfSome moment (λ m. m ≤ most_moment) }
+    requires moment { IfSome moment (λ m. m ≤ MAX_MOMENT) }
     ensures closed { IfOk result (λ closings. IsClosedFrom script_router.old script_router.new moment (closings_of closings)) }
     ensures fault { IsOkUnless result Fault.Memory }
 {
@@ -132,7 +132,7 @@ fn drain_all(
     moment: u64,
 ) -> Result<Vec<Vec<Departure>>, Fault>
     requires ready { IsReady script_router.old }
-    requires moment { moment ≤ most_moment }
+    requires moment { moment ≤ MAX_MOMENT }
     ensures closed { IfOk result (λ closings. IsClosedAt script_router.old script_router.new moment (lists_of closings.items)) }
     ensures fault { IsOkUnless result Fault.Memory }
 {

@@ -11,7 +11,7 @@ ghost use Rattle.clk_tree.specs.Shares.{AreTreesOf};
 ghost use Rattle.clk_packet.specs.Written.{WroteWhat};
 ghost use Rattle.clk_router.specs.Events.{Setup, Event, pulled, CanHappen, Closes, plan_setup};
 ghost use Rattle.clk_script.specs.declared.script.Command.{Command};
-ghost use Rattle.clk_script.specs.Script.{most_lines, most_moment};
+ghost use Rattle.clk_script.specs.declared.limits.TheConstants.{MAX_LINES, MAX_MOMENT};
 ghost use Rattle.clk_script.specs.Meaning.{CloseFirst, IsMeaning, MeansOver, MeansOverWith, Explains, ExplainsPlan, names_of, command_of};
 ghost use Rattle.clk_router.specs.Setups.{IsWired, IsApart};
 ghost use Rattle.clk_script.specs.OneMeaning.{HasAtMostOneMeaning, HasAtMostOneLog, DevicesAreApart};
@@ -74,10 +74,10 @@ pub fn records_of_plans_mean_their_course(plan: &Plan)
 pub fn records_grow()
     ensures command { (commands : List Command) (command : Command) → record_text (commands ++ command ∷ []) None ≡ record_text commands None ++ command_text command }
     ensures drain { (commands : List Command) (moment : ℕ) → record_text commands (Some moment) ≡ record_text commands None ++ drain_text (Some moment) }
-    ensures fits { (setup : Setup) (events : List Event) (event : Event) → FitsScript setup events None → FitsScript setup (event ∷ []) None → length events < most_lines → FitsScript setup (events ++ event ∷ []) None }
-    ensures fits_drain { (setup : Setup) (events : List Event) (moment : ℕ) → FitsScript setup events None → moment ≤ most_moment → length events < most_lines → FitsScript setup events (Some moment) }
-    ensures limits { (events : List Event) (event : Event) → FitsLimits events None → FitsLimits (event ∷ []) None → length events < most_lines → FitsLimits (events ++ event ∷ []) None }
-    ensures limits_drain { (events : List Event) (moment : ℕ) → FitsLimits events None → moment ≤ most_moment → length events < most_lines → FitsLimits events (Some moment) }
+    ensures fits { (setup : Setup) (events : List Event) (event : Event) → FitsScript setup events None → FitsScript setup (event ∷ []) None → length events < MAX_LINES → FitsScript setup (events ++ event ∷ []) None }
+    ensures fits_drain { (setup : Setup) (events : List Event) (moment : ℕ) → FitsScript setup events None → moment ≤ MAX_MOMENT → length events < MAX_LINES → FitsScript setup events (Some moment) }
+    ensures limits { (events : List Event) (event : Event) → FitsLimits events None → FitsLimits (event ∷ []) None → length events < MAX_LINES → FitsLimits (events ++ event ∷ []) None }
+    ensures limits_drain { (events : List Event) (moment : ℕ) → FitsLimits events None → moment ≤ MAX_MOMENT → length events < MAX_LINES → FitsLimits events (Some moment) }
 {}
 
 /// Over one device a script means what it means without numbers of devices: its pulls are a run of the one tree, and their lines are

@@ -4,7 +4,8 @@ ghost use Rattle.std.specs.Prelude.{◌≡◌, ◌≤◌, ◌+◌, ◌++◌, ◌
 ghost use Rattle.std.specs.List.{AllByRecursion};
 ghost use Rattle.clk_packet.specs.Bytes.{Takes, read_failures};
 ghost use Rattle.clk_packet.specs.Lists.{AreRising};
-ghost use Rattle.clk_script.specs.Script.{lines_of, command_fault, fault_at, most_lines, most_script_bytes};
+ghost use Rattle.clk_script.specs.Script.{lines_of, command_fault, fault_at};
+ghost use Rattle.clk_script.specs.declared.limits.TheConstants.{MAX_LINES, MAX_SCRIPT_BYTES};
 ghost use Rattle.clk_script.specs.inside.ScriptRouter.{named_by, IsReadable, IsReadableLine};
 ghost use Rattle.clk_script.specs.inside.Rows.{command_asked, asked_by, asked_in, rows_of, IsToDo};
 ghost use Rattle.clk_script.specs.inside.Reading.{AreRead, ReadsOn, HasCome, EndsAs, IsScriptOf, IsNotRead};
@@ -59,7 +60,7 @@ pub fn read_script<R: Source>(
     ensures read { MatchResult result (IsScriptOf (named_by numbers.now devices) (R.Source.remaining reader.old))
         (IsNotRead (named_by numbers.now devices) (R.Source.remaining reader.old)) }
     ensures failures { R.Source.failures reader.new ≡ read_failures result (R.Source.failures reader.old) }
-    ensures limit { Takes (most_script_bytes + 1) (R.Source.remaining reader.old) (R.Source.remaining reader.new) }
+    ensures limit { Takes (MAX_SCRIPT_BYTES + 1) (R.Source.remaining reader.old) (R.Source.remaining reader.new) }
 {
     let mut reading = Reading::new(alloc);
     let mut held = Vec::new(alloc);
@@ -251,7 +252,7 @@ fn row_in(
     requires readable { IsReadableLine line }
     ensures { MatchResult result
         (λ row. (fault_at (named_by numbers.now devices) drained number line ≡ None) × (asked_by (rows_of row) ≡ asked_in line)
-        × AllByRecursion (IsToDo (named_by numbers.now devices)) (rows_of row) × (number ≤ most_lines))
+        × AllByRecursion (IsToDo (named_by numbers.now devices)) (rows_of row) × (number ≤ MAX_LINES))
         (λ fault. fault_at (named_by numbers.now devices) drained number line ≡ Some fault) }
 {
     if number > MAX_LINES {

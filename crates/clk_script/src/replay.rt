@@ -4,11 +4,11 @@ ghost use Rattle.std.specs.Prelude.{◌≡◌, ℕ, ◌+◌, ◌-◌, ◌<◌, �
 ghost use Rattle.clk_packet.specs.Bytes.{Wrote};
 ghost use Rattle.clk_report.specs.VisitCsv.{rows_text, visits_text};
 ghost use Rattle.clk_sched.specs.Keeps.{keeps_latest};
-ghost use Rattle.clk_sched.specs.Limits.{end_of_moments};
+ghost use Rattle.clk_sched.specs.declared.limits.TheConstants.{END_OF_MOMENTS};
 ghost use Rattle.clk_sched.specs.declared.visit.Visit.{Visit};
 ghost use Rattle.clk_router.specs.Course.{after, events_of, CanPull};
 ghost use Rattle.clk_router.specs.Events.{log_of, pulled, CanHappen};
-ghost use Rattle.clk_script.specs.Script.{most_lines};
+ghost use Rattle.clk_script.specs.declared.limits.TheConstants.{MAX_LINES};
 ghost use Rattle.clk_script.specs.Meaning.{names_of};
 ghost use Rattle.clk_script.specs.inside.Rows.{IsToDo};
 ghost use Rattle.clk_script.specs.inside.Replay.{asked_at, logs_in, device_rows, pulls_asked, column_of, CanReplay, CarriedOn, HeldOn};
@@ -201,7 +201,7 @@ fn replay_rows<W: Sink>(
 ) -> Result<(), Fault>
     requires fresh { events_of again.old device ≡ [] }
     requires keeps { again.old.keeps ≡ keeps_latest }
-    requires few { length rows.now ≤ most_lines }
+    requires few { length rows.now ≤ MAX_LINES }
     requires to_do { AllByRecursion (IsToDo (names_of again.old.setup)) rows.now }
     ensures { CarriedOn device again.old again.new (asked_at again.old.setup device rows.now) result
         (HeldOn column (record { taken = W.Sink.taken writer.old; failures = W.Sink.failures writer.old; held = held.old.items })
@@ -224,7 +224,7 @@ fn replay_row<W: Sink>(
     held: &mut Vec<Visit>,
     writer: &mut W,
 ) -> Result<(), Fault>
-    requires few { length (events_of again.old device) ≤ most_lines }
+    requires few { length (events_of again.old device) ≤ MAX_LINES }
     requires keeps { again.old.keeps ≡ keeps_latest }
     requires to_do { IsToDo (names_of again.old.setup) row }
     ensures { CarriedOn device again.old again.new (asked_at again.old.setup device (row ∷ [])) result
@@ -269,9 +269,9 @@ fn replay_drain<W: Sink>(
     writer: &mut W,
 ) -> Result<(), Fault>
     requires there { device < length again.old.setup.trees }
-    requires few { length (events_of again.old device) ≤ most_lines }
+    requires few { length (events_of again.old device) ≤ MAX_LINES }
     requires keeps { again.old.keeps ≡ keeps_latest }
-    requires end { end < end_of_moments }
+    requires end { end < END_OF_MOMENTS }
     ensures { CarriedOn device again.old again.new (pulls_asked device (start + 1) (end - start)) result
         (HeldOn column (record { taken = W.Sink.taken writer.old; failures = W.Sink.failures writer.old; held = held.old.items })
         (record { taken = W.Sink.taken writer.new; failures = W.Sink.failures writer.new; held = held.new.items }) result) }

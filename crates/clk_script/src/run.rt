@@ -4,7 +4,7 @@ ghost use Rattle.std.specs.Prelude.{◌≡◌, ◌≢◌, ◌+◌, IfOk, IfErr};
 ghost use Rattle.clk_packet.specs.Bytes.{Takes, read_failures, write_failures, OfBytes};
 ghost use Rattle.clk_packet.specs.Written.{WroteWhat};
 ghost use Rattle.clk_packet.specs.declared.fault.Fault.TheVariants.{Write};
-ghost use Rattle.clk_script.specs.Script.{most_script_bytes};
+ghost use Rattle.clk_script.specs.declared.limits.TheConstants.{MAX_SCRIPT_BYTES};
 ghost use Rattle.clk_script.specs.Meaning.{MeansOver, MeansOverWith, ExplainsPlan};
 ghost use Rattle.clk_script.specs.inside.Replay.{IsAnswerOver};
 
@@ -44,7 +44,7 @@ pub fn run_script<R: Source, W: Sink>(
     ensures write_failures { W.Sink.failures writer.new ≡ write_failures result (W.Sink.failures writer.old) }
 
     // At most one byte past the limit is read.
-    ensures limit { Takes (most_script_bytes + 1) (R.Source.remaining reader.old) (R.Source.remaining reader.new) }
+    ensures limit { Takes (MAX_SCRIPT_BYTES + 1) (R.Source.remaining reader.old) (R.Source.remaining reader.new) }
 {
     let answer = answer_over(alloc, reader, plan)?;
     write_answer(&answer, writer)
@@ -63,7 +63,7 @@ pub fn run_script_logged<R: Source, W: Sink>(
     ensures fault { IfErr result (ExplainsPlan plan.now (R.Source.remaining reader.old)) }
     ensures read_failures { R.Source.failures reader.new ≡ read_failures result (R.Source.failures reader.old) }
     ensures write_failures { W.Sink.failures writer.new ≡ write_failures result (W.Sink.failures writer.old) }
-    ensures limit { Takes (most_script_bytes + 1) (R.Source.remaining reader.old) (R.Source.remaining reader.new) }
+    ensures limit { Takes (MAX_SCRIPT_BYTES + 1) (R.Source.remaining reader.old) (R.Source.remaining reader.new) }
 {
     let answer = answer_over(alloc, reader, plan)?;
     // All memory is allocated before the first byte is written.
@@ -80,7 +80,7 @@ fn answer_over<R: Source>(alloc: Global, reader: &mut R, plan: &Plan) -> Result<
     ensures fault { IfErr result (ExplainsPlan plan.now (R.Source.remaining reader.old)) }
     ensures not_write { IfErr result (λ fault. fault ≢ Write) }
     ensures failures { R.Source.failures reader.new ≡ read_failures result (R.Source.failures reader.old) }
-    ensures limit { Takes (most_script_bytes + 1) (R.Source.remaining reader.old) (R.Source.remaining reader.new) }
+    ensures limit { Takes (MAX_SCRIPT_BYTES + 1) (R.Source.remaining reader.old) (R.Source.remaining reader.new) }
 {
     let senders = numbers_of(alloc, plan.senders())?;
     let devices = usize::from(plan.devices());

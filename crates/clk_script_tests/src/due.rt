@@ -1,7 +1,7 @@
 //! The moments from which on a device of a router could emit a packet: worked rows, and random steps.
 
 ghost use Rattle.std.specs.Prelude.{◌<◌};
-ghost use Rattle.clk_sched.specs.Limits.{end_of_moments};
+ghost use Rattle.clk_sched.specs.declared.limits.TheConstants.{END_OF_MOMENTS};
 
 use self::Step::{Emits, EmitsNone, IsDue, IsIdle, Offers};
 use crate::random::Random;
@@ -106,7 +106,7 @@ impl Bench {
 
     // The latest moment of the first device.
     fn moment(&self, rt: &impl Abort) -> u64
-        ensures { result < end_of_moments }
+        ensures { result < END_OF_MOMENTS }
     {
         assert!(rt; self.router.devices() > 0);
         self.router.moment(0)

@@ -2,12 +2,12 @@
 use Rattle.std.specs.Prelude.{ℕ, List, [], ◌∷◌, if◌then◌else◌, Option, Some, None, codes}
 use Rattle.std.specs.Option.{option_map, option_and_then}
 use Rattle.std.specs.Str.{bytes_eq}
-use Rattle.clk_packet.specs.Limits.{most_sender, most_capacity}
+use Rattle.clk_packet.specs.declared.limits.TheConstants.{MAX_SENDER, MAX_CAPACITY}
 use Rattle.clk_packet.specs.Numbers.{number_in}
 use Rattle.clk_packet.specs.Scheduler.{Scheduler, scheduler_view, scheduler_named, scheduler_with, most_argument, arguments_of, inputs_of}
 use Rattle.clk_packet.specs.declared.packet.Kind.{Kind}
 use Rattle.clk_packet.specs.declared.packet.Kind.TheVariants.{TailDrop, FrontDrop}
-use Rattle.clk_syntax.specs.Limits.{default_capacity}
+use Rattle.clk_syntax.specs.declared.limits.TheConstants.{DEFAULT_CAPACITY}
 use Rattle.clk_syntax.specs.declared.naming.class.ClassName.{ClassName}
 use Rattle.clk_syntax.specs.declared.naming.class.ClassName.TheVariants as named
 use Rattle.clk_syntax.specs.declared.naming.class.Class as declared
@@ -44,11 +44,11 @@ numbers_to most (word ∷ more) = and_then (number_in 1 most word) (numbers_to m
 
 -- a class with these arguments, if it takes them
 abbrev pub class_with : ClassName → List (List ℕ) → Option Class
-class_with named.Sender (n ∷ []) = option_map sender (number_in 0 most_sender n)
-class_with named.Queue [] = Some (queue TailDrop default_capacity)
-class_with named.Queue (n ∷ []) = option_map (queue TailDrop) (number_in 1 most_capacity n)
-class_with named.FrontDropQueue [] = Some (queue FrontDrop default_capacity)
-class_with named.FrontDropQueue (n ∷ []) = option_map (queue FrontDrop) (number_in 1 most_capacity n)
+class_with named.Sender (n ∷ []) = option_map sender (number_in 0 MAX_SENDER n)
+class_with named.Queue [] = Some (queue TailDrop DEFAULT_CAPACITY)
+class_with named.Queue (n ∷ []) = option_map (queue TailDrop) (number_in 1 MAX_CAPACITY n)
+class_with named.FrontDropQueue [] = Some (queue FrontDrop DEFAULT_CAPACITY)
+class_with named.FrontDropQueue (n ∷ []) = option_map (queue FrontDrop) (number_in 1 MAX_CAPACITY n)
 class_with (named.Scheduler name) words = option_map scheduler (option_and_then (scheduler_with name) (numbers_to (most_argument name) words))
 class_with named.ToDevice (word ∷ []) = Some (device word)
 class_with name arguments = None

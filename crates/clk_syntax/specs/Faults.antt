@@ -8,7 +8,7 @@ use Rattle.clk_packet.specs.declared.fault.Fault.TheVariants.{BadText, UnknownCl
 use Rattle.clk_syntax.specs.declared.texts.token.Token.{Token}
 use Rattle.clk_syntax.specs.declared.node.Node.{Node}
 use Rattle.clk_syntax.specs.declared.node.Link.{Link}
-use Rattle.clk_syntax.specs.Limits.{most_tree_bytes, most_port}
+use Rattle.clk_syntax.specs.declared.limits.TheConstants.{MAX_TREE_BYTES, MAX_PORT}
 use Rattle.clk_syntax.specs.Tokens.{tokens_of}
 use Rattle.clk_syntax.specs.Diagram.{start, wrong_from}
 use Rattle.clk_syntax.specs.Classes.{Class, role_of}
@@ -42,7 +42,7 @@ place_of elements name = position_or_len (λ (e : Element). bytes_eq e.name.lett
 
 -- how a port stands in a link: None as one above the greatest, which no element has either
 abbrev pub port_kept : Option ℕ → ℕ
-port_kept port = unwrap_or port (most_port + 1)
+port_kept port = unwrap_or port (MAX_PORT + 1)
 
 abbrev pub link_of : List Element → Wire → Link
 link_of elements c = record {
@@ -91,4 +91,4 @@ fault_of elements wires =
 
 -- what is wrong with a text before its statements are looked at: it has too many bytes, or it breaks the grammar
 abbrev pub text_fault : List ℕ → Option Fault
-text_fault text = if nat_lt most_tree_bytes (length text) then Some TooLarge else option_map BadText (bad_text text)
+text_fault text = if nat_lt MAX_TREE_BYTES (length text) then Some TooLarge else option_map BadText (bad_text text)

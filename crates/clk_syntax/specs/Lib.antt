@@ -1,5 +1,4 @@
 -- What a tree text says, and its faults.
-pub mod Limits
 pub mod Tokens
 pub mod Diagram
 pub mod Grammar

@@ -7,7 +7,7 @@ use Rattle.clk_syntax.specs.declared.naming.class.Role.{Role}
 use Rattle.clk_syntax.specs.declared.naming.class.Role.TheVariants as role
 use Rattle.clk_syntax.specs.declared.node.Node.{Node}
 use Rattle.clk_syntax.specs.declared.node.Link.{Link}
-use Rattle.clk_syntax.specs.Limits.{most_port}
+use Rattle.clk_syntax.specs.declared.limits.TheConstants.{MAX_PORT}
 use Rattle.clk_syntax.specs.Declarations.{first_failure, fails_at}
 
 abbrev pub role_at : List Node → ℕ → Option Role
@@ -41,8 +41,8 @@ abbrev pub has_input : Option Role → ℕ → Bool
 has_input None input = false
 has_input (Some role.Source) input = false
 has_input (Some role.Queue) input = input == 0
-has_input (Some role.Scheduler) input = nat_le input most_port
-has_input (Some (role.SchedulerOf n)) input = nat_lt input n && nat_le input most_port
+has_input (Some role.Scheduler) input = nat_le input MAX_PORT
+has_input (Some (role.SchedulerOf n)) input = nat_lt input n && nat_le input MAX_PORT
 has_input (Some role.Device) input = input == 0
 
 -- fault 7: the first place at which a connection uses a port that the element doesn't have

@@ -9,7 +9,7 @@ use Rattle.clk_syntax.specs.declared.node.Node.{Node}
 use Rattle.clk_syntax.specs.declared.node.Link.{Link}
 use Rattle.clk_syntax.specs.declared.texts.statements.Connection.{Connection}
 use Rattle.clk_syntax.specs.declared.texts.token.Token.{Token}
-use Rattle.clk_syntax.specs.Limits.{most_tree_bytes}
+use Rattle.clk_syntax.specs.declared.limits.TheConstants.{MAX_TREE_BYTES}
 use Rattle.clk_syntax.specs.Diagram.{start, wrong_from}
 use Rattle.clk_syntax.specs.Faults.{naming_fault, nodes_of, links_of, fault_of, text_fault}
 
@@ -41,7 +41,7 @@ HasFault text fault = (text_fault text ≡ Some fault) ⊎ HasStatementFault tex
 
 -- What is known of a text whose names are right: these statements, and their nodes and links.
 pub record IsNamedText (text : List ℕ) (tokens : List Token) (declared : List Declared) (connections : List Connection) (nodes : List Node) (links : List Link) : Type 0 where
-  pub few : length text ≤ most_tree_bytes
+  pub few : length text ≤ MAX_TREE_BYTES
   pub are : tokens ≡ tokens_of text
   pub right : wrong_from start tokens ≡ None
   pub read : (statements : List Statement) × IsText tokens statements × (declared ≡ flat_map declared_in statements) × (connections ≡ flat_map connected_in statements)

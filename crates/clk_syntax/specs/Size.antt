@@ -1,6 +1,6 @@
 -- The check of sizes (this project's own limits).
 use Rattle.std.specs.Prelude.{ℕ, ◌+◌, List, [], ◌∷◌, length, Bool, false, ◌||◌, nat_lt, if◌then◌else◌, suc, zero}
-use Rattle.clk_packet.specs.Limits.{most_inputs, most_levels, most_elements}
+use Rattle.clk_packet.specs.declared.limits.TheConstants.{MAX_INPUTS, MAX_LEVELS, MAX_ELEMENTS}
 use Rattle.clk_syntax.specs.declared.node.Node.{Node}
 use Rattle.clk_syntax.specs.declared.node.Link.{Link}
 use Rattle.clk_syntax.specs.Ports.{role_at, is_scheduler, inputs_of, next}
@@ -17,7 +17,7 @@ levels nodes links i = levels_from nodes links (length nodes) i
 
 -- whether an element has too many inputs, or too many schedulers and Shapers on its way
 abbrev pub is_too_large : ℕ → Node → List Node → List Link → Bool
-is_too_large i node nodes links = nat_lt most_inputs (inputs_of i node.role links) || nat_lt most_levels (levels nodes links i)
+is_too_large i node nodes links = nat_lt MAX_INPUTS (inputs_of i node.role links) || nat_lt MAX_LEVELS (levels nodes links i)
 
 abbrev pub some_too_large : ℕ → List Node → List Node → List Link → Bool
 some_too_large i [] nodes links = false
@@ -25,4 +25,4 @@ some_too_large i (node ∷ more) nodes links = is_too_large i node nodes links |
 
 -- fault 18: whether there are too many elements, or one is too large
 abbrev pub too_large : List Node → List Link → Bool
-too_large nodes links = nat_lt most_elements (length nodes) || some_too_large 0 nodes nodes links
+too_large nodes links = nat_lt MAX_ELEMENTS (length nodes) || some_too_large 0 nodes nodes links

@@ -5,7 +5,7 @@ use Rattle.clk_packet.specs.Numbers.{number_in}
 use Rattle.clk_syntax.specs.declared.texts.token.Token.{Token}
 use Rattle.clk_syntax.specs.declared.texts.statements.Declaration.{Declaration}
 use Rattle.clk_syntax.specs.declared.texts.statements.Connection.{Connection}
-use Rattle.clk_syntax.specs.Limits.{most_port}
+use Rattle.clk_syntax.specs.declared.limits.TheConstants.{MAX_PORT}
 use Rattle.clk_syntax.specs.Grammar.{Hop, Statement, nothing, declaration, chain}
 
 -- names, and the class and arguments that they all have
@@ -68,7 +68,7 @@ word text token = record { place = token.place; letters = letters text token }
 -- the port that is written, or 0; None for one above the greatest, which no element has
 abbrev pub port : List ℕ → Option Token → Option ℕ
 port text None = Some 0
-port text (Some number) = number_in 0 most_port (letters text number)
+port text (Some number) = number_in 0 MAX_PORT (letters text number)
 
 abbrev pub element : List ℕ → Token → List Token → Token → Element
 element text class arguments name = record { name = word text name; class = word text class; arguments = map (letters text) arguments }

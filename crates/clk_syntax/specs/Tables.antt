@@ -6,7 +6,7 @@ use Rattle.clk_syntax.specs.declared.naming.class.Role.TheVariants as role
 use Rattle.clk_syntax.specs.declared.node.Link.{Link}
 use Rattle.clk_syntax.specs.declared.checks.tables.InputUse.{InputUse}
 use Rattle.clk_syntax.specs.declared.checks.tables.Graph.{Graph}
-use Rattle.clk_syntax.specs.Limits.{most_tree_bytes}
+use Rattle.clk_syntax.specs.declared.limits.TheConstants.{MAX_TREE_BYTES}
 use Rattle.clk_syntax.specs.Within.{IsLinkWithin}
 use Rattle.clk_syntax.specs.Ports.{target, inputs_used}
 
@@ -34,7 +34,7 @@ pub record IsTabled (graph : Graph) : Type 0 where
   pub targets : IsTargets (length graph.nodes.now) graph.links.now graph.targets.items
   pub inputs : IsInputs (length graph.nodes.now) graph.links.now graph.inputs.items
   pub within : AllByRecursion (IsLinkWithin graph.nodes.now) graph.links.now
-  pub few : length graph.nodes.now ≤ most_tree_bytes
+  pub few : length graph.nodes.now ≤ MAX_TREE_BYTES
 
 -- how many pull inputs an element has, by what is connected
 abbrev pub inputs_with : Role → ℕ → ℕ

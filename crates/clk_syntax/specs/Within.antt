@@ -8,7 +8,7 @@ use Rattle.clk_syntax.specs.declared.texts.statements.Connection.{Connection}
 use Rattle.clk_syntax.specs.declared.node.Node.{Node}
 use Rattle.clk_syntax.specs.declared.node.Link.{Link}
 use Rattle.clk_syntax.specs.Source.{Declared, letters}
-use Rattle.clk_syntax.specs.Limits.{most_port}
+use Rattle.clk_syntax.specs.declared.limits.TheConstants.{MAX_PORT}
 
 abbrev pub IsWithin : ℕ → Token → Type 0
 IsWithin end token = token.place + token.length ≤ end
@@ -44,4 +44,4 @@ HasNumbers text c = IfSome c.output (IsNumber text) × IfSome c.input (IsNumber 
 
 -- a connection whose ports are as the code keeps them
 abbrev pub HasPorts : Link → Type 0
-HasPorts c = (c.output ≤ most_port + 1) × (c.input ≤ most_port + 1)
+HasPorts c = (c.output ≤ MAX_PORT + 1) × (c.input ≤ MAX_PORT + 1)

@@ -9,7 +9,7 @@ ghost use Rattle.std.specs.Option.{option_map};
 ghost use Rattle.std.specs.List.{AllByRecursion};
 ghost use Rattle.clk_packet.specs.declared.fault.Fault.TheVariants.{NameTwice, UnknownClass, BadArgument, UnknownName};
 ghost use Rattle.clk_syntax.specs.Classes.{class_view, is_class};
-ghost use Rattle.clk_syntax.specs.Limits.{most_tree_bytes};
+ghost use Rattle.clk_syntax.specs.declared.limits.TheConstants.{MAX_TREE_BYTES};
 ghost use Rattle.clk_syntax.specs.Source.{Declared, Element, letters, kept, elements_in, elements, word, port, wire, wires};
 ghost use Rattle.clk_syntax.specs.Declarations.{name_twice, unknown_class, bad_argument, unknown_name, unknown_end, is_sender, class_in};
 ghost use Rattle.clk_syntax.specs.Faults.{naming_fault, place_of, nodes_of, link_of, links_of, port_kept};
@@ -43,7 +43,7 @@ pub fn name_all(alloc: Global, text: &[u8], statements: &Statements) -> Result<N
     requires connected_within { AllByRecursion (IsConnectedWithin (length text.now)) statements.now.connections.items }
     requires named { AllByRecursion IsNamed (map kept statements.now.declarations.items) }
     requires numbers { AllByRecursion (HasNumbers text.now) statements.now.connections.items }
-    requires few { words_in (map kept statements.now.declarations.items) ≤ most_tree_bytes }
+    requires few { words_in (map kept statements.now.declarations.items) ≤ MAX_TREE_BYTES }
     ensures faultless { let all = elements text.now (map kept statements.now.declarations.items) in
         OnOk result (naming_fault all (wires text.now statements.now.connections.items) ≡ None) }
     ensures classes { IfOk result (λ named. map (class_in text.now) (map kept statements.now.declarations.items) ≡ map is_class named.classes.items) }
@@ -80,7 +80,7 @@ fn names_of<'a>(
     declarations: &[Declaration],
 ) -> Result<DeclaredNames<'a>, Fault>
     requires within { AllByRecursion (IsDeclaredWithin (length text.now)) (map kept declarations.now) }
-    requires few { words_in (map kept declarations.now) ≤ most_tree_bytes }
+    requires few { words_in (map kept declarations.now) ≤ MAX_TREE_BYTES }
     ensures { let all = elements text.now (map kept declarations.now) in
         MatchResult result (λ names. (name_twice all ≡ None) × IsTable all names) (Stops (option_map NameTwice (name_twice all))) }
 {
@@ -151,7 +151,7 @@ fn judge_all(
 ) -> Result<JudgedElements, Fault>
     requires within { AllByRecursion (IsDeclaredWithin (length text.now)) (map kept declarations.now) }
     requires named { AllByRecursion IsNamed (map kept declarations.now) }
-    requires few { words_in (map kept declarations.now) ≤ most_tree_bytes }
+    requires few { words_in (map kept declarations.now) ≤ MAX_TREE_BYTES }
     ensures { let all = elements text.now (map kept declarations.now) in
         MatchResult result
         (λ judged. (bad_argument all ≡ None)
@@ -176,7 +176,7 @@ impl JudgedElements {
     fn judge(&mut self, alloc: Global, text: &[u8], declaration: &Declaration) -> Result<(), Fault>
         requires within { IsDeclaredWithin (length text.now) (kept declaration.now) }
         requires named { IsNamed (kept declaration.now) }
-        requires few { length declaration.now.arguments.items ≤ most_tree_bytes }
+        requires few { length declaration.now.arguments.items ≤ MAX_TREE_BYTES }
         ensures { (all left : List Declared) → Judges text.now all (kept declaration.now ∷ left) self.old
             → MatchResult result (λ _. Judges text.now all left self.new) (Stops (option_map BadArgument (bad_argument (elements text.now all)))) }
     {

@@ -3,7 +3,7 @@
 ghost use Rattle.std.specs.Prelude.{◌≡◌, ◌⊎◌, ◌≤◌, map, length, IfOk, IfErr};
 ghost use Rattle.std.specs.List.{AllByRecursion};
 ghost use Rattle.clk_packet.specs.declared.fault.Fault.TheVariants.{Memory};
-ghost use Rattle.clk_syntax.specs.Limits.{most_tree_bytes};
+ghost use Rattle.clk_syntax.specs.declared.limits.TheConstants.{MAX_TREE_BYTES};
 ghost use Rattle.clk_syntax.specs.Tokens.{tokens_of};
 ghost use Rattle.clk_syntax.specs.Source.{kept};
 ghost use Rattle.clk_syntax.specs.Declarations.{class_in};
@@ -25,9 +25,9 @@ pub fn named_text(alloc: Global, text: &[u8]) -> Result<(Statements, Named), Fau
     ensures named { IfOk result (λ r. IsNamedText text.now (tokens_of text.now) (map kept r.0.declarations.items) r.0.connections.items r.1.nodes.items r.1.links.items) }
     ensures classes { IfOk result (λ r. map (class_in text.now) (map kept r.0.declarations.items) ≡ map is_class r.1.classes.items) }
     ensures within { IfOk result (λ r. AllByRecursion (IsDeclaredWithin (length text.now)) (map kept r.0.declarations.items)) }
-    ensures words { IfOk result (λ r. words_in (map kept r.0.declarations.items) ≤ most_tree_bytes) }
-    ensures few_nodes { IfOk result (λ r. length r.1.nodes.items ≤ most_tree_bytes) }
-    ensures few_links { IfOk result (λ r. length r.1.links.items ≤ most_tree_bytes) }
+    ensures words { IfOk result (λ r. words_in (map kept r.0.declarations.items) ≤ MAX_TREE_BYTES) }
+    ensures few_nodes { IfOk result (λ r. length r.1.nodes.items ≤ MAX_TREE_BYTES) }
+    ensures few_links { IfOk result (λ r. length r.1.links.items ≤ MAX_TREE_BYTES) }
     ensures links { IfOk result (λ r. AllByRecursion (IsLinkWithin r.1.nodes.items) r.1.links.items) }
     ensures ports { IfOk result (λ r. AllByRecursion HasPorts r.1.links.items) }
     ensures fault { IfErr result (λ fault. (fault ≡ Memory) ⊎ HasFault text.now fault) }

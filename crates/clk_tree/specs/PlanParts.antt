@@ -1,7 +1,7 @@
 -- The senders and the queues of a plan (their numbers as this project chose them).
 use Rattle.std.specs.Prelude.{◌≡◌, ℕ, ◌+◌, ◌<◌, ◌≤◌, List, [], ◌∷◌, map, take, filter, nat_lt, ◌==◌, Bool, false, if◌then◌else◌, Option, Some, None}
 use Rattle.std.specs.List.{filter_map, enumerate_from}
-use Rattle.clk_packet.specs.Limits.{most_sender, most_capacity}
+use Rattle.clk_packet.specs.declared.limits.TheConstants.{MAX_SENDER, MAX_CAPACITY}
 use Rattle.clk_packet.specs.declared.packet.Kind.{Kind}
 use Rattle.clk_packet.specs.Lists.{stands_in}
 use Rattle.clk_syntax.specs.Classes.{Class, sender, queue}
@@ -90,11 +90,11 @@ leads_to d (Some q) = q.device == d
 
 -- a queue whose capacity is within the limits
 abbrev pub HasCapacity : Queued → Type 0
-HasCapacity q = (1 ≤ q.capacity) × (q.capacity ≤ most_capacity)
+HasCapacity q = (1 ≤ q.capacity) × (q.capacity ≤ MAX_CAPACITY)
 
 -- a sender whose number is within the limits
 abbrev pub HasNumber : SenderSpec → Type 0
-HasNumber s = s.number ≤ most_sender
+HasNumber s = s.number ≤ MAX_SENDER
 
 -- a sender whose queue is one of so many
 abbrev pub SendsWithin : ℕ → SenderSpec → Type 0

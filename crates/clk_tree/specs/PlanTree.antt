@@ -1,5 +1,5 @@
 -- The trees of a plan, one for each device (node and leaf numbers as this project chose them).
-use Rattle.std.specs.Prelude.{◌≡◌, ℕ, ◌+◌, List, [], ◌∷◌, length, take, Bool, true, false, if◌then◌else◌, Option, Some, None, ⊤, slice_get, get_or}
+use Rattle.std.specs.Prelude.{◌≡◌, ℕ, ◌+◌, List, [], ◌∷◌, length, take, Bool, true, false, if◌then◌else◌, Option, Some, None, option_and_then, ⊤, slice_get, get_or}
 use Rattle.clk_sched.specs.Tree.{Row, end, leaf, node, Tree, root}
 use Rattle.clk_packet.specs.Scheduler.{Scheduler, over_inputs}
 use Rattle.clk_syntax.specs.Classes.{Class, queue, scheduler, device}
@@ -20,14 +20,9 @@ abbrev pub queue_count : List Planned → ℕ
 queue_count [] = 0
 queue_count (e ∷ more) = if is_queue e.class then queue_count more + 1 else queue_count more
 
--- this number, if the element is a queue
-abbrev pub number_if : ℕ → Option Planned → Option ℕ
-number_if n None = None
-number_if n (Some e) = if is_queue e.class then Some n else None
-
 -- The number of the queue that stands at a place: queues are numbered from 0 in order of declaration.
 abbrev pub queue_number : List Planned → ℕ → Option ℕ
-queue_number plan i = number_if (queue_count (take i plan)) (slice_get plan i)
+queue_number plan i = option_and_then (λ (e : Planned). if is_queue e.class then Some (queue_count (take i plan)) else None) (slice_get plan i)
 
 -- the scheduler of this class over so many inputs, if it is the class of a scheduler
 abbrev pub scheduler_over : Class → ℕ → Option Scheduler

@@ -55,11 +55,11 @@ impl Plan {
     ghost use Rattle.std.specs.Prelude.{◌≡◌, ◌≤◌, ◌<◌, ◌+◌, ◌⊎◌, ℕ, List, true, map, length, slice_get, IfOk, IfErr, IsOkUnless};
     ghost use Rattle.std.specs.List.{AllByRecursion};
     ghost use Rattle.clk_packet.specs.declared.fault.Fault.TheVariants.{Memory};
-    ghost use Rattle.clk_packet.specs.Limits.{most_elements, most_levels};
+    ghost use Rattle.clk_packet.specs.declared.limits.TheConstants.{MAX_ELEMENTS, MAX_LEVELS};
     ghost use Rattle.clk_packet.specs.Lists.{stands_in, AreRising};
     ghost use Rattle.clk_sched.specs.Tree.{Tree, root, leaves, leaves_distinct};
     ghost use Rattle.clk_sched.specs.Session.{elements};
-    ghost use Rattle.clk_syntax.specs.Limits.{most_tree_bytes};
+    ghost use Rattle.clk_syntax.specs.declared.limits.TheConstants.{MAX_TREE_BYTES};
     ghost use Rattle.clk_syntax.specs.Reading.{HasFault};
     ghost use Rattle.clk_tree.specs.Plan.{Denotes};
     ghost use Rattle.clk_tree.specs.Elements.{planned};
@@ -102,7 +102,7 @@ impl Plan {
     pub fn write(&self, alloc: Global) -> Result<Vec<u8>, Fault>
         ensures text { IfOk result (λ text. text.items ≡ canonical_text self.now) }
         // If it is no longer than a text may be, it denotes this plan.
-        ensures again { IfOk result (λ text. length text.items ≤ most_tree_bytes → Denotes text.items self.now) }
+        ensures again { IfOk result (λ text. length text.items ≤ MAX_TREE_BYTES → Denotes text.items self.now) }
         ensures fault { IsOkUnless result Memory }
     {
         canonical_text(alloc, &self.elements)
@@ -119,7 +119,7 @@ impl Plan {
     pub fn devices(&self) -> u16
         ensures count { result ≡ device_count self.now }
         ensures some { 1 ≤ result }
-        ensures within { result ≤ most_elements }
+        ensures within { result ≤ MAX_ELEMENTS }
     {
         self.tops.len() as u16
     }
@@ -135,7 +135,7 @@ impl Plan {
         ensures tree { IfOk result (IsTreeOf self.now device) }
         ensures distinct { IfOk result (λ tree. leaves_distinct tree ≡ true) }
         // It is small enough for a session.
-        ensures fits { IfOk result (λ tree. 1 + elements (root tree) ≤ most_elements) }
+        ensures fits { IfOk result (λ tree. 1 + elements (root tree) ≤ MAX_ELEMENTS) }
         // Its leaves are the queues whose paths end at this device.
         ensures leaves { IfOk result (λ tree. (q : ℕ) → stands_in q (leaves (root tree)) ≡ leads_to device (slice_get (queues_of self.now) q)) }
         ensures fault { IsOkUnless result Memory }
@@ -151,7 +151,7 @@ impl Plan {
     /// The queues of the plan, by their numbers.
     pub fn queues(&self) -> &[QueueSpec]
         ensures queues { map queued result.now ≡ queues_of self.now }
-        ensures few { length (queues_of self.now) ≤ most_elements }
+        ensures few { length (queues_of self.now) ≤ MAX_ELEMENTS }
         ensures capacities { AllByRecursion HasCapacity (queues_of self.now) }
         ensures senders { AllByRecursion (λ q. AreRising q.senders) (queues_of self.now) }
         ensures devices { AllByRecursion (λ q. q.device < device_count self.now) (queues_of self.now) }
@@ -167,7 +167,7 @@ impl Plan {
     pub fn drrs_above(&self, alloc: Global) -> Result<Vec<u32>, Fault>
         ensures length { IfOk result (λ counts. length counts.items ≡ length (queues_of self.now)) }
         ensures counts { IfOk result (λ counts. (trees : List Tree) → AreTreesOf self.now trees → AreDrrsAbove (queues_of self.now) trees counts.items) }
-        ensures limit { IfOk result (λ counts. AllByRecursion (λ n. n ≤ most_levels) counts.items) }
+        ensures limit { IfOk result (λ counts. AllByRecursion (λ n. n ≤ MAX_LEVELS) counts.items) }
         ensures fault { IsOkUnless result Memory }
     {
         let mut counts = vec![in alloc; 0; self.queues().len()]?;

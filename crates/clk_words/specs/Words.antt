@@ -14,7 +14,7 @@ use Rattle.clap.specs.declared.builder.command.Command.{Command}
 use Rattle.clap.specs.declared.builder.command.Command.TheViews.{out-Command as fields_of}
 use Rattle.clap.specs.declared.builder.value_parser.ValueParser.TheVariants.{Signed}
 use Rattle.std.specs.Borrow.{Bor}
-use Rattle.clk_gate.specs.Limits.{most_step, most_limit}
+use Rattle.clk_gate.specs.declared.limits.TheConstants.{MAX_STEP, MAX_LIMIT}
 use Rattle.clk_words.specs.declared.words.Asked.{Asked}
 use Rattle.clk_words.specs.declared.words.Asked.TheVariants.{Builtin, Check, Lint, Over}
 use Rattle.clk_words.specs.declared.words.Job.{Job}
@@ -65,7 +65,7 @@ script_words = with_rule (with_rule (with_rule (titled_words (codes "script")) (
 abbrev pub traced_words : Text → App
 traced_words name = with_rule (with_rule (with_rule (with_rule (titled_words name)
     (file_word (codes "TREE"))) (file_word (codes "TRACE")))
-    (number_option (codes "step") most_step (codes "1"))) (number_option (codes "limit") most_limit (codes "1000"))
+    (number_option (codes "step") MAX_STEP (codes "1"))) (number_option (codes "limit") MAX_LIMIT (codes "1000"))
 
 -- `run TREE TRACE [--step N] [--limit N] [--visits FILE]`
 abbrev pub run_words : App
@@ -234,8 +234,8 @@ task_by name rows =
     if bytes_eq name (codes "check") then check (path_of rows (codes "TREE"))
     else if bytes_eq name (codes "lint") then lint_task (path_of rows (codes "TREE")) (first_of (codes "TRACE") rows)
     else if bytes_eq name (codes "script") then over (path_of rows (codes "TREE")) (path_of rows (codes "SCRIPT")) (script (first_of (codes "visits") rows))
-    else if bytes_eq name (codes "run") then over (path_of rows (codes "TREE")) (path_of rows (codes "TRACE")) (run (number_of rows (codes "step") most_step) (number_of rows (codes "limit") most_limit) (first_of (codes "visits") rows))
-    else if bytes_eq name (codes "live") then over (path_of rows (codes "TREE")) (path_of rows (codes "TRACE")) (live (number_of rows (codes "step") most_step) (number_of rows (codes "limit") most_limit) (first_of (codes "record") rows) (first_of (codes "visits") rows))
+    else if bytes_eq name (codes "run") then over (path_of rows (codes "TREE")) (path_of rows (codes "TRACE")) (run (number_of rows (codes "step") MAX_STEP) (number_of rows (codes "limit") MAX_LIMIT) (first_of (codes "visits") rows))
+    else if bytes_eq name (codes "live") then over (path_of rows (codes "TREE")) (path_of rows (codes "TRACE")) (live (number_of rows (codes "step") MAX_STEP) (number_of rows (codes "limit") MAX_LIMIT) (first_of (codes "record") rows) (first_of (codes "visits") rows))
     else builtin
 
 -- what the words ask for by their command, if they have one

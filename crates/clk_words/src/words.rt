@@ -7,7 +7,7 @@ ghost use Rattle.clap.specs.Kinds.{FailsBy};
 ghost use Rattle.clap.specs.Matches.{found_of};
 ghost use Rattle.clap.specs.Simple.{subcommand_rows_of};
 ghost use Rattle.clap.specs.Walk.{first_of, rows_of};
-ghost use Rattle.clk_gate.specs.Limits.{most_step, most_limit};
+ghost use Rattle.clk_gate.specs.declared.limits.TheConstants.{MAX_STEP, MAX_LIMIT};
 ghost use Rattle.clk_words.specs.Words.{file_word, file_option, flag_option, optional_word, number_option, titled_words, explains, explains_below, is_explained, top_words, check_words, lint_task, lint_words, script_words, traced_words, run_words, live_words, program_words, number_of, path_of, within_one_and, task, task_of, text_of, task_in, Reads, IsWord};
 
 use crate::pace::Pace;
@@ -172,8 +172,8 @@ fn option_of<'a>(matches: &ArgMatches<'a>, name: &str) -> Option<&'a str>
 
 /// The pace that two options have.
 fn pace_of(matches: &ArgMatches<'_>) -> Pace
-    ensures step { result.step ≡ number_of (rows_of (found_of matches.now)) (codes "step") most_step }
-    ensures limit { result.limit ≡ number_of (rows_of (found_of matches.now)) (codes "limit") most_limit }
+    ensures step { result.step ≡ number_of (rows_of (found_of matches.now)) (codes "step") MAX_STEP }
+    ensures limit { result.limit ≡ number_of (rows_of (found_of matches.now)) (codes "limit") MAX_LIMIT }
 {
     Pace {
         step: number_of(matches, STEP, MAX_STEP),

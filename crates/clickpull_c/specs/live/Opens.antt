@@ -1,7 +1,7 @@
 -- What opening a live router over a text does.
 use Rattle.std.specs.Prelude.{◌≡◌, ℕ, List, [], ◌<◌, ◌≤◌, ◌⊎◌, map, Option, Some}
 use Rattle.clk_tree.specs.Plan.{Planned, Denotes}
-use Rattle.clk_inlet.specs.Limits.{most_room}
+use Rattle.clk_inlet.specs.declared.limits.TheConstants.{MAX_ROOM}
 use Rattle.clk_inlet.specs.declared.inlet.Inlet.{Inlet}
 use Rattle.clk_live.specs.Opening.{IsLiveOpened}
 use Rattle.clk_live.specs.State.{LiveState}
@@ -31,5 +31,5 @@ pub record IsGivenLive (text : List ℕ) (room : ℕ) (place : Option LiveRouter
 -- No router was opened: inlets can't have such room, and then no fault is filled in; or an allocation failed, or the text has a fault,
 -- which is filled in.
 pub data RefusesOpen (text : List ℕ) (room : ℕ) (before filled : CFault) (status : ℕ) : Type 0 where
-  bad_room : status ≡ BAD_ROOM → (room ≡ 0) ⊎ (most_room < room) → filled ≡ before → RefusesOpen text room before filled status
-  faulty : (1 ≤ room) × (room ≤ most_room) → IsFaulty text filled status → RefusesOpen text room before filled status
+  bad_room : status ≡ BAD_ROOM → (room ≡ 0) ⊎ (MAX_ROOM < room) → filled ≡ before → RefusesOpen text room before filled status
+  faulty : (1 ≤ room) × (room ≤ MAX_ROOM) → IsFaulty text filled status → RefusesOpen text room before filled status

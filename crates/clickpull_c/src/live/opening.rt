@@ -2,7 +2,7 @@
 
 ghost use Rattle.std.specs.Prelude.{◌≡◌, ◌≤◌, ◌⊎◌, None, Some, map, IfOk, IfErr, IsOkUnless};
 ghost use Rattle.std.specs.Option.{option_map};
-ghost use Rattle.clk_inlet.specs.Limits.{most_room};
+ghost use Rattle.clk_inlet.specs.declared.limits.TheConstants.{MAX_ROOM};
 ghost use Rattle.clk_packet.specs.declared.fault.Fault.TheVariants.{Memory};
 ghost use Rattle.clk_syntax.specs.Reading.{HasFault};
 ghost use Rattle.clickpull_c.specs.declared.statuses.TheConstants.{OK};
@@ -50,7 +50,7 @@ pub extern "C" fn clk_raw_live_open(
 
 /// Opens a live router over the plan that this text denotes, as a handle.
 fn open(alloc: Global, text: &[u8], room: u32) -> Result<LiveHandle, Fault>
-    requires room { (1 ≤ room) × (room ≤ most_room) }
+    requires room { (1 ≤ room) × (room ≤ MAX_ROOM) }
     ensures opened { IfOk result (λ handle. OpensLive text.now room handle.router) }
     ensures fault { IfErr result (λ fault. (fault ≡ Memory) ⊎ HasFault text.now fault) }
 {

@@ -7,7 +7,7 @@ use Rattle.clk_packet.specs.declared.fault.Fault.{Fault}
 use Rattle.clk_ruled.specs.Queue.{SeatLists, ClosedLists}
 use Rattle.clk_sched.specs.declared.session.keeps.Keeps.{Keeps}
 use Rattle.clk_sched.specs.Keeps.{keeps_emitted, keeps_visits}
-use Rattle.clk_sched.specs.Limits.{most_left}
+use Rattle.clk_sched.specs.declared.limits.TheConstants.{MAX_LEFT}
 use Rattle.clk_tree.specs.Plan.{Planned}
 use Rattle.clk_tree.specs.PlanTree.{device_count}
 use Rattle.clk_tree.specs.PlanParts.{queues_of, senders_of, number_of}
@@ -32,7 +32,7 @@ pub record HasEnded (keeps : Keeps) (plan : List Planned) (terms : Terms) (queue
   pub opened : AreOpenFrom plan terms.traces 0 (device_count plan) queues seats ends
   pub kept : AllByRecursion (KeepsSo keeps) ends
   pub rising : AreRising (map number_of (senders_of plan))
-  pub few : packets_in terms.traces ≤ most_left
+  pub few : packets_in terms.traces ≤ MAX_LEFT
   pub sent : AllZip (HasDeviceSent terms) seats closed
   pub pulled_over : HavePulled terms ends pulled queues
 

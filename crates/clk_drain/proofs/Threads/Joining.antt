@@ -10,7 +10,7 @@ use Rattle.clk_ruled.specs.declared.view.QueueSetup.{QueueSetup}
 use Rattle.clk_ruled.specs.Queue.{OpenedQueue, SeatLists, TapLists, ClosedLists, queue_of, empty_seat}
 use Rattle.clk_ruled.specs.Settle.{AreOfTap, AreOpenedTogether, lists_of}
 use Rattle.clk_sched.specs.declared.session.keeps.Keeps.{Keeps}
-use Rattle.clk_sched.specs.Limits.{most_left}
+use Rattle.clk_sched.specs.declared.limits.TheConstants.{MAX_LEFT}
 use Rattle.clk_sched.specs.Log.{pulls, moment_of}
 use Rattle.clk_sched.specs.Session.{counted_moment}
 use Rattle.clk_drain.specs.declared.running.opening.LeafQueue.{LeafQueue}
@@ -160,10 +160,10 @@ senders_over shared = flat_map (λ (q : SharedQueue). q.senders) shared
 feed-senders : (terms : Terms) (shared : List SharedQueue) (e : EndLists) (f : Feed) → IsJoinedFeed terms shared e f → senders_at (seats_in f.lines) ≡ senders_over shared
 feed-senders terms shared e f h = search (rules, senders-same)
 
-feed-ready : (terms : Terms) (shared : List SharedQueue) (e : EndLists) (f : Feed) → are_distinct (senders_over shared) ≡ true → packets_in terms.traces ≤ most_left → IsJoinedFeed terms shared e f → IsReadyToClose terms f
+feed-ready : (terms : Terms) (shared : List SharedQueue) (e : EndLists) (f : Feed) → are_distinct (senders_over shared) ≡ true → packets_in terms.traces ≤ MAX_LEFT → IsJoinedFeed terms shared e f → IsReadyToClose terms f
 feed-ready terms shared e f own most h = search (rules, (feed-senders terms shared e f h), (accepted-over-within terms.traces f.lines h.sent), within-trace)
 
-pub all-ready : (terms : Terms) (all : List (List SharedQueue)) (ends : List EndLists) (feeds : List Feed) → are_distinct (flat_map senders_over all) ≡ true → packets_in terms.traces ≤ most_left → AreJoinedFeeds terms all ends feeds → AllByRecursion (IsReadyToClose terms) feeds
+pub all-ready : (terms : Terms) (all : List (List SharedQueue)) (ends : List EndLists) (feeds : List Feed) → are_distinct (flat_map senders_over all) ≡ true → packets_in terms.traces ≤ MAX_LEFT → AreJoinedFeeds terms all ends feeds → AllByRecursion (IsReadyToClose terms) feeds
 all-ready terms [] [] [] own most h = tt
 all-ready terms (shared ∷ all) (e ∷ ends) (f ∷ feeds) own most h =
     let both = apart-parts (senders_over shared) (flat_map senders_over all) own in

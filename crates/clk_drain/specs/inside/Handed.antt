@@ -10,7 +10,7 @@ use Rattle.clk_ruled.specs.Queue.{SeatLists, TapLists, ClosedLists, IsTapOf}
 use Rattle.clk_ruled.specs.Settle.{AreOpenedTogether}
 use Rattle.clk_sched.specs.declared.session.keeps.Keeps.{Keeps}
 use Rattle.clk_sched.specs.Keeps.{keeps_emitted, keeps_visits}
-use Rattle.clk_sched.specs.Limits.{most_left}
+use Rattle.clk_sched.specs.declared.limits.TheConstants.{MAX_LEFT}
 use Rattle.clk_sched.specs.Log.{pulls, moment_of}
 use Rattle.clk_sched.specs.Session.{counted_moment}
 use Rattle.clk_sched.specs.Packed.{logged}
@@ -112,7 +112,7 @@ AreAllJoinable queues ends closed = ⊥
 pub record IsReadyToClose (terms : Terms) (f : Feed) : Type 0 where
   pub own : AreLinesOf f.session f.lines
   pub apart : HaveOwnSenders f.lines
-  pub few : accepted_over f.lines ≤ most_left
+  pub few : accepted_over f.lines ≤ MAX_LEFT
   pub sent : AllByRecursion (HasSent (sent_by terms.traces)) (seats_in f.lines)
   pub made : ℕ
   pub within : made ≤ terms.limit

@@ -2,7 +2,8 @@
 
 ghost use Rattle.std.specs.Prelude.{◌≡◌, ◌<◌, ◌≤◌, length, IfOk, OnOk, IsOkUnless};
 ghost use Rattle.clk_packet.specs.declared.fault.Fault.TheVariants.{Memory};
-ghost use Rattle.clk_packet.specs.Trace.{packets_in, most_records};
+ghost use Rattle.clk_packet.specs.Trace.{packets_in};
+ghost use Rattle.clk_packet.specs.declared.limits.TheConstants.{MAX_RECORDS};
 ghost use Rattle.clk_tree.specs.PlanParts.{queued, HasCapacity};
 ghost use Rattle.clk_packet.specs.Lists.{AreRising};
 ghost use Rattle.clk_drain.specs.Opening.{shared_at};
@@ -92,7 +93,7 @@ pub fn open_queue(
 fn rooms_for(alloc: Global, senders: &[u16], traces: &Traces) -> Result<Vec<(u16, u32)>, Fault>
     ensures rooms { IfOk result (λ rooms. rooms.items ≡ rooms_for traces.now senders.now) }
     // No trace sends more: counting a sender's packets brings this into scope.
-    ensures within { IfOk result (λ _. 0 < length senders.now → packets_in traces.now ≤ most_records) }
+    ensures within { IfOk result (λ _. 0 < length senders.now → packets_in traces.now ≤ MAX_RECORDS) }
     ensures fault { IsOkUnless result Fault.Memory }
 {
     let mut rooms = Vec::with_capacity(alloc, senders.len())?;

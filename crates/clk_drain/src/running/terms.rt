@@ -23,20 +23,20 @@ pub struct RunTerms<'a, W: Wait, G: Gate> {
 
 impl<'a, W: Wait, G: Gate> Model for RunTerms<'a, W, G> {
     ghost use Rattle.std.specs.Prelude.{◌≤◌};
-    ghost use Rattle.clk_gate.specs.Limits.{most_step, most_limit};
+    ghost use Rattle.clk_gate.specs.declared.limits.TheConstants.{MAX_STEP, MAX_LIMIT};
     ghost use Rattle.clk_drain.specs.inside.Threads.{Terms};
 
     ghost Value = { Terms };
 
     ghost view = { λ c. record { traces = c.traces.now; step = c.step; limit = c.limit } };
 
-    ghost invariant = { λ c. (c.step ≤ most_step) × (c.limit ≤ most_limit) };
+    ghost invariant = { λ c. (c.step ≤ MAX_STEP) × (c.limit ≤ MAX_LIMIT) };
 }
 
 impl<'a, W: Wait, G: Gate> RunTerms<'a, W, G> {
     ghost use Rattle.std.specs.Prelude.{◌≡◌, ◌≤◌, ◌*◌, ◌<◌};
-    ghost use Rattle.clk_sched.specs.Limits.{end_of_moments};
-    ghost use Rattle.clk_gate.specs.Limits.{most_step, most_limit};
+    ghost use Rattle.clk_sched.specs.declared.limits.TheConstants.{END_OF_MOMENTS};
+    ghost use Rattle.clk_gate.specs.declared.limits.TheConstants.{MAX_STEP, MAX_LIMIT};
 
     /// What the threads share, if `producers` producers are to run.
     pub fn new(
@@ -47,8 +47,8 @@ impl<'a, W: Wait, G: Gate> RunTerms<'a, W, G> {
         limit: u32,
         producers: usize,
     ) -> RunTerms<'a, W, G>
-        requires step { step ≤ most_step }
-        requires limit { limit ≤ most_limit }
+        requires step { step ≤ MAX_STEP }
+        requires limit { limit ≤ MAX_LIMIT }
         ensures { result ≡ record { traces = traces.now; step = step; limit = limit } }
     {
         RunTerms {
@@ -65,7 +65,7 @@ impl<'a, W: Wait, G: Gate> RunTerms<'a, W, G> {
     /// How often a device is pulled at most while producers run.
     pub fn limit(&self) -> u32
         ensures value { result ≡ self.now.limit }
-        ensures within { result ≤ most_limit }
+        ensures within { result ≤ MAX_LIMIT }
     {
         self.limit
     }
@@ -74,7 +74,7 @@ impl<'a, W: Wait, G: Gate> RunTerms<'a, W, G> {
     pub fn moment(&self, pull: u32) -> u64
         requires { pull ≤ self.now.limit }
         ensures moment { result ≡ pull * self.now.step }
-        ensures within { result < end_of_moments }
+        ensures within { result < END_OF_MOMENTS }
     {
         u64::from(pull) * u64::from(self.step)
     }

@@ -2,7 +2,7 @@
 use Rattle.std.specs.Prelude.{◌≡◌, ℕ, ◌+◌, ◌≤◌, ◌^◌, List, length, Option, Some, None, slice_get}
 use Rattle.std.specs.List.{AllByRecursion, AllZip}
 use Rattle.circular_buffer.specs.Buffer.{Buffer}
-use Rattle.clk_inlet.specs.Limits.{most_packets}
+use Rattle.clk_inlet.specs.declared.limits.TheConstants.{MAX_PACKETS}
 use Rattle.clk_inlet.specs.declared.item.Item.{Item}
 use Rattle.clk_sched.specs.FewHeads.{drrs_above}
 use Rattle.clk_sched.specs.Tree.{Tree, root}
@@ -16,7 +16,7 @@ use Rattle.clk_live.specs.State.{IsTokenOf}
 -- What was taken from a sender's inlet is what the sender offered, and no more than an inlet accepts in all.
 pub record AreOffered (events : List Event) (s : ℕ) (its : List Item) : Type 0 where
   pub lengths : AreOffersOf events s its
-  pub few : length its ≤ most_packets
+  pub few : length its ≤ MAX_PACKETS
 
 -- how many DRRScheds stand above a queue in the tree of its device
 abbrev pub drrs_in : Option Tree → ℕ → ℕ

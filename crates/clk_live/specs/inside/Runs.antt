@@ -1,7 +1,7 @@
 -- Packets that come next from an inlet, when they are offered.
 use Rattle.std.specs.Prelude.{◌≡◌, ℕ, ◌+◌, ◌≤◌, ◌++◌, ◌∷◌, [], List, length, slice_set as set, Some, slice_get}
 use Rattle.circular_buffer.specs.Buffer.{Buffer}
-use Rattle.clk_inlet.specs.Limits.{most_packets}
+use Rattle.clk_inlet.specs.declared.limits.TheConstants.{MAX_PACKETS}
 use Rattle.clk_inlet.specs.declared.item.Item.{Item}
 use Rattle.clk_router.specs.Course.{Course}
 use Rattle.clk_live.specs.declared.taking.Taken.{Taken}
@@ -13,7 +13,7 @@ use Rattle.clk_live.specs.inside.Kept.{IsKept}
 pub record CanRun (c : Course) (buffers : List (Buffer ℕ)) (items : List (List Item)) (place : ℕ) (before : List Item) (many : ℕ) : Type 0 where
   pub kept : IsKept c items buffers
   pub its : slice_get items place ≡ Some before
-  pub few : length before + many ≤ most_packets
+  pub few : length before + many ≤ MAX_PACKETS
 
 -- The packet `item`, which followed those from the inlet at a place, was offered, and its token noted.
 pub record IsOffered (place : ℕ) (old : Seen) (before : List Item) (item : Item) (t : Taken) (new : Course) (buffers : List (Buffer ℕ)) : Type 0 where

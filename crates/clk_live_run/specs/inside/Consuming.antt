@@ -7,7 +7,7 @@ use Rattle.clk_inlet.specs.Items.{packet_item}
 use Rattle.clk_router.specs.Course.{Course, after, events_of, accepted_at, evicted_at, emitted_at}
 use Rattle.clk_router.specs.Events.{Event, moment_in, Closes}
 use Rattle.clk_router.specs.Settled.{offered_in}
-use Rattle.clk_script.specs.Script.{most_moment}
+use Rattle.clk_script.specs.declared.limits.TheConstants.{MAX_MOMENT}
 use Rattle.clk_live.specs.State.{LiveState, seen, AllGoOn}
 use Rattle.clk_live.specs.Outcome.{AreAllEnded}
 use Rattle.clk_script.specs.declared.script.Command.{Command}
@@ -37,7 +37,7 @@ offers_in l = length (filter_map offered_in l.course.events)
 
 -- A script can name all moments that were handed in.
 abbrev pub AreEarly : LiveState → Type 0
-AreEarly l = AllByRecursion (λ m. m ≤ most_moment) (filter_map moment_in l.course.events)
+AreEarly l = AllByRecursion (λ m. m ≤ MAX_MOMENT) (filter_map moment_in l.course.events)
 
 -- Only packets were taken: each of them is an event, and no device was pulled.
 pub record OnlyTook (old new : LiveState) : Type 0 where
@@ -58,7 +58,7 @@ pub record PulledFirst (count moment : ℕ) (old new : LiveState) : Type 0 where
   pub outlets : new.outlets ≡ old.outlets
   pub many : length new.course.events ≡ length old.course.events + count
   pub offers : offers_in new ≡ offers_in old
-  pub early : moment ≤ most_moment → AreEarly old → AreEarly new
+  pub early : moment ≤ MAX_MOMENT → AreEarly old → AreEarly new
   pub moments : (d : ℕ) → moments_at new.course.setup new.course.events d ≡ moments_at old.course.setup old.course.events d ++ if_first count moment d
 
 -- Each device was pulled `pulls` times, at the moments of its pulls, and each packet that was taken is an event.

@@ -5,7 +5,7 @@ use Rattle.clk_packet.specs.Bytes.{AppendsFront}
 use Rattle.clk_script.specs.declared.script.Command.{Command}
 use Rattle.clk_script.specs.Record.{record_text}
 use Rattle.clk_script.specs.Records.{Records}
-use Rattle.clk_script.specs.Script.{most_lines}
+use Rattle.clk_script.specs.declared.limits.TheConstants.{MAX_LINES}
 use Rattle.clk_script.specs.declared.writer.ScriptWriter.{ScriptWriter}
 use Rattle.clk_live_run.specs.declared.recording.RecordState.{RecordState}
 use Rattle.clk_live_run.specs.declared.recording.RecordState.TheVariants.{Off, Going, Failed, Full}
@@ -26,7 +26,7 @@ abbrev pub StandsAs : RecordState → (recording : Bool) → (start now : SinkAt
 StandsAs Off recording start now writer commands = (recording ≡ false) × (now ≡ start)
 StandsAs Going recording start now writer commands = (recording ≡ true) × (now.failures ≡ start.failures) × Records start.taken now.taken commands writer
 StandsAs Failed recording start now writer commands = (recording ≡ true) × (now.failures ≡ start.failures + 1) × AppendsFront start.taken now.taken (record_text commands None)
-StandsAs Full recording start now writer commands = (recording ≡ true) × (most_lines ≤ length commands)
+StandsAs Full recording start now writer commands = (recording ≡ true) × (MAX_LINES ≤ length commands)
 
 -- This is the record of these commands, begun when the sink stood at `start`, if the run is recorded.
 abbrev pub IsRecordOf : (recording : Bool) → (start : SinkAt) → RecordAt → List Command → Type 0
@@ -40,5 +40,5 @@ LeadsOn old new before after = (recording : Bool) (start : SinkAt) → IsRecordO
 -- whole record or, if it failed, a front of it.
 pub record IsEnded (recording failed : Bool) (start now : SinkAt) (commands : List Command) : Type 0 where
   pub unrecorded : recording ≡ false → (now ≡ start) × (failed ≡ false)
-  pub whole : recording ≡ true → length commands < most_lines → failed ≡ false → (now.failures ≡ start.failures) × Appends start.taken now.taken (record_text commands (Some 0))
-  pub front : recording ≡ true → length commands < most_lines → failed ≡ true → (now.failures ≡ start.failures + 1) × AppendsFront start.taken now.taken (record_text commands (Some 0))
+  pub whole : recording ≡ true → length commands < MAX_LINES → failed ≡ false → (now.failures ≡ start.failures) × Appends start.taken now.taken (record_text commands (Some 0))
+  pub front : recording ≡ true → length commands < MAX_LINES → failed ≡ true → (now.failures ≡ start.failures + 1) × AppendsFront start.taken now.taken (record_text commands (Some 0))

@@ -2,7 +2,7 @@
 use Rattle.std.proofs.Common.{◌≡◌, ◌≤◌}
 use Rattle.std.proofs.Math.Bridge.{le_prop}
 use mathlib.Core.HLevel.{is_prop→PathP}
-use Rattle.clk_packet.specs.Limits.{most_length}
+use Rattle.clk_packet.specs.declared.limits.TheConstants.{MAX_LENGTH}
 use Rattle.clk_packet.specs.declared.packet.Packet.{Packet}
 
 -- two packets with the same number, sender and length
@@ -12,5 +12,5 @@ packet-same p q number sender size = λ i. record {
   sender = sender i;
   length = size i;
   has_length = is_prop→PathP (λ j. 1 ≤ size j) (λ j. le_prop) p.has_length q.has_length i;
-  is_within = is_prop→PathP (λ j. size j ≤ most_length) (λ j. le_prop) p.is_within q.is_within i;
+  is_within = is_prop→PathP (λ j. size j ≤ MAX_LENGTH) (λ j. le_prop) p.is_within q.is_within i;
 }

@@ -2,7 +2,7 @@
 use Rattle.std.proofs.Common.{◌≡◌, ℕ, ◌+◌, ◌<◌, ◌≤◌, ◌^◌, zero, suc, List, [], ◌∷◌, length, replicate, Some, IfSome, refl, sym, subst, arith}
 use Rattle.std.specs.List.{AllByRecursion}
 use Rattle.std.proofs.lemmas.List.{length-replicate}
-use Rattle.clk_packet.specs.Limits.{default_quantum}
+use Rattle.clk_packet.specs.declared.limits.TheConstants.{DEFAULT_QUANTUM}
 use Rattle.clk_packet.specs.declared.scheduler.SchedulerName.{SchedulerName}
 use Rattle.clk_packet.specs.declared.scheduler.SchedulerName.TheVariants as named
 use Rattle.clk_packet.specs.Scheduler.{Scheduler, prio, round_robin, drr, stride, shaper, name_of, arguments_of, most_argument, scheduler_with, inputs_of, over_inputs, HasArguments}
@@ -30,7 +30,7 @@ given name numbers s e = by_case name numbers e
     by_case : (name : SchedulerName) (numbers : List ℕ) → scheduler_with name numbers ≡ Some s → IsGiven name numbers s
     by_case named.Prio [] e = is named.Prio [] prio (omega arith) (λ all. record { arguments = tt; again = refl }) e
     by_case named.RoundRobin [] e = is named.RoundRobin [] round_robin (omega arith) (λ all. record { arguments = tt; again = refl }) e
-    by_case named.Drr [] e = is named.Drr [] (drr (default_quantum ∷ [])) (omega arith) (λ all. record { arguments = ((omega arith, omega arith), tt); again = refl }) e
+    by_case named.Drr [] e = is named.Drr [] (drr (DEFAULT_QUANTUM ∷ [])) (omega arith) (λ all. record { arguments = ((omega arith, omega arith), tt); again = refl }) e
     by_case named.Drr (q ∷ more) e = is named.Drr (q ∷ more) (drr (q ∷ more)) (omega arith) (λ all. record { arguments = all; again = refl }) e
     by_case named.Stride (t ∷ more) e = is named.Stride (t ∷ more) (stride (t ∷ more)) (omega arith) (λ all. record { arguments = all; again = refl }) e
     by_case named.Shaper (rate ∷ []) e = is named.Shaper (rate ∷ []) (shaper rate rate) (omega arith) (λ all. record { arguments = (all.0, (all.0, tt)); again = refl }) e

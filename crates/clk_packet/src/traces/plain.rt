@@ -2,10 +2,10 @@
 
 ghost use Rattle.std.specs.Prelude.{◌≡◌, ◌≤◌, None, IfSome, MatchResult};
 ghost use Rattle.clk_packet.specs.declared.fault.Fault.TheVariants.{Memory};
-ghost use Rattle.clk_packet.specs.Limits.{most_sender};
+ghost use Rattle.clk_packet.specs.declared.limits.TheConstants.{MAX_SENDER, MAX_RECORDS};
 ghost use Rattle.clk_packet.specs.Numbers.{BeginsWithNumber};
 ghost use Rattle.clk_packet.specs.inside.Plain.{IsPlainLine};
-ghost use Rattle.clk_packet.specs.Trace.{first_fault, most_records, packets_in, pairs_of, records_of, sent, sent_by, shown};
+ghost use Rattle.clk_packet.specs.Trace.{first_fault, packets_in, pairs_of, records_of, sent, sent_by, shown};
 
 use crate::fault::Fault;
 use crate::lengths::Length;
@@ -18,7 +18,7 @@ use std::alloc::Global;
 pub fn read_plain(alloc: Global, text: &[u8]) -> Result<Option<Traces>, Fault>
     ensures { MatchResult result
         (λ found. IfSome found
-        (λ traces. (first_fault 1 (records_of text.now) ≡ None) × ((s : _) → shown (sent_by traces s) ≡ sent s (pairs_of text.now)) × (packets_in traces ≤ most_records)))
+        (λ traces. (first_fault 1 (records_of text.now) ≡ None) × ((s : _) → shown (sent_by traces s) ≡ sent s (pairs_of text.now)) × (packets_in traces ≤ MAX_RECORDS)))
         (λ fault. fault ≡ Memory) }
 {
     let mut traces = Traces::new(alloc);
@@ -50,7 +50,7 @@ fn plain_record(text: &[u8]) -> Option<(u16, Length, &[u8])>
 
 /// The number of a sender that a text begins with, before a comma, and what follows the comma. `None` if the text doesn't begin so.
 fn sender_before(text: &[u8]) -> Option<(u64, &[u8])>
-    ensures { IfSome result (λ r. BeginsWithNumber text.now 44 0 most_sender r.0 r.1.now) }
+    ensures { IfSome result (λ r. BeginsWithNumber text.now 44 0 MAX_SENDER r.0 r.1.now) }
 {
     match text {
         // A trace of few senders has a digit and a comma at the front of each line.

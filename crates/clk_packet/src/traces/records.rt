@@ -3,7 +3,8 @@
 ghost use Rattle.std.specs.Prelude.{◌≡◌, None, Some, MatchOption, MatchResult, ◌⊎◌, ◌≤◌};
 ghost use Rattle.csv.specs.Records.{fields_of};
 ghost use Rattle.clk_packet.specs.declared.fault.Fault.TheVariants.{Memory};
-ghost use Rattle.clk_packet.specs.Trace.{most_records, packets_in, pair_in, pairs_of, record_fault, sent, sent_by, shown, trace_fault};
+ghost use Rattle.clk_packet.specs.Trace.{packets_in, pair_in, pairs_of, record_fault, sent, sent_by, shown, trace_fault};
+ghost use Rattle.clk_packet.specs.declared.limits.TheConstants.{MAX_RECORDS};
 
 use crate::fault::Fault;
 use crate::lengths::Length;
@@ -18,7 +19,7 @@ use std::alloc::Global;
 /// fails, and otherwise what is wrong with the text.
 pub fn read_text(alloc: Global, text: &[u8]) -> Result<Traces, Fault>
     ensures { MatchResult result
-        (λ traces. (trace_fault text.now ≡ None) × ((s : _) → shown (sent_by traces s) ≡ sent s (pairs_of text.now)) × (packets_in traces ≤ most_records))
+        (λ traces. (trace_fault text.now ≡ None) × ((s : _) → shown (sent_by traces s) ≡ sent s (pairs_of text.now)) × (packets_in traces ≤ MAX_RECORDS))
         (λ fault. (fault ≡ Memory) ⊎ (trace_fault text.now ≡ Some fault)) }
 {
     if text.len() > MAX_TRACE_BYTES {

@@ -1,7 +1,7 @@
 -- A table of totals, by the numbers of senders, and totals of which there is a sum.
 use Rattle.std.specs.Prelude.{◌≡◌, ℕ, ◌+◌, ◌*◌, ◌^◌, ◌<◌, ◌≤◌, List, length, Some, slice_get}
 use Rattle.clk_packet.specs.Counts.{total_of}
-use Rattle.clk_packet.specs.Limits.{most_length}
+use Rattle.clk_packet.specs.declared.limits.TheConstants.{MAX_LENGTH}
 use Rattle.clk_packet.specs.Dealt.{IsDealt}
 use Rattle.clk_packet.specs.Lists.{of_sender}
 use Rattle.clk_packet.specs.declared.counts.Counts.{Counts}
@@ -16,7 +16,7 @@ with_packet p total = record { packets = total.packets + 1; bytes = total.bytes 
 -- There is room to count `more` more packets.
 pub record HasRoom (more : ℕ) (total : Total ℕ) : Type 0 where
   pub packets : total.packets + more < 2 ^ 128
-  pub bytes : total.bytes + most_length * more < 2 ^ 128
+  pub bytes : total.bytes + MAX_LENGTH * more < 2 ^ 128
 
 -- The total of what was sent has room in 128 bits.
 pub record FitsSent (c : Counts ℕ) : Type 0 where

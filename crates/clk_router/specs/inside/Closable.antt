@@ -2,7 +2,7 @@
 use Rattle.std.specs.Prelude.{◌≡◌, ℕ, ◌<◌, ◌≤◌, ◌^◌, true, slice_get, Some}
 use Rattle.clk_packet.specs.Lists.{stands_in, are_distinct, AreRising}
 use Rattle.clk_sched.specs.Bound.{closing_bound}
-use Rattle.clk_sched.specs.Limits.{most_left}
+use Rattle.clk_sched.specs.declared.limits.TheConstants.{MAX_LEFT}
 use Rattle.clk_sched.specs.Tree.{Tree, root, leaves, IsSound}
 use Rattle.clk_router.specs.Events.{Setup, sender_numbers, is_at}
 use Rattle.clk_router.specs.Setups.{IsApart}
@@ -14,9 +14,9 @@ pub record AreQueuesOf (setup : Setup) (d : ℕ) (tree : Tree) : Type 0 where
   pub distinct : are_distinct (leaves (root tree)) ≡ true
   pub leaves_are : (q : ℕ) → stands_in q (leaves (root tree)) ≡ is_at d (slice_get setup.queues q)
 
--- A drain of a tree needs fewer than 2^42 pulls, if at most `most_left` packets are left.
+-- A drain of a tree needs fewer than 2^42 pulls, if at most `MAX_LEFT` packets are left.
 abbrev pub HasLowBound : Tree → Type 0
-HasLowBound tree = (left : ℕ) → left ≤ most_left → closing_bound tree left < 2 ^ 42
+HasLowBound tree = (left : ℕ) → left ≤ MAX_LEFT → closing_bound tree left < 2 ^ 42
 
 -- A setup over which each drain of a device comes to its end. The setup of a plan is one.
 pub record IsClosable (setup : Setup) : Type 0 where

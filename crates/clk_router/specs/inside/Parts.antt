@@ -4,7 +4,7 @@ use Rattle.std.specs.List.{filter_map, range_with_len, AllByRecursion}
 use Rattle.clk_packet.specs.declared.packet.Packet.{Packet}
 use Rattle.clk_packet.specs.declared.packet.Offered.{Offered}
 use Rattle.clk_packet.specs.declared.packet.Offered.TheVariants.{Accepted}
-use Rattle.clk_packet.specs.Limits.{most_elements, most_capacity}
+use Rattle.clk_packet.specs.declared.limits.TheConstants.{MAX_ELEMENTS, MAX_CAPACITY}
 use Rattle.clk_ring.specs.Queue.{Queue}
 use Rattle.clk_ring.specs.QueueHistory.{QueueEvent}
 use Rattle.clk_ring.specs.Laws.{LeadsTo}
@@ -12,7 +12,7 @@ use Rattle.clk_sched.specs.declared.session.departures.Departure.{Departure}
 use Rattle.clk_sched.specs.declared.session.keeps.Keeps.{Keeps}
 use Rattle.clk_sched.specs.Departures.{departures_in}
 use Rattle.clk_sched.specs.Due.{IsDue, tree_could_emit}
-use Rattle.clk_sched.specs.Limits.{most_left, end_of_drains, end_of_pulls, end_of_drained_pulls}
+use Rattle.clk_sched.specs.declared.limits.TheConstants.{MAX_LEFT, END_OF_DRAINS, END_OF_PULLS, END_OF_DRAINED_PULLS}
 use Rattle.clk_sched.specs.Log.{visits_of, moment_of, result_of}
 use Rattle.clk_sched.specs.Results.{emitted}
 use Rattle.clk_sched.specs.Session.{counted_moment, elements, SessionLists, progress_of, pulls_made}
@@ -24,7 +24,8 @@ use Rattle.clk_router.specs.declared.senders.Sender.{Sender}
 use Rattle.clk_router.specs.declared.devices.RouterDevice.{RouterDevice}
 use Rattle.clk_router.specs.declared.parts.Parts.{Parts}
 use Rattle.clk_router.specs.inside.Closable.{HasLowBound, IsClosable}
-use Rattle.clk_router.specs.Course.{room_device, end_of_packets}
+use Rattle.clk_router.specs.Course.{room_device}
+use Rattle.clk_router.specs.declared.limits.TheConstants.{END_OF_PACKETS}
 use Rattle.clk_router.specs.inside.Queues.{packets_at}
 use Rattle.clk_router.specs.inside.Past.{visits_shown, pull_shown, pulls_shown}
 use Rattle.clk_router.specs.Events.{Room, Setup, Event, CanHappen, numbers_of, moment_in, accepted_in, evicted_in, history, log_of, events_at, sender_numbers, Closes}
@@ -36,7 +37,7 @@ path_made q = q.device
 -- a tree over which a device can stand
 pub record CanStand (tree : Tree) : Type 0 where
   pub distinct : leaves_distinct tree ≡ true
-  pub fits : 1 + elements (root tree) ≤ most_elements
+  pub fits : 1 + elements (root tree) ≤ MAX_ELEMENTS
   pub sound : AreSchedulersSound (root tree)
   pub bound : HasLowBound tree
 
@@ -116,16 +117,16 @@ pub record IsAt (setup : Setup) (events : List Event) (parts : Parts) : Type 0 w
   pub paths : parts.paths.items ≡ map room_device setup.queues
   pub kinds : (d : ℕ) → KeepsAsAt parts.keeps (slice_get parts.devices.items d)
 
--- A setup over which a router can run. It has a device, and no more than `most_elements` devices and queues. Its senders stand by rising
--- numbers, and send to queues that exist. Its queues send to devices that exist, and no capacity is above `most_capacity`.
+-- A setup over which a router can run. It has a device, and no more than `MAX_ELEMENTS` devices and queues. Its senders stand by rising
+-- numbers, and send to queues that exist. Its queues send to devices that exist, and no capacity is above `MAX_CAPACITY`.
 pub record IsWhole (setup : Setup) : Type 0 where
   pub some : 1 ≤ length setup.trees
-  pub few : length setup.trees ≤ most_elements
+  pub few : length setup.trees ≤ MAX_ELEMENTS
   pub rising : AreRising (sender_numbers setup)
   pub wired : AllByRecursion (SendsWithin (length setup.queues)) setup.senders
   pub paths : AllByRecursion (λ (room : Room). room.device < length setup.trees) setup.queues
-  pub queue_count : length setup.queues ≤ most_elements
-  pub capacities : AllByRecursion (λ (room : Room). room.capacity ≤ most_capacity) setup.queues
+  pub queue_count : length setup.queues ≤ MAX_ELEMENTS
+  pub capacities : AllByRecursion (λ (room : Room). room.capacity ≤ MAX_CAPACITY) setup.queues
 
 -- a sender exists, its queue is one of `count`, and it can send one packet more
 abbrev pub CanSendOn : ℕ → Option Sender → Type 0
@@ -135,7 +136,7 @@ CanSendOn count (Some s) = (s.queue < count) × (s.sent + 1 < 2 ^ 32)
 -- one more packet can be counted at a device
 abbrev pub CanCount : Option RouterDevice → Type 0
 CanCount None = ⊥
-CanCount (Some device) = device.kept < end_of_packets
+CanCount (Some device) = device.kept < END_OF_PACKETS
 
 -- The sender at a place can offer a packet: its number stands there too, its queue exists and has a path, and its device can count one
 -- more.
@@ -149,7 +150,7 @@ pub record CanOfferAt (parts : Parts) (place : ℕ) : Type 0 where
 -- a device exists and can be pulled, whatever the moment
 abbrev pub CanPullAt : Keeps → Option RouterDevice → Type 0
 CanPullAt keeps None = ⊥
-CanPullAt keeps (Some device) = KeepsAs keeps device × (pulls_made (progress_of device.session) < end_of_pulls)
+CanPullAt keeps (Some device) = KeepsAs keeps device × (pulls_made (progress_of device.session) < END_OF_PULLS)
 
 -- a device emitted no more packets than it counts as kept
 abbrev pub CountsLeft : Option RouterDevice → Type 0
@@ -160,8 +161,8 @@ CountsLeft (Some device) = length (emitted device.session.log) ≤ device.kept
 abbrev pub CanCloseAt : ℕ → Option RouterDevice → Type 0
 CanCloseAt moment None = ⊥
 CanCloseAt moment (Some device) =
-    (length (emitted device.session.log) ≤ device.kept) × (device.kept ≤ length (emitted device.session.log) + most_left)
-    × (max (counted_moment (progress_of device.session)) moment < end_of_drains) × (pulls_made (progress_of device.session) < end_of_drained_pulls)
+    (length (emitted device.session.log) ≤ device.kept) × (device.kept ≤ length (emitted device.session.log) + MAX_LEFT)
+    × (max (counted_moment (progress_of device.session)) moment < END_OF_DRAINS) × (pulls_made (progress_of device.session) < END_OF_DRAINED_PULLS)
 
 -- Of these devices only the one with this number may have changed.
 pub record ChangesDevice (old : List RouterDevice) (number : ℕ) (new : List RouterDevice) : Type 0 where

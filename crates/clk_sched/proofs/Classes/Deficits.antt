@@ -9,7 +9,7 @@ use Rattle.std.proofs.lemmas.Option.{slice_get_read, slice_get-map}
 use Rattle.std.specs.Global.{Vec}
 use Rattle.std.specs.Vec.{with_items}
 use Rattle.clk_packet.specs.declared.packet.Packet.{Packet}
-use Rattle.clk_packet.specs.Limits.{most_length, most_inputs, most_quantum}
+use Rattle.clk_packet.specs.declared.limits.TheConstants.{MAX_LENGTH, MAX_INPUTS, MAX_QUANTUM}
 use Rattle.clk_sched.specs.declared.session.drr.Served.{Served}
 use Rattle.clk_sched.specs.declared.session.drr.Deficits.{Deficits}
 use Rattle.clk_sched.specs.declared.visit.Visit.{Visit}
@@ -52,7 +52,7 @@ settled-within row lent place i new after same at is = items-written row (slice_
 
 -- the limits of a row and its cursor
 pub record KeepsLimits (cursor : ℕ) (row : List Served) : Type 0 where
-  pub few : length row ≤ most_inputs
+  pub few : length row ≤ MAX_INPUTS
   pub cursor_within : cursor < length row
   pub quanta_within : AreQuantaWithin row
   pub deficits_within : AreDeficitsWithin cursor row
@@ -66,18 +66,18 @@ pub sum-fits : (cursor : ℕ) (row : List Served) (i : ℕ) (s : Served) → Kee
 sum-fits cursor row i s h e = search (rules, (h.quanta_within i s e), (h.deficits_within i s e))
 
 -- the limits after a move
-pub limits-moved : (cursor : ℕ) (row after : List Served) (i : ℕ) → KeepsLimits cursor row → ((t : Served) → slice_get row cursor ≡ Some t → IsWithoutDeficit t × (t.deficit < most_length)) → i < length row → IsArrivedAt i row after
+pub limits-moved : (cursor : ℕ) (row after : List Served) (i : ℕ) → KeepsLimits cursor row → ((t : Served) → slice_get row cursor ≡ Some t → IsWithoutDeficit t × (t.deficit < MAX_LENGTH)) → i < length row → IsArrivedAt i row after
     → KeepsLimits i after
 limits-moved cursor row after i h left within adds =
     subst (KeepsLimits i) (sym (adds s e))
     (record {
-      few = subst (λ n. n ≤ most_inputs) (sym (length-set row i (with_quantum s))) h.few;
+      few = subst (λ n. n ≤ MAX_INPUTS) (sym (length-set row i (with_quantum s))) h.few;
       cursor_within = subst (λ n. i < n) (sym (length-set row i (with_quantum s))) within;
-      quanta_within = each-written (λ j t. t.quantum ≤ most_quantum) row i (with_quantum s) (h.quanta_within i s e) (λ j t other f. h.quanta_within j t f);
+      quanta_within = each-written (λ j t. t.quantum ≤ MAX_QUANTUM) row i (with_quantum s) (h.quanta_within i s e) (λ j t other f. h.quanta_within j t f);
       deficits_within =
-          each-written (λ j t. t.deficit < most_length + (if j == i then t.quantum else 0)) row i (with_quantum s)
-          (subst (λ b. s.deficit + s.quantum < most_length + (if b then s.quantum else 0)) (sym (equal i i refl)) (let l = below i s e in omega (arith, l)))
-          (λ j t other f. subst (λ b. t.deficit < most_length + (if b then t.quantum else 0)) (sym (differs j i other)) (let l = below j t f in omega (arith, l)));
+          each-written (λ j t. t.deficit < MAX_LENGTH + (if j == i then t.quantum else 0)) row i (with_quantum s)
+          (subst (λ b. s.deficit + s.quantum < MAX_LENGTH + (if b then s.quantum else 0)) (sym (equal i i refl)) (let l = below i s e in omega (arith, l)))
+          (λ j t other f. subst (λ b. t.deficit < MAX_LENGTH + (if b then t.quantum else 0)) (sym (differs j i other)) (let l = below j t f in omega (arith, l)));
       idle_without = each-written (λ j t. j ≢ i → IsWithoutDeficit t) row i (with_quantum s) (λ other. absurd (other refl)) (λ j t other f k. without j t f);
     })
   where
@@ -87,7 +87,7 @@ limits-moved cursor row after i h left within adds =
     e : slice_get row i ≡ Some s
     e = (read-some row i within).1
 
-    below : (j : ℕ) (t : Served) → slice_get row j ≡ Some t → t.deficit < most_length
+    below : (j : ℕ) (t : Served) → slice_get row j ≡ Some t → t.deficit < MAX_LENGTH
     below j t f = search (rules, (h.deficits_within j t f))
 
     without : (j : ℕ) (t : Served) → slice_get row j ≡ Some t → IsWithoutDeficit t
@@ -97,15 +97,15 @@ limits-moved cursor row after i h left within adds =
 at-waiting : (quanta : List ℕ) (i : ℕ) (s : Served) → slice_get (map waiting quanta) i ≡ Some s → (q : ℕ) × (slice_get quanta i ≡ Some q) × (waiting q ≡ s)
 at-waiting quanta i s e = search (rules, slice_get-map, false≢true)
 
-pub none-left : (quanta : List ℕ) (row : List Served) (i : ℕ) (s : Served) → row ≡ map waiting quanta → slice_get row i ≡ Some s → IsWithoutDeficit s × (s.deficit < most_length)
+pub none-left : (quanta : List ℕ) (row : List Served) (i : ℕ) (s : Served) → row ≡ map waiting quanta → slice_get row i ≡ Some s → IsWithoutDeficit s × (s.deficit < MAX_LENGTH)
 none-left quanta row i s all e = search (rules, at-waiting)
 
-quantum-within : (quanta : List ℕ) (i q : ℕ) → AllByRecursion (λ n. (1 ≤ n) × (n ≤ most_quantum)) quanta → slice_get quanta i ≡ Some q → q ≤ most_quantum
+quantum-within : (quanta : List ℕ) (i q : ℕ) → AllByRecursion (λ n. (1 ≤ n) × (n ≤ MAX_QUANTUM)) quanta → slice_get quanta i ≡ Some q → q ≤ MAX_QUANTUM
 quantum-within [] i q h e = absurd (false≢true (ap is_some e))
-quantum-within (n ∷ quanta) zero q h e = subst (λ m. m ≤ most_quantum) (ap (λ o. unwrap_or o n) e) h.0.1
+quantum-within (n ∷ quanta) zero q h e = subst (λ m. m ≤ MAX_QUANTUM) (ap (λ o. unwrap_or o n) e) h.0.1
 quantum-within (n ∷ quanta) (suc i) q h e = quantum-within quanta i q h.1 e
 
-pub limits-first : (quanta : List ℕ) (row : List Served) → row ≡ map waiting quanta → 1 ≤ length quanta → length quanta ≤ most_inputs → AllByRecursion (λ n. (1 ≤ n) × (n ≤ most_quantum)) quanta
+pub limits-first : (quanta : List ℕ) (row : List Served) → row ≡ map waiting quanta → 1 ≤ length quanta → length quanta ≤ MAX_INPUTS → AllByRecursion (λ n. (1 ≤ n) × (n ≤ MAX_QUANTUM)) quanta
     → KeepsLimits 0 row
 limits-first quanta row all some few within = search (rules, at-waiting, quantum-within, none-left, length-map)
 

@@ -1,7 +1,7 @@
 -- DRRScheds above the queues of trees, as they are counted one tree after another.
 use Rattle.std.proofs.Common.{◌≡◌, ℕ, ◌+◌, ◌<◌, ◌≤◌, ◌||◌, Bool, true, false, if◌then◌else◌, List, ◌∷◌, ◌++◌, length, get_or, max, refl, sym, ap, ◌∙◌, subst, append-nil, arith, eq-eqb, rules}
 use Rattle.std.proofs.lemmas.Bool.{false≢true}
-use Rattle.clk_packet.specs.Limits.{most_levels}
+use Rattle.clk_packet.specs.declared.limits.TheConstants.{MAX_LEVELS}
 use Rattle.clk_packet.specs.Lists.{stands_in, are_distinct}
 use Rattle.clk_packet.specs.Scheduler.{Scheduler}
 use Rattle.clk_sched.specs.Tree.{Row, end, leaf, node, Tree, queue, root, height, leaves}
@@ -48,14 +48,14 @@ drrs-low q end = omega arith
 drrs-low q (leaf p r) = drrs-low q r
 drrs-low q (node class inputs r) = search (rules, (stands_in q (leaves inputs)), (most-one class), (drrs-low q inputs), (drrs-low q r))
 
-pub drrs-within : (q : ℕ) (t : Tree) → levels t ≤ most_levels → drrs_above q (root t) ≤ most_levels
+pub drrs-within : (q : ℕ) (t : Tree) → levels t ≤ MAX_LEVELS → drrs_above q (root t) ≤ MAX_LEVELS
 drrs-within q t low = omega (arith, low, height-root t, drrs-low q (root t))
 
 -- what a count of a row needs
 pub record CanCount (above : ℕ) (table : List ℕ) (r : Row) : Type 0 where
   pub places : HasPlaces r table
   pub distinct : are_distinct (leaves r) ≡ true
-  pub low : above + height r ≤ most_levels
+  pub low : above + height r ≤ MAX_LEVELS
 
 -- a row of trees is that of the first and that of the others
 module _ (above : ℕ) (t : Tree) (ts : List Tree) where

@@ -4,7 +4,7 @@ use Rattle.std.proofs.lemmas.Bool.Decides.{nat_tests}
 use Rattle.std.proofs.lemmas.List.{length-map}
 use Rattle.std.proofs.lemmas.Option.{slice_get_within}
 use Rattle.std.specs.List.{AllByRecursion}
-use Rattle.clk_packet.specs.Limits.{most_inputs}
+use Rattle.clk_packet.specs.declared.limits.TheConstants.{MAX_INPUTS}
 use Rattle.clk_sched.specs.declared.session.inputs.Below.{Below}
 use Rattle.clk_sched.specs.declared.session.inputs.Inputs.{Inputs}
 use Rattle.clk_sched.specs.declared.session.nodes.Nodes.{Nodes}
@@ -80,7 +80,7 @@ record IsPlaced (table : List Inputs) (states : List State) (x : ℕ) (class : S
   inputs : MatchOption (slice_get table x) ⊥ (IsEntry (entry_over x row))
   state : MatchOption (slice_get states x) ⊥ (Holds class (width row) [])
   some : 1 ≤ width row
-  few : width row ≤ most_inputs
+  few : width row ≤ MAX_INPUTS
   arguments : HasArguments class (width row)
   after : AllByRecursion (IsAfter (length table) x) (inputs_of (suc x) row)
   edges : elements row ≡ edges_to_all table (inputs_of (suc x) row)
@@ -193,7 +193,7 @@ wired table states x p e f =
     let each : p.each.items ≡ inputs_of (suc x) f.row = ap (λ (q : Entry). q.0) here in
     let below : below_of p ≡ below_row f.row = ap (λ (q : Entry). q.1) here in
     record {
-      few = subst (λ n. n ≤ most_inputs) (sym (ap length each ∙ length-inputs (suc x) f.row)) f.placed.few;
+      few = subst (λ n. n ≤ MAX_INPUTS) (sym (ap length each ∙ length-inputs (suc x) f.row)) f.placed.few;
       after = subst (AllByRecursion (IsAfter (length table) x)) (sym each) f.placed.after;
       edges = ap (λ (b : Below). b.edges) below ∙ f.placed.edges ∙ ap (edges_to_all table) (sym each);
       within = subst (AllByRecursion (IsWithin table x (below_of p))) (sym each) (subst (λ (b : Below). AllByRecursion (IsWithin table x b) (inputs_of (suc x) f.row)) (sym below) f.placed.within);

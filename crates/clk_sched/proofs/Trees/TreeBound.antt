@@ -5,8 +5,8 @@ use Rattle.std.specs.List.{AllByRecursion, flat_map}
 use Rattle.std.proofs.lemmas.List.{map-append}
 use Rattle.std.proofs.lemmas.List.Sums.{fold-append}
 use Rattle.std.proofs.Math.Nat.{mul-le-mul}
-use Rattle.clk_packet.specs.Limits.{most_quantum, most_length, most_levels}
-use Rattle.clk_sched.specs.Limits.{most_left}
+use Rattle.clk_packet.specs.declared.limits.TheConstants.{MAX_QUANTUM, MAX_LENGTH, MAX_LEVELS}
+use Rattle.clk_sched.specs.declared.limits.TheConstants.{MAX_LEFT}
 use Rattle.clk_packet.specs.Scheduler.{Scheduler, HasArguments, drr}
 use Rattle.clk_sched.specs.Tree.{Row, end, leaf, node, Tree, queue, scheduler, PlacedScheduler, schedulers_in, schedulers_of, root, nodes, width, IsWellFormed, IsSound}
 use Rattle.clk_sched.specs.Built.{levels, row}
@@ -46,7 +46,7 @@ rounds-in tree = rounds-below tree ∙ by_tree tree
 
 -- a quantum that can be divided by
 abbrev pub IsQuantum : ℕ → Type 0
-IsQuantum n = (1 ≤ n) × (n ≤ most_quantum)
+IsQuantum n = (1 ≤ n) × (n ≤ MAX_QUANTUM)
 
 pub class-positive : (class : Scheduler) (inputs : ℕ) → HasArguments class inputs → AllByRecursion (λ n. 1 ≤ n) (quanta_of class)
 class-positive (drr quanta) inputs h = all-weaker IsQuantum (λ n. 1 ≤ n) quanta (λ n k. k.0) h.1
@@ -64,19 +64,19 @@ pub bound-each : (tree : Tree) (left high many : ℕ) → high ≡ levels tree �
 bound-each tree left high many e f = search rules
 
 -- no quantum needs more rounds than the greatest length, and one
-rounds-for-few : (quantum : ℕ) → 1 ≤ quantum → rounds_for quantum ≤ most_length + 1
+rounds-for-few : (quantum : ℕ) → 1 ≤ quantum → rounds_for quantum ≤ MAX_LENGTH + 1
 rounds-for-few quantum some = search rules
 
-most-few : (most : ℕ) (quanta : List ℕ) → most ≤ most_length + 1 → AllByRecursion (λ n. 1 ≤ n) quanta → most_rounds most quanta ≤ most_length + 1
+most-few : (most : ℕ) (quanta : List ℕ) → most ≤ MAX_LENGTH + 1 → AllByRecursion (λ n. 1 ≤ n) quanta → most_rounds most quanta ≤ MAX_LENGTH + 1
 most-few most [] few some = few
 most-few most (n ∷ quanta) few some = most-few (max most (rounds_for n)) quanta (let here = rounds-for-few n some.0 in omega (arith, few, here)) some.1
 
-pub rounds-few : (tree : Tree) → IsWellFormed (root tree) → rounds tree ≤ most_length + 1
-rounds-few tree h = subst (λ n. n ≤ most_length + 1) (sym (rounds-below tree)) (most-few 1 (quanta_below (root tree)) (omega arith) (positive-row (root tree) (sound-formed (root tree) h)))
+pub rounds-few : (tree : Tree) → IsWellFormed (root tree) → rounds tree ≤ MAX_LENGTH + 1
+rounds-few tree h = subst (λ n. n ≤ MAX_LENGTH + 1) (sym (rounds-below tree)) (most-few 1 (quanta_below (root tree)) (omega arith) (positive-row (root tree) (sound-formed (root tree) h)))
 
 -- the closing's bound where no more packets are left than a drain is given
-low-product : (left high many : ℕ) → left ≤ most_left → high ≤ most_levels → many ≤ most_length + 1 → left * ((high + 1) * many) < 2 ^ 42
+low-product : (left high many : ℕ) → left ≤ MAX_LEFT → high ≤ MAX_LEVELS → many ≤ MAX_LENGTH + 1 → left * ((high + 1) * many) < 2 ^ 42
 low-product left high many few low short = search (rules, mul-le-mul)
 
-pub bound-low : (tree : Tree) → IsWellFormed (root tree) → levels tree ≤ most_levels → (left : ℕ) → left ≤ most_left → closing_bound tree left < 2 ^ 42
+pub bound-low : (tree : Tree) → IsWellFormed (root tree) → levels tree ≤ MAX_LEVELS → (left : ℕ) → left ≤ MAX_LEFT → closing_bound tree left < 2 ^ 42
 bound-low tree formed low left few = subst (λ n. n < 2 ^ 42) (sym (bound-each tree left (levels tree) (rounds tree) refl refl)) (low-product left (levels tree) (rounds tree) few low (rounds-few tree formed))

@@ -2,7 +2,7 @@
 use Rattle.std.proofs.lemmas.Grind.{common_steps}
 use Rattle.std.proofs.Common.{◌≡◌, ℕ, ◌+◌, ◌-◌, ◌<◌, ◌≤◌, ◌==◌, ◌||◌, Bool, List, [], ◌∷◌, ◌++◌, length, take, drop, get_or, Ok, Err, refl, append_assoc, arith, rules}
 use Rattle.clk_packet.specs.declared.fault.Fault.TheVariants.{TooLarge}
-use Rattle.clk_packet.specs.Limits.{most_inputs, most_levels}
+use Rattle.clk_packet.specs.declared.limits.TheConstants.{MAX_INPUTS, MAX_LEVELS}
 use Rattle.clk_packet.specs.Lists.{stands_in}
 use Rattle.clk_packet.specs.Scheduler.{Scheduler}
 use Rattle.clk_sched.specs.Tree.{Tree, queue, scheduler, root, height, width, leaves, Row, end, leaf, node, IsWellFormed, IsSound}
@@ -10,15 +10,15 @@ use Rattle.clk_sched.specs.Built.{built, row, leaves_of}
 use Rattle.clk_sched.specs.Session.{elements}
 use Rattle.clk_sched.specs.inside.LaidOut.{elements_of}
 
-pub built-wide : (class : Scheduler) (children : List Tree) → most_inputs < length children → Err TooLarge ≡ built class children
+pub built-wide : (class : Scheduler) (children : List Tree) → MAX_INPUTS < length children → Err TooLarge ≡ built class children
 unfolding built
 built-wide class children wide = search rules
 
-pub built-high : (class : Scheduler) (children : List Tree) → length children ≤ most_inputs → most_levels ≤ height (row children) → Err TooLarge ≡ built class children
+pub built-high : (class : Scheduler) (children : List Tree) → length children ≤ MAX_INPUTS → MAX_LEVELS ≤ height (row children) → Err TooLarge ≡ built class children
 unfolding built
 built-high class children narrow high = search rules
 
-pub built-fits : (class : Scheduler) (children : List Tree) → length children ≤ most_inputs → height (row children) < most_levels → Ok (scheduler class (row children)) ≡ built class children
+pub built-fits : (class : Scheduler) (children : List Tree) → length children ≤ MAX_INPUTS → height (row children) < MAX_LEVELS → Ok (scheduler class (row children)) ≡ built class children
 unfolding built
 built-fits class children narrow low = search rules
 

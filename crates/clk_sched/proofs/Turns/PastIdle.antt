@@ -6,7 +6,7 @@ use Rattle.std.proofs.lemmas.List.{length-set}
 use Rattle.std.proofs.Math.Nat.{mod-eq_of_lt}
 use Rattle.std.specs.Vec.{with_items}
 use Rattle.clk_packet.specs.declared.packet.Packet.{Packet}
-use Rattle.clk_packet.specs.Limits.{most_length, most_inputs, most_quantum}
+use Rattle.clk_packet.specs.declared.limits.TheConstants.{MAX_LENGTH, MAX_INPUTS, MAX_QUANTUM}
 use Rattle.clk_sched.specs.declared.session.drr.Served.{Served}
 use Rattle.clk_sched.specs.declared.session.drr.Deficits.{Deficits}
 use Rattle.clk_sched.specs.declared.session.nodes.Nodes.{Nodes}
@@ -44,10 +44,10 @@ limits-emptied : (d : Deficits) (s : Served) → slice_get d.row.items d.cursor 
 limits-emptied d s e =
     let long = length-set d.row.items d.cursor (settled s None) in
     record {
-      few = subst (λ n. n ≤ most_inputs) (sym long) d.few;
+      few = subst (λ n. n ≤ MAX_INPUTS) (sym long) d.few;
       cursor_within = subst (λ n. d.cursor < n) (sym long) d.cursor_within;
-      quanta_within = each-written (λ j t. t.quantum ≤ most_quantum) d.row.items d.cursor (settled s None) (d.quanta_within d.cursor s e) (λ j t other f. d.quanta_within j t f);
-      deficits_within = each-written (λ j t. t.deficit < most_length + (if j == d.cursor then t.quantum else 0)) d.row.items d.cursor (settled s None) (omega arith) (λ j t other f. d.deficits_within j t f);
+      quanta_within = each-written (λ j t. t.quantum ≤ MAX_QUANTUM) d.row.items d.cursor (settled s None) (d.quanta_within d.cursor s e) (λ j t other f. d.quanta_within j t f);
+      deficits_within = each-written (λ j t. t.deficit < MAX_LENGTH + (if j == d.cursor then t.quantum else 0)) d.row.items d.cursor (settled s None) (omega arith) (λ j t other f. d.deficits_within j t f);
       idle_without = each-written (λ j t. j ≢ d.cursor → IsWithoutDeficit t) d.row.items d.cursor (settled s None) (λ other. absurd (other refl)) (λ j t other f k. d.idle_without j t f k);
     }
 
@@ -85,7 +85,7 @@ module _ (d : Deficits) where
   pub limits : KeepsLimits next (with_items d.row after).items
   limits =
       limits-moved d.cursor (emptied d here) (with_items d.row after).items next (limits-emptied d here reads)
-      (λ t e. subst (λ (y : Served). IsWithoutDeficit y × (y.deficit < most_length)) (read-same d.row.items d.cursor (settled here None) t e) (λ none. refl, omega arith)) within arrives-at
+      (λ t e. subst (λ (y : Served). IsWithoutDeficit y × (y.deficit < MAX_LENGTH)) (read-same d.row.items d.cursor (settled here None) t e) (λ none. refl, omega arith)) within arrives-at
 
   abbrev pub passed-over : Deficits
   passed-over = record {

@@ -2,12 +2,12 @@
 use Rattle.std.specs.Prelude.{◌≡◌, ℕ, zero, suc, ◌+◌, ◌*◌, ◌<◌, ◌≤◌, ◌/◌, ◌%◌, ◌^◌, Option, None, Some}
 use Rattle.std.proofs.Common.{lit≤, refl, sym, arith}
 use Rattle.std.proofs.Math.Nat.{mod-lt, le-pred_of_lt, zero-lt-suc}
-use Rattle.clk_packet.specs.Limits.{most_length}
+use Rattle.clk_packet.specs.declared.limits.TheConstants.{MAX_LENGTH}
 use Rattle.clk_packet.specs.Packets.{packet}
 use Rattle.clk_packet.specs.declared.packet.Packet.{Packet}
 
 -- a packet of these, or none if the length is 0
-abbrev pub packet_of_length : (number sender length : ℕ) → length ≤ most_length → Option Packet
+abbrev pub packet_of_length : (number sender length : ℕ) → length ≤ MAX_LENGTH → Option Packet
 packet_of_length number sender zero within = None
 packet_of_length number sender (suc n) within = Some (packet sender number (suc n) (zero-lt-suc n) within)
 
@@ -24,7 +24,7 @@ number_of (Some p) = p.number + p.sender * 2 ^ 32 + p.length * 2 ^ 48
 abbrev pub IsGot : ℕ → Type 0
 IsGot n = (n < 2 ^ 64) × (n / 2 ^ 48 ≡ 0 → n ≡ 0)
 
-number-length : (number sender l n : ℕ) (within : l ≤ most_length) → IsGot n → l ≡ n / 2 ^ 48 % 2 ^ 16 → number ≡ n % 2 ^ 32 → sender ≡ n / 2 ^ 32 % 2 ^ 16 → number_of (packet_of_length number sender l within) ≡ n
+number-length : (number sender l n : ℕ) (within : l ≤ MAX_LENGTH) → IsGot n → l ≡ n / 2 ^ 48 % 2 ^ 16 → number ≡ n % 2 ^ 32 → sender ≡ n / 2 ^ 32 % 2 ^ 16 → number_of (packet_of_length number sender l within) ≡ n
 number-length number sender zero n within h size low middle = let fits = h.0 in let none : n / 2 ^ 48 ≡ 0 = omega (arith, size, fits) in sym (h.1 none)
 number-length number sender (suc k) n within h size low middle = let fits = h.0 in omega (arith, fits, size, low, middle)
 

@@ -1,6 +1,6 @@
 -- How a tree is laid out in tables by node number.
 use Rattle.std.specs.Prelude.{◌≡◌, ℕ, ◌+◌, ◌≤◌, List, [], ◌∷◌, ◌++◌, length, map, max, min, suc, ⊤}
-use Rattle.clk_packet.specs.Limits.{most_inputs}
+use Rattle.clk_packet.specs.declared.limits.TheConstants.{MAX_INPUTS}
 use Rattle.clk_sched.specs.declared.session.inputs.Input.{Input}
 use Rattle.clk_sched.specs.declared.session.inputs.Input.TheVariants.{Queue, Node}
 use Rattle.clk_sched.specs.declared.session.inputs.Below.{Below}
@@ -107,5 +107,5 @@ AddsNode old new state row =
 pub record FitsInputs (class : Scheduler) : Type 0 where
   pub inputs : ℕ
   pub some : 1 ≤ inputs
-  pub few : inputs ≤ most_inputs
+  pub few : inputs ≤ MAX_INPUTS
   pub arguments : HasArguments class inputs

@@ -1,7 +1,7 @@
 -- Where nodes stand in the tables of a session, and what stands at their inputs.
 use Rattle.std.specs.Prelude.{◌≡◌, ℕ, ◌+◌, ◌<◌, ◌≤◌, List, [], ◌∷◌, length, suc, ⊤, Option, Some, None, MatchOption, slice_get, if◌then◌else◌}
 use Rattle.std.specs.List.{AllByRecursion}
-use Rattle.clk_packet.specs.Limits.{most_inputs}
+use Rattle.clk_packet.specs.declared.limits.TheConstants.{MAX_INPUTS}
 use Rattle.clk_sched.specs.declared.visit.Visit.{Visit}
 use Rattle.clk_sched.specs.declared.session.inputs.Input.{Input}
 use Rattle.clk_sched.specs.declared.session.inputs.Input.TheVariants.{Queue, Node}
@@ -88,7 +88,7 @@ IsWithin table x below (Node m) =
 
 -- Each node of a table has schedulers after it at its inputs, and says how many edges there are from it and below, and what is below.
 pub record IsWired (table : List Inputs) (x : ℕ) (p : Inputs) : Type 0 where
-  pub few : length p.each.items ≤ most_inputs
+  pub few : length p.each.items ≤ MAX_INPUTS
   pub after : AllByRecursion (IsAfter (length table) x) p.each.items
   pub edges : p.edges ≡ edges_to_all table p.each.items
   pub within : AllByRecursion (IsWithin table x (below_of p)) p.each.items

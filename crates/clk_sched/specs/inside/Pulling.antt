@@ -5,7 +5,7 @@ use Rattle.clk_packet.specs.declared.packet.Packet.{Packet}
 use Rattle.clk_sched.specs.declared.visit.Visit.{Visit}
 use Rattle.clk_sched.specs.declared.session.state.State.{State}
 use Rattle.clk_sched.specs.declared.session.nodes.Nodes.{Nodes}
-use Rattle.clk_sched.specs.Limits.{end_of_moments}
+use Rattle.clk_sched.specs.declared.limits.TheConstants.{END_OF_MOMENTS}
 use Rattle.clk_packet.specs.Scheduler.{Scheduler}
 use Rattle.clk_sched.specs.Tree.{Row, end, leaf, node, nodes, width}
 use Rattle.clk_sched.specs.Turns.{Turn}
@@ -120,7 +120,7 @@ pub record CanPull (n : Nodes) (x visits : ℕ) : Type 0 where
   pub fit : AllFit n.inputs.items n.states.items
   pub there : x < length n.inputs.items
   pub room : visits ≤ n.log.spare
-  pub moment : n.moment < end_of_moments
+  pub moment : n.moment < END_OF_MOMENTS
 
 -- what stays while nodes from `first` on are pulled, and that the log grows, by so many visits at most
 pub record Keeps (first : ℕ) (old new : Nodes) (most : ℕ) : Type 0 where

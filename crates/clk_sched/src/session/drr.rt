@@ -1,7 +1,7 @@
 //! The heads, deficits and cursor of a DRRSched.
 
 ghost use Rattle.std.specs.Prelude.{◌≡◌, ◌+◌, ◌^◌, ◌<◌, ◌≤◌, false, length, map, slice_get, slice_set, Some, None, IfOk};
-ghost use Rattle.clk_packet.specs.Limits.{most_inputs, most_quantum};
+ghost use Rattle.clk_packet.specs.declared.limits.TheConstants.{MAX_INPUTS, MAX_QUANTUM};
 ghost use Rattle.clk_sched.specs.inside.Holds.Served.{AreQuantaWithin, AreDeficitsWithin, AreIdleWithoutDeficits, IsArrivedAt, IsWithoutDeficit, waiting, with_quantum};
 ghost use Rattle.clk_sched.specs.declared.session.drr.Served.{Served};
 
@@ -28,7 +28,7 @@ struct Served {
 pub struct Deficits {
     cursor: u16,
     row: Vec<Served>,
-    ghost few: { length row.items ≤ most_inputs },
+    ghost few: { length row.items ≤ MAX_INPUTS },
     ghost cursor_within: { cursor < length row.items },
     ghost quanta_within: { AreQuantaWithin row.items },
     ghost deficits_within: { AreDeficitsWithin cursor row.items },
@@ -92,7 +92,7 @@ impl Served {
 impl Deficits {
     ghost use Rattle.std.specs.Prelude.{◌%◌, ◌++◌, ℕ, List, [], ◌∷◌, is_some, true, IsSome, IfSome};
     ghost use Rattle.std.specs.List.{AllByRecursion, list_any};
-    ghost use Rattle.clk_packet.specs.Limits.{most_length};
+    ghost use Rattle.clk_packet.specs.declared.limits.TheConstants.{MAX_LENGTH};
     ghost use Rattle.clk_sched.specs.declared.visit.Visit.{Visit};
     ghost use Rattle.clk_sched.specs.Heads.{head_at, is_covered};
     ghost use Rattle.clk_sched.specs.Laws.Deficit.{next_input, deficit_covers};
@@ -112,8 +112,8 @@ impl Deficits {
 
     /// What a DRRSched with these quanta, one for each input, holds before its first visit.
     pub fn new(alloc: Global, quanta: &[u32]) -> Result<Deficits, AllocError>
-        requires inputs { (1 ≤ length quanta.now) × (length quanta.now ≤ most_inputs) }
-        requires quanta { AllByRecursion (λ n. (1 ≤ n) × (n ≤ most_quantum)) quanta.now }
+        requires inputs { (1 ≤ length quanta.now) × (length quanta.now ≤ MAX_INPUTS) }
+        requires quanta { AllByRecursion (λ n. (1 ≤ n) × (n ≤ MAX_QUANTUM)) quanta.now }
         ensures { IfOk result (λ d. HoldsDeficits quanta.now (length quanta.now) [] d) }
     {
         let mut row = all_waiting(alloc, quanta)?;
@@ -382,7 +382,7 @@ impl Deficits {
     fn move_on(&mut self, inputs: u16)
         requires some { 1 ≤ inputs }
         requires within { self.old.cursor + inputs ≤ length self.old.row.items }
-        requires left { (s : Served) → slice_get self.old.row.items self.old.cursor ≡ Some s → IsWithoutDeficit s × (s.deficit < most_length) }
+        requires left { (s : Served) → slice_get self.old.row.items self.old.cursor ≡ Some s → IsWithoutDeficit s × (s.deficit < MAX_LENGTH) }
         ensures length { length self.new.row.items ≡ length self.old.row.items }
         ensures cursor { self.new.cursor ≡ (self.old.cursor + inputs) % length self.old.row.items }
         ensures row { IsArrivedAt self.new.cursor self.old.row.items self.new.row.items }

@@ -11,7 +11,7 @@ use crate::session::nodes::Nodes;
 impl Nodes {
     ghost use Rattle.std.specs.Prelude.{◌+◌, [], ◌∷◌};
     ghost use Rattle.std.specs.List.{AllByRecursion};
-    ghost use Rattle.clk_sched.specs.Limits.{end_of_moments};
+    ghost use Rattle.clk_sched.specs.declared.limits.TheConstants.{END_OF_MOMENTS};
     ghost use Rattle.clk_sched.specs.inside.Due.{AreDue, IsDueAt};
     ghost use Rattle.clk_sched.specs.inside.Places.{AreWired, AllFit, IsAfter};
 
@@ -22,7 +22,7 @@ impl Nodes {
         requires there { node < length self.now.inputs.items }
         requires wired { AreWired self.now.inputs.items }
         requires fit { AllFit self.now.inputs.items self.now.states.items }
-        requires moment { self.now.moment < end_of_moments }
+        requires moment { self.now.moment < END_OF_MOMENTS }
         ensures due { IsDueAt self.now (B.backlogged queues.now) node result }
         ensures soon { IfSome result (λ due. due ≤ self.now.moment + 1) }
     {
@@ -42,7 +42,7 @@ impl Nodes {
         requires after { AllByRecursion (IsAfter (length self.now.inputs.items) above) inputs.now }
         requires wired { AreWired self.now.inputs.items }
         requires fit { AllFit self.now.inputs.items self.now.states.items }
-        requires moment { self.now.moment < end_of_moments }
+        requires moment { self.now.moment < END_OF_MOMENTS }
         ensures due { AreDue self.now (B.backlogged queues.now) inputs.now result }
         ensures soon { IfSome result (λ due. due ≤ self.now.moment + 1) }
     {
@@ -63,7 +63,7 @@ impl Nodes {
         requires after { IsAfter (length self.now.inputs.items) above input.now }
         requires wired { AreWired self.now.inputs.items }
         requires fit { AllFit self.now.inputs.items self.now.states.items }
-        requires moment { self.now.moment < end_of_moments }
+        requires moment { self.now.moment < END_OF_MOMENTS }
         ensures due { AreDue self.now (B.backlogged queues.now) (input.now ∷ []) result }
         ensures soon { IfSome result (λ due. due ≤ self.now.moment + 1) }
     {

@@ -1,7 +1,7 @@
 //! How a tree is laid out in tables, by node number, before its first pull.
 
 ghost use Rattle.std.specs.Prelude.{◌≡◌, ℕ, ◌+◌, ◌≤◌, ◌<◌, true, [], ◌++◌, length, MatchOption, IfOk, IfErr};
-ghost use Rattle.clk_packet.specs.Limits.{most_elements};
+ghost use Rattle.clk_packet.specs.declared.limits.TheConstants.{MAX_ELEMENTS};
 ghost use Rattle.clk_packet.specs.Scheduler.{HasArguments};
 ghost use Rattle.clk_sched.specs.Tree.{root};
 ghost use Rattle.clk_sched.specs.Built.{row};
@@ -53,7 +53,7 @@ pub fn lay_out(alloc: Global, tree: &Tree, keeps: Keeps) -> Result<Nodes, Fault>
     ensures laid_out { IfOk result (λ n. IsLaidOut tree.now n) }
     ensures kind { IfOk result (λ n. n.log.kind ≡ kind_made keeps n.log.kind.room) }
     ensures room { IfOk result (λ n. keeps.latest ≡ true → edges_of n.inputs.items 0 ≤ n.log.kind.room) }
-    ensures fits { IfOk result (λ n. 1 + elements (root tree.now) ≤ most_elements) }
+    ensures fits { IfOk result (λ n. 1 + elements (root tree.now) ≤ MAX_ELEMENTS) }
     ensures refused { IfErr result (λ fault. IsRefused tree.now fault) }
 {
     // Reading a field of the tree brings the type invariant into scope: the tree is well formed.
@@ -103,7 +103,7 @@ fn room_after_each(trees: &[Tree], room: u16) -> Option<u16>
 /// Lays a tree out. Returns what stands for it at an input, and what is there and below.
 #[cycle(lay)]
 fn lay(alloc: Global, tables: &mut Tables, tree: &Tree) -> Result<(Input, Below), AllocError>
-    requires room { length tables.old.inputs.items + elements_of tree.now ≤ most_elements }
+    requires room { length tables.old.inputs.items + elements_of tree.now ≤ MAX_ELEMENTS }
     ensures adds { IfOk result (λ r. Adds tables.old tables.new (entries_of (length tables.old.inputs.items) tree.now) (kinds_of tree.now)) }
     ensures input { IfOk result (λ r. r.0 ≡ input_of (length tables.old.inputs.items) tree.now) }
     ensures below { IfOk result (λ r. r.1 ≡ below_tree tree.now) }
@@ -158,7 +158,7 @@ fn lay_node(
     state: State,
     trees: &[Tree],
 ) -> Result<Below, AllocError>
-    requires room { length tables.old.inputs.items + elements (row trees.now) < most_elements }
+    requires room { length tables.old.inputs.items + elements (row trees.now) < MAX_ELEMENTS }
     ensures adds { IfOk result (λ below. AddsNode tables.old tables.new state (row trees.now)) }
     ensures below { IfOk result (λ below. below ≡ below_row (row trees.now)) }
 {
@@ -180,7 +180,7 @@ fn lay_inputs(
     each: &mut Vec<Input>,
     trees: &[Tree],
 ) -> Result<Below, AllocError>
-    requires room { length tables.old.inputs.items + elements (row trees.now) ≤ most_elements }
+    requires room { length tables.old.inputs.items + elements (row trees.now) ≤ MAX_ELEMENTS }
     ensures adds { IfOk result (λ below. Adds tables.old tables.new (entries (length tables.old.inputs.items) (row trees.now)) (kinds (row trees.now))) }
     ensures each { IfOk result (λ below. each.new.items ≡ each.old.items ++ inputs_of (length tables.old.inputs.items) (row trees.now)) }
     ensures below { IfOk result (λ below. below ≡ below_row (row trees.now)) }

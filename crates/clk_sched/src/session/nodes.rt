@@ -36,7 +36,7 @@ pub struct Nodes {
 impl Nodes {
     ghost use Rattle.std.specs.Prelude.{◌≡◌, ℕ, suc, None, ◌-◌, ◌<◌, ◌++◌, ◌∷◌, [], ◌+◌, ◌≤◌, length, take, IsSome, IfSome, Some, slice_get, true};
     ghost use Rattle.std.specs.List.{AllByRecursion, range_with_len};
-    ghost use Rattle.clk_packet.specs.Limits.{most_inputs};
+    ghost use Rattle.clk_packet.specs.declared.limits.TheConstants.{MAX_INPUTS};
     ghost use Rattle.clk_sched.specs.declared.visit.Visit.{Visit};
     ghost use Rattle.clk_sched.specs.declared.session.state.State.TheVariants.{Prio};
     ghost use Rattle.clk_sched.specs.Answers.{Answers};
@@ -161,7 +161,7 @@ impl Nodes {
     ) -> Option<(u16, Packet)>
         requires can_pull { CanPull self.old node (edges_in self.old.inputs.items node (range_with_len first count)) }
         requires within { AllByRecursion (λ i. IsSome (input_at self.old.inputs.items node i)) (range_with_len first count) }
-        requires few { first + count ≤ most_inputs }
+        requires few { first + count ≤ MAX_INPUTS }
         ensures place { IfSome result (λ r. r.0 < count) }
         ensures asked { HasAskedAll Q.gives self.old self.new q.old q.new node (range_with_len first count) result }
     {
@@ -188,7 +188,7 @@ impl Nodes {
     fn pass_idle<Q: Ask>(&mut self, q: &Q, node: u16, first: u16, count: u16) -> u16
         requires can_pull { CanPull self.old node (edges_in self.old.inputs.items node (range_with_len first count)) }
         requires within { AllByRecursion (λ i. IsSome (input_at self.old.inputs.items node i)) (range_with_len first count) }
-        requires few { first + count ≤ most_inputs }
+        requires few { first + count ≤ MAX_INPUTS }
         ensures within { result ≤ count }
         ensures asked { HasAskedAll Q.gives self.old self.new q.now q.now node (range_with_len first result) None }
     {
@@ -255,7 +255,7 @@ impl Nodes {
     #[inline]
     pub fn record_idle(&mut self, node: u16, first: u16, count: u16)
         requires room { count ≤ self.old.log.spare }
-        requires few { first + count ≤ most_inputs }
+        requires few { first + count ≤ MAX_INPUTS }
         ensures { self.new ≡ with_idle_at self.old node first count }
     {
         if self.log.keeps_any() {
@@ -275,7 +275,7 @@ impl Nodes {
     #[inline(never)]
     fn record_idle_kept(&mut self, node: u16, first: u16, count: u16)
         requires room { count ≤ self.old.log.spare }
-        requires few { first + count ≤ most_inputs }
+        requires few { first + count ≤ MAX_INPUTS }
         ensures { self.new ≡ with_idle_at self.old node first count }
     {
         self.log.push_idle(&IdleInputs {

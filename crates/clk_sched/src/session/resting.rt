@@ -8,7 +8,7 @@ use crate::session::stride::Rank;
 impl Nodes {
     ghost use Rattle.std.specs.Prelude.{◌≡◌, ◌<◌, ◌≤◌, ◌+◌, ◌||◌, true, false, length, take, List, None, IsSome};
     ghost use Rattle.std.specs.List.{AllByRecursion, range_with_len};
-    ghost use Rattle.clk_packet.specs.Limits.{most_inputs};
+    ghost use Rattle.clk_packet.specs.declared.limits.TheConstants.{MAX_INPUTS};
     ghost use Rattle.clk_sched.specs.declared.visit.Visit.{Visit};
     ghost use Rattle.clk_sched.specs.inside.Places.{AreWired, AllFit, edges_at, edges_in, input_at};
     ghost use Rattle.clk_sched.specs.inside.Pulling.{CanPull};
@@ -24,7 +24,7 @@ impl Nodes {
     pub fn pass_resting<Q: Ask>(&mut self, q: &Q, node: u16, first: u16, count: u16) -> u16
         requires can_pull { CanPull self.old node (edges_in self.old.inputs.items node (range_with_len first count)) }
         requires within { AllByRecursion (λ i. IsSome (input_at self.old.inputs.items node i)) (range_with_len first count) }
-        requires few { first + count ≤ most_inputs }
+        requires few { first + count ≤ MAX_INPUTS }
         ensures within { result ≤ count }
         ensures asked { HasAskedAll Q.gives self.old self.new q.now q.now node (range_with_len first result) None }
     {

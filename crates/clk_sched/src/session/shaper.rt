@@ -1,8 +1,8 @@
 //! The token bucket of a Shaper.
 
 ghost use Rattle.std.specs.Prelude.{◌≤◌, ◌<◌};
-ghost use Rattle.clk_packet.specs.Limits.{most_rate, most_burst};
-ghost use Rattle.clk_sched.specs.Limits.{end_of_moments};
+ghost use Rattle.clk_packet.specs.declared.limits.TheConstants.{MAX_RATE, MAX_BURST};
+ghost use Rattle.clk_sched.specs.declared.limits.TheConstants.{END_OF_MOMENTS};
 
 use crate::ask::Ask;
 use crate::session::got::Got;
@@ -21,9 +21,9 @@ pub struct Bucket {
     rate: u32,
     burst: u32,
     ghost fills: { 1 ≤ rate },
-    ghost rate_within: { rate ≤ most_rate },
+    ghost rate_within: { rate ≤ MAX_RATE },
     ghost holds_some: { 1 ≤ burst },
-    ghost burst_within: { burst ≤ most_burst },
+    ghost burst_within: { burst ≤ MAX_BURST },
     ghost tokens_within: { tokens ≤ burst },
 }
 
@@ -42,8 +42,8 @@ impl Bucket {
 
     /// A full bucket.
     pub fn new(rate: u32, burst: u32) -> Bucket
-        requires rate { (1 ≤ rate) × (rate ≤ most_rate) }
-        requires burst { (1 ≤ burst) × (burst ≤ most_burst) }
+        requires rate { (1 ≤ rate) × (rate ≤ MAX_RATE) }
+        requires burst { (1 ≤ burst) × (burst ≤ MAX_BURST) }
         ensures { HoldsBucket rate burst [] result }
     {
         Bucket {
@@ -57,7 +57,7 @@ impl Bucket {
     /// Takes one of the tokens at this moment, in ticks, for a packet that is to pass. Returns whether there was one.
     #[inline]
     pub fn take(&mut self, moment: u64) -> bool
-        requires { moment < end_of_moments }
+        requires { moment < END_OF_MOMENTS }
         ensures room { (rate burst : ℕ) (turns : List Turn) → HoldsBucket rate burst turns self.old → AreBefore moment turns → result ≡ has_room rate burst moment turns }
         ensures taken { MatchBool result (IsTaken self.old self.new moment) (self.new ≡ self.old) }
     {
@@ -80,7 +80,7 @@ impl Bucket {
     /// The earliest moment from this one on, in ticks, at which there is room for a packet. It is this one if the bucket has a token, and
     /// else the next: at least one token is added each tick.
     pub fn opens_at(&self, moment: u64) -> u64
-        requires { moment < end_of_moments }
+        requires { moment < END_OF_MOMENTS }
         ensures room { (rate burst : ℕ) (turns : List Turn) → HoldsBucket rate burst turns self.now → AreBefore moment turns → IsDue (λ m. has_room rate burst m turns) moment (Some result) }
         ensures soon { result ≤ moment + 1 }
     {
@@ -94,7 +94,7 @@ impl Bucket {
     /// The tokens at this moment, in ticks, `burst` at most. There is room for a packet if there is at least one.
     #[inline]
     fn tokens_at(&self, moment: u64) -> u32
-        requires { moment < end_of_moments }
+        requires { moment < END_OF_MOMENTS }
         ensures tokens { result ≡ tokens_at self.now moment }
         ensures room { (rate burst : ℕ) (turns : List Turn) → HoldsBucket rate burst turns self.now → AreBefore moment turns → nat_lt 0 result ≡ has_room rate burst moment turns }
     {
@@ -191,7 +191,7 @@ impl Bucket {
     fn take_at(nodes: &mut Nodes, node: u16) -> bool
         requires there { node < length nodes.old.states.items }
         requires holds { IfSome (slice_get nodes.old.states.items node) IsShaper }
-        requires moment { nodes.old.moment < end_of_moments }
+        requires moment { nodes.old.moment < END_OF_MOMENTS }
         ensures { TakesToken nodes.old nodes.new node result }
     {
         let moment = nodes.moment;

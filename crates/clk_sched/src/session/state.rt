@@ -20,7 +20,7 @@ pub enum State {
 
 impl State {
     ghost use Rattle.std.specs.Prelude.{◌≡◌, ◌↔◌, true};
-    ghost use Rattle.clk_sched.specs.Limits.{end_of_moments};
+    ghost use Rattle.clk_sched.specs.declared.limits.TheConstants.{END_OF_MOMENTS};
     ghost use Rattle.clk_sched.specs.inside.Due.{OpensAt, HoldsHead};
     ghost use Rattle.clk_sched.specs.declared.session.state.State.TheVariants.{Prio};
     ghost use Rattle.clk_sched.specs.inside.Resting.{IsAtRest};
@@ -37,7 +37,7 @@ impl State {
 
     /// The earliest moment from this one on, in ticks, at which a node with this state lets a packet through.
     pub fn opens_at(&self, moment: u64) -> u64
-        requires { moment < end_of_moments }
+        requires { moment < END_OF_MOMENTS }
         ensures opens { OpensAt self.now moment result }
         ensures soon { result ≤ moment + 1 }
     {

@@ -2,7 +2,7 @@
 
 ghost use Rattle.std.specs.Prelude.{◌≡◌, ◌≤◌, ◌<◌, ◌+◌, ◌^◌, ◌++◌, ◌∷◌, List, true, take, drop, length, map, slice_get, Some, IfOk};
 ghost use Rattle.std.specs.List.{All, AllByRecursion, range_with_len};
-ghost use Rattle.clk_packet.specs.Limits.{most_inputs, most_tickets};
+ghost use Rattle.clk_packet.specs.declared.limits.TheConstants.{MAX_INPUTS, MAX_TICKETS};
 ghost use Rattle.clk_sched.specs.Laws.Stride.{stride_of};
 ghost use Rattle.clk_sched.specs.inside.Ranks.{greatest_stride, IsRankOf, FollowOneAnother, HasRisingPasses, HasRisingPasses-prop, AreInOrder, AreUpTo, is_up_to, put_rank, put_all, at_pass, after_win, first_pass, from_least, less, first_rank, inputs_in, IsRowWon};
 
@@ -123,8 +123,8 @@ impl Passes {
     ///
     /// If an allocation fails.
     pub fn new(alloc: Global, tickets: &[u32]) -> Result<Passes, AllocError>
-        requires inputs { length tickets.now ≤ most_inputs }
-        requires tickets { AllByRecursion (λ n. (1 ≤ n) × (n ≤ most_tickets)) tickets.now }
+        requires inputs { length tickets.now ≤ MAX_INPUTS }
+        requires tickets { AllByRecursion (λ n. (1 ≤ n) × (n ≤ MAX_TICKETS)) tickets.now }
         ensures holds { IfOk result (λ p. HoldsPasses tickets.now [] p) }
         ensures inputs { IfOk result (λ p. length p.row.items ≡ length tickets.now) }
     {

@@ -13,8 +13,8 @@ use clk_packet::{MAX_LENGTH, Scheduler};
 
 impl Tree {
     ghost use Rattle.clk_sched.specs.Bound.{rounds, closing_bound};
-    ghost use Rattle.clk_packet.specs.Limits.{most_length, most_levels};
-    ghost use Rattle.clk_sched.specs.Limits.{most_left};
+    ghost use Rattle.clk_packet.specs.declared.limits.TheConstants.{MAX_LENGTH, MAX_LEVELS};
+    ghost use Rattle.clk_sched.specs.declared.limits.TheConstants.{MAX_LEFT};
 
     /// A law: each scheduler of a tree has at least one input, and arguments within their limits.
     pub fn schedulers_are_sound(&self)
@@ -26,7 +26,7 @@ impl Tree {
 
     /// A law: the closing bound is below 2^42 for 1,000,000 packets at most.
     pub fn closing_bound_is_low(&self)
-        ensures { (left : ℕ) → left ≤ most_left → closing_bound self.now left < 2 ^ 42 }
+        ensures { (left : ℕ) → left ≤ MAX_LEFT → closing_bound self.now left < 2 ^ 42 }
     {
         // Reading a field brings the type invariant into scope, which limits the height and the quanta.
         let _ = &self.node;
@@ -35,7 +35,7 @@ impl Tree {
     /// How many pulls the closing bound has for each packet that is left.
     pub(crate) fn pulls_per_packet(&self) -> u64
         ensures value { (left : ℕ) → closing_bound self.now left ≡ left * result }
-        ensures limit { result ≤ (most_levels + 1) * (most_length + 1) }
+        ensures limit { result ≤ (MAX_LEVELS + 1) * (MAX_LENGTH + 1) }
     {
         let levels = u64::from(self.height);
         (levels + 1) * self.rounds()
@@ -44,7 +44,7 @@ impl Tree {
     // The most rounds that a packet may need at an input of this tree: 1 without a DRRSched.
     fn rounds(&self) -> u64
         ensures value { result ≡ rounds self.now }
-        ensures limit { result ≤ most_length + 1 }
+        ensures limit { result ≤ MAX_LENGTH + 1 }
     {
         // Reading a field brings the type invariant into scope: the arguments are within their limits.
         let _ = &self.node;

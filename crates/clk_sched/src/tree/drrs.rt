@@ -1,7 +1,7 @@
 //! How many DRRScheds stand above each queue of a tree.
 
 ghost use Rattle.std.specs.Prelude.{◌≡◌, ◌+◌, ◌≤◌, true};
-ghost use Rattle.clk_packet.specs.Limits.{most_levels};
+ghost use Rattle.clk_packet.specs.declared.limits.TheConstants.{MAX_LEVELS};
 ghost use Rattle.clk_packet.specs.Lists.{are_distinct};
 ghost use Rattle.clk_packet.specs.Scheduler.{scheduler_view};
 ghost use Rattle.clk_sched.specs.Tree.{height, leaves};
@@ -26,7 +26,7 @@ impl Tree {
         ensures length { length counts.new ≡ length counts.old }
         ensures counts { (q : ℕ) → stands_in q (leaves (root self.now)) ≡ true → slice_index counts.new q ≡ drrs_above q (root self.now) }
         ensures others { (q : ℕ) → stands_in q (leaves (root self.now)) ≡ false → slice_index counts.new q ≡ slice_index counts.old q }
-        ensures limit { (q : ℕ) → drrs_above q (root self.now) ≤ most_levels }
+        ensures limit { (q : ℕ) → drrs_above q (root self.now) ≤ MAX_LEVELS }
     {
         // Reading a field brings the type invariant into scope, which bounds the height, and so each count.
         let _ = &self.node;
@@ -38,7 +38,7 @@ impl Tree {
     fn count_below(&self, above: u32, counts: &mut [u32])
         requires places { HasPlaces (root self.now) counts.old }
         requires distinct { are_distinct (leaves (root self.now)) ≡ true }
-        requires low { above + height (root self.now) ≤ most_levels }
+        requires low { above + height (root self.now) ≤ MAX_LEVELS }
         ensures { IsCounted above (root self.now) counts.old counts.new }
     {
         match &self.node {
@@ -57,7 +57,7 @@ impl Tree {
 fn count_below(trees: &[Tree], above: u32, counts: &mut [u32])
     requires places { HasPlaces (row trees.now) counts.old }
     requires distinct { are_distinct (leaves (row trees.now)) ≡ true }
-    requires low { above + height (row trees.now) ≤ most_levels }
+    requires low { above + height (row trees.now) ≤ MAX_LEVELS }
     ensures { IsCounted above (row trees.now) counts.old counts.new }
 {
     let [first, rest @ ..] = trees else {

@@ -2,7 +2,7 @@
 
 ghost use Rattle.std.specs.Prelude.{◌≡◌, ◌<◌, ◌+◌, ℕ, true, length, OnOk};
 ghost use Rattle.clk_sched.specs.Conservation.{IsConserved};
-ghost use Rattle.clk_sched.specs.Limits.{end_of_moments};
+ghost use Rattle.clk_sched.specs.declared.limits.TheConstants.{END_OF_MOMENTS};
 ghost use Rattle.clk_sched.specs.Log.{pulls};
 ghost use Rattle.clk_sched.specs.Run.{IsRun};
 ghost use Rattle.clk_packet.specs.Lists.{stands_in};
@@ -14,7 +14,7 @@ use clk_sched::{Ask, Session, runs_conserve_packets};
 /// Pulls a device twice at one moment. Whatever the queues give, the log is a run of the tree with two pulls more, and nothing is lost:
 /// what a queue gave was emitted, in order, or is held as a head.
 pub fn pull_twice<Q: Ask>(session: &mut Session, queues: &mut Q, moment: u64) -> Result<(), Fault>
-    requires moment { moment < end_of_moments }
+    requires moment { moment < END_OF_MOMENTS }
     ensures run { OnOk result (IsRun session.new.tree session.new.log) }
     ensures longer { OnOk result (length (pulls session.new.log) ≡ length (pulls session.old.log) + 2) }
     ensures conserved { OnOk result ((q : ℕ) → stands_in q (leaves (root session.new.tree)) ≡ true → IsConserved session.new.tree session.new.log q) }

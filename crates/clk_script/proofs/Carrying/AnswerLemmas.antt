@@ -12,7 +12,8 @@ use Rattle.clk_sched.specs.declared.session.departures.Departure.{Departure}
 use Rattle.clk_sched.specs.Results.{emitted}
 use Rattle.clk_script.specs.declared.rows.ScriptRow.{ScriptRow}
 use Rattle.clk_script.specs.declared.script_router.ScriptRouter.{ScriptRouter}
-use Rattle.clk_script.specs.Script.{Names, most_lines}
+use Rattle.clk_script.specs.Script.{Names}
+use Rattle.clk_script.specs.declared.limits.TheConstants.{MAX_LINES}
 use Rattle.clk_router.specs.Events.{Setup, Event, events_at, log_of, logs_of, emitted_in}
 use Rattle.clk_router.proofs.Callers.Events.{all-join}
 use Rattle.clk_script.specs.Meaning.{names_of, has_several, command_of, event_text, ending_text, CloseFirst}
@@ -45,7 +46,7 @@ pub names-its : (setup : Setup) (events : List Event) (router : ScriptRouter) �
 names-its setup events router at = ap names_of at.setup_is
 
 -- A router over which some rows were carried out can carry out more, and what a script may name over it is as before.
-pub IsReady-answered : (setup : Setup) (old new : ScriptRouter) (asked done : List ScriptRow) → Starts setup old → AllByRecursion (IsToDo (names_in old)) asked → length asked ≤ most_lines → AnswersRows old new asked done
+pub IsReady-answered : (setup : Setup) (old new : ScriptRouter) (asked done : List ScriptRow) → Starts setup old → AllByRecursion (IsToDo (names_in old)) asked → length asked ≤ MAX_LINES → AnswersRows old new asked done
     → IsReady new × (names_in new ≡ names_in old)
 IsReady-answered setup old new asked done starts to_do few answers =
     let carried = answers setup [] starts.leads in
@@ -53,7 +54,7 @@ IsReady-answered setup old new asked done starts to_do few answers =
     let count : length asked ≡ length carried.more = sym (length-map asked command_asked) ∙ ap length carried.theirs ∙ length-map carried.more command_of in
     let readable = subst (AllByRecursion IsReadable) carried.theirs (each-readable (names_in old) asked to_do) in (
       record {
-        few = subst (λ l. length l ≤ most_lines) (sym at.events_are) (omega (arith, count, few));
+        few = subst (λ l. length l ≤ MAX_LINES) (sym at.events_are) (omega (arith, count, few));
         readable = subst (λ l. AllByRecursion IsReadable (map command_of l)) (sym at.events_are) readable;
         alike = alike-its setup carried.more new starts.rising at;
       },
@@ -79,7 +80,7 @@ pub record IsCarriedTo (old new : ScriptRouter) (asked rows : List ScriptRow) (i
 still-asked : (asked rows : List ScriptRow) (i : ℕ) (row : ScriptRow) → i < length rows → length rows ≡ length asked → drop i rows ≡ drop i asked → row ≡ get_or rows i row → get_or asked i row ≡ row
 still-asked asked rows i row within count left is = search (rules, drop_more)
 
-pub IsCarriedTo-ready : (setup : Setup) (old new : ScriptRouter) (asked rows : List ScriptRow) (i : ℕ) (row : ScriptRow) → Starts setup old → AllByRecursion (IsToDo (names_in old)) asked → length asked ≤ most_lines
+pub IsCarriedTo-ready : (setup : Setup) (old new : ScriptRouter) (asked rows : List ScriptRow) (i : ℕ) (row : ScriptRow) → Starts setup old → AllByRecursion (IsToDo (names_in old)) asked → length asked ≤ MAX_LINES
     → IsCarriedTo old new asked rows i → i < length rows → row ≡ get_or rows i row → IsReady new × IsToDo (names_in new) row
 IsCarriedTo-ready setup old new asked rows i row starts to_do few carried within is =
     let front = all-front (IsToDo (names_in old)) (take i asked) (drop i asked) (subst (AllByRecursion (IsToDo (names_in old))) (sym (take-append-drop i asked)) to_do) in

@@ -16,7 +16,7 @@ use Rattle.clk_packet.specs.declared.packet.Offered.{Offered}
 use Rattle.clk_packet.specs.Lists.{AreRising}
 use Rattle.clk_sched.specs.declared.visit.Visit.{Visit}
 use Rattle.clk_sched.specs.Keeps.{keeps_latest}
-use Rattle.clk_sched.specs.Limits.{end_of_moments}
+use Rattle.clk_sched.specs.declared.limits.TheConstants.{END_OF_MOMENTS}
 use Rattle.clk_sched.specs.Tree.{is_number}
 use Rattle.clk_tree.specs.declared.plan.parts.SenderSpec.{SenderSpec}
 use Rattle.clk_tree.specs.PlanParts.{number_of}
@@ -31,7 +31,7 @@ use Rattle.clk_script.specs.declared.script.Command.{Command}
 use Rattle.clk_script.specs.declared.script.Command.TheVariants.{Send, Pull}
 use Rattle.clk_script.specs.Meaning.{names_of, command_of}
 use Rattle.clk_script.specs.declared.rows.Fate.{Fate}
-use Rattle.clk_script.specs.Script.{most_lines, most_moment}
+use Rattle.clk_script.specs.declared.limits.TheConstants.{MAX_LINES, MAX_MOMENT}
 use Rattle.clk_script.specs.inside.Rows.{command_asked, asked_by, row_at, IsRowOf, IsToDo}
 use Rattle.clk_script.specs.inside.Replay.{is_row_at, asked_at, pulls_asked, CarriedOn, Outgoing, HeldOn}
 use Rattle.clk_script.proofs.Carrying.AnswerLemmas.{all-at}
@@ -154,7 +154,7 @@ pub asked-append : (setup : Setup) (d : ℕ) (rows others : List ScriptRow) → 
 asked-append setup d rows others = ap asked_by (filter-append (is_row_at setup d) rows others) ∙ map-append command_asked (filter (is_row_at setup d) rows) (filter (is_row_at setup d) others)
 
 -- a sender of a device can offer where few events happened there
-pub can-offer-there : (c : Course) → AreRising (sender_numbers c.setup) → (d place s : ℕ) → sender_at c.setup place ≡ Some s → device_at c.setup place ≡ Some d → length (events_of c d) ≤ most_lines → CanOffer c place
+pub can-offer-there : (c : Course) → AreRising (sender_numbers c.setup) → (d place s : ℕ) → sender_at c.setup place ≡ Some s → device_at c.setup place ≡ Some d → length (events_of c d) ≤ MAX_LINES → CanOffer c place
 can-offer-there c rising d place s at its few =
     record {
       there = let low = slice_get_within (sender_numbers c.setup) place s at in let same = length-map c.setup.senders number_of in omega (arith, low, same);
@@ -166,7 +166,7 @@ can-offer-there c rising d place s at its few =
       packets = λ device here.
           let same : d ≡ device = cc (its, here) in
           let fewer = length-filter_map-le accepted_in (events_of c device) in
-          let some = subst (λ k. length (events_of c k) ≤ most_lines) same few in
+          let some = subst (λ k. length (events_of c k) ≤ MAX_LINES) same few in
           omega (arith, fewer, some);
     }
 
@@ -188,7 +188,7 @@ pub carried-offer : (d : ℕ) (column : Option ℕ) (old new : Course) (p : Pack
 carried-offer d column old new p outcome x s asked is goes_on can sends = search (rules, held-none)
 
 -- a device can be pulled where few events happened there
-pub can-pull-there : (c : Course) (d moment : ℕ) → d < length c.setup.trees → moment ≤ most_moment → length (events_of c d) ≤ most_lines → CanPull c d moment
+pub can-pull-there : (c : Course) (d moment : ℕ) → d < length c.setup.trees → moment ≤ MAX_MOMENT → length (events_of c d) ≤ MAX_LINES → CanPull c d moment
 can-pull-there c d moment there low few = search (rules, length-filter_map-le)
 
 -- what the row of an offer at a device asks for there
@@ -215,8 +215,8 @@ pub carried-elsewhere : (d : ℕ) (old new : Course) (asked : List Command) (r :
     → (k : ℕ) → (d == k) ≡ false → events_of new k ≡ events_of old k
 carried-elsewhere d old new asked r W rising carried k other = ap (λ (c : Course). events_of c k) carried.goes_on ∙ events-others old.setup rising d k old.events carried.more other carried.here
 
-pub few-rows : (d : ℕ) (old new : Course) (rows : List ScriptRow) (r : Result (Unit {0}) Fault) (W : List Visit → Type 0) → CarriedOn d old new (asked_at old.setup d rows) r W → events_of old d ≡ [] → length rows ≤ most_lines
-    → length (events_of new d) ≤ most_lines
+pub few-rows : (d : ℕ) (old new : Course) (rows : List ScriptRow) (r : Result (Unit {0}) Fault) (W : List Visit → Type 0) → CarriedOn d old new (asked_at old.setup d rows) r W → events_of old d ≡ [] → length rows ≤ MAX_LINES
+    → length (events_of new d) ≤ MAX_LINES
 few-rows d old new rows r W carried fresh few =
     let some = few-carried d old new _ r W carried in
     let none = ap length fresh in
@@ -226,7 +226,7 @@ few-rows d old new rows r W carried fresh few =
 
 -- The next row can be carried out.
 pub record IsNext (c : Course) (d : ℕ) (r : ScriptRow) : Type 0 where
-  pub few : length (events_of c d) ≤ most_lines
+  pub few : length (events_of c d) ≤ MAX_LINES
   pub keeps : c.keeps ≡ keeps_latest
   pub to_do : IsToDo (names_of c.setup) r
 
@@ -234,7 +234,7 @@ module _ (d : ℕ) (column : Option ℕ) (old now : Course) (rows : List ScriptR
   pub same-setup : now.setup ≡ old.setup
   same-setup = ap (λ (c : Course). c.setup) carried.goes_on
 
-  pub carried-next : events_of old d ≡ [] → old.keeps ≡ keeps_latest → length rows ≤ most_lines → AllByRecursion (IsToDo (names_of old.setup)) rows → (r : ScriptRow) → i < length rows → r ≡ get_or rows i r → IsNext now d r
+  pub carried-next : events_of old d ≡ [] → old.keeps ≡ keeps_latest → length rows ≤ MAX_LINES → AllByRecursion (IsToDo (names_of old.setup)) rows → (r : ScriptRow) → i < length rows → r ≡ get_or rows i r → IsNext now d r
   carried-next fresh keeps few to_do r low is =
       record {
         few = few-rows d old now (take i rows) _ _ carried fresh (let front = length-take i rows in omega (arith, front, few));
@@ -264,8 +264,8 @@ abbrev pub PulledTo : ℕ → Option ℕ → Course → Course → (start moment
 PulledTo d column old now start moment s t = CarriedOn d old now (pulls_asked d (start + 1) (moment - start)) (Ok tt) (HeldOn column s t (Ok tt))
 
 -- It can be pulled once more.
-pub can-pull-on : (d : ℕ) (column : Option ℕ) (old now : Course) (start moment : ℕ) (s t : Outgoing) → PulledTo d column old now start moment s t → d < length old.setup.trees → length (events_of old d) ≤ most_lines
-    → moment + 1 < end_of_moments → CanPull now d (moment + 1)
+pub can-pull-on : (d : ℕ) (column : Option ℕ) (old now : Course) (start moment : ℕ) (s t : Outgoing) → PulledTo d column old now start moment s t → d < length old.setup.trees → length (events_of old d) ≤ MAX_LINES
+    → moment + 1 < END_OF_MOMENTS → CanPull now d (moment + 1)
 can-pull-on d column old now start moment s t so_far there few low =
     record {
       there = subst (λ (c : Course). d < length c.setup.trees) (sym so_far.goes_on) there;

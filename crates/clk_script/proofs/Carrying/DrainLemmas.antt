@@ -10,7 +10,7 @@ use Rattle.clk_router.specs.Events.{Setup, Event}
 use Rattle.clk_script.specs.Meaning.{has_several, closing_text}
 use Rattle.clk_script.specs.inside.ScriptRouter.{AreAlike, IsAt, IsReady, departure_text, LeadsOnByDrain, StaysElsewhere}
 use Rattle.clk_router.specs.Course.{events_of, CanClose}
-use Rattle.clk_script.specs.Script.{most_moment}
+use Rattle.clk_script.specs.declared.limits.TheConstants.{MAX_MOMENT}
 use Rattle.clk_script.specs.inside.Rows.{closings_text, ClosesFirst, IsClosedAt}
 use Rattle.clk_script.proofs.Carrying.ScriptRouterLemmas.{can-close, CanClose-still}
 
@@ -48,7 +48,7 @@ IsClosedTo-none r moment closings none alike =
     }
 
 -- the next device can be drained
-pub IsClosedTo-can : (old new : ScriptRouter) (moment : ℕ) (closings : List (List Departure)) (d : ℕ) → IsClosedTo old new moment closings d → IsReady old → moment ≤ most_moment → d < length new.router.setup.trees → CanClose new.router d moment
+pub IsClosedTo-can : (old new : ScriptRouter) (moment : ℕ) (closings : List (List Departure)) (d : ℕ) → IsClosedTo old new moment closings d → IsReady old → moment ≤ MAX_MOMENT → d < length new.router.setup.trees → CanClose new.router d moment
 IsClosedTo-can old new moment closings d closed ready low within =
     CanClose-still old.router new.router d moment closed.setup (closed.later d (omega arith))
     (can-close old ready d moment (subst (λ (s : Setup). d < length s.trees) closed.setup within) low)

@@ -19,7 +19,7 @@ use Rattle.clk_router.specs.Course.{Course, after, events_of, accepted_at, IsPul
 use Rattle.clk_router.specs.Events.{Setup, sender_numbers, Event, offered, pulled, happens_at, events_at, number_from, pull_in, moment_in, accepted_in, evicted_in, CanHappen, pulls_from, Closes}
 use Rattle.clk_router.proofs.Callers.Events.{pulls-elsewhere, pulls-add_none}
 use Rattle.clk_script.specs.declared.script_router.ScriptRouter.{ScriptRouter}
-use Rattle.clk_script.specs.Script.{most_lines, most_moment}
+use Rattle.clk_script.specs.declared.limits.TheConstants.{MAX_LINES, MAX_MOMENT}
 use Rattle.clk_script.specs.Meaning.{has_several, command_of, given_text, closing_text}
 use Rattle.clk_script.specs.inside.ScriptRouter.{evicted_kept, AreAlike, IsAt, IsReadable, IsReady, LeadsOnByPull, departure_text, LeadsOnByDrain, StaysElsewhere}
 use Rattle.clk_script.proofs.Texts.LengthLemmas.{length-filter-le, length-filter_map-le}
@@ -123,32 +123,32 @@ module _ (old new : ScriptRouter) (d moment : ℕ) (departures : List Departure)
         }
 
 -- the greatest moment that a device's events hand in, if they are of readable commands, is one of a script
-readable-moments : (setup : Setup) (d : ℕ) (events : List Event) (before : ℕ) → before ≤ most_moment → AllByRecursion IsReadable (map command_of events)
-    → fold max before (filter_map moment_in (events_at setup d events)) ≤ most_moment
+readable-moments : (setup : Setup) (d : ℕ) (events : List Event) (before : ℕ) → before ≤ MAX_MOMENT → AllByRecursion IsReadable (map command_of events)
+    → fold max before (filter_map moment_in (events_at setup d events)) ≤ MAX_MOMENT
 readable-moments setup d [] before h all = h
 readable-moments setup d (offered p outcome ∷ events) before h all = by_test (happens_at setup d (offered p outcome)) refl (readable-moments setup d events before h all.1)
   where
-    by_test : (b : Bool) → happens_at setup d (offered p outcome) ≡ b → fold max before (filter_map moment_in (events_at setup d events)) ≤ most_moment
-        → fold max before (filter_map moment_in (events_at setup d (offered p outcome ∷ events))) ≤ most_moment
+    by_test : (b : Bool) → happens_at setup d (offered p outcome) ≡ b → fold max before (filter_map moment_in (events_at setup d events)) ≤ MAX_MOMENT
+        → fold max before (filter_map moment_in (events_at setup d (offered p outcome ∷ events))) ≤ MAX_MOMENT
     by_test true e rest = rw e rest
     by_test false e rest = rw e rest
 readable-moments setup d (pulled device moment visits ∷ events) before h all =
     by_test (device == d) refl (readable-moments setup d events (max before moment) (let m = all.0 in omega (arith, m, h)) all.1) (readable-moments setup d events before h all.1)
   where
-    by_test : (b : Bool) → (device == d) ≡ b → fold max (max before moment) (filter_map moment_in (events_at setup d events)) ≤ most_moment → fold max before (filter_map moment_in (events_at setup d events)) ≤ most_moment
-        → fold max before (filter_map moment_in (events_at setup d (pulled device moment visits ∷ events))) ≤ most_moment
+    by_test : (b : Bool) → (device == d) ≡ b → fold max (max before moment) (filter_map moment_in (events_at setup d events)) ≤ MAX_MOMENT → fold max before (filter_map moment_in (events_at setup d events)) ≤ MAX_MOMENT
+        → fold max before (filter_map moment_in (events_at setup d (pulled device moment visits ∷ events))) ≤ MAX_MOMENT
     by_test true e counted same = rw e counted
     by_test false e counted same = rw e same
 
 -- What a router that is ready can do next.
 module _ (r : ScriptRouter) (ready : IsReady r) where
-  few-at : (d : ℕ) → length (events_of r.router d) ≤ most_lines
+  few-at : (d : ℕ) → length (events_of r.router d) ≤ MAX_LINES
   few-at d = let some = length-filter-le (happens_at r.router.setup d) r.router.events in let few = ready.few in omega (arith, some, few)
 
-  few-accepted : (d : ℕ) → accepted_at r.router d ≤ most_lines
+  few-accepted : (d : ℕ) → accepted_at r.router d ≤ MAX_LINES
   few-accepted d = let fewer = length-filter_map-le accepted_in (events_of r.router d) in let few = few-at d in omega (arith, fewer, few)
 
-  few-pulls : (d : ℕ) → length (filter_map pull_in (events_of r.router d)) ≤ most_lines
+  few-pulls : (d : ℕ) → length (filter_map pull_in (events_of r.router d)) ≤ MAX_LINES
   few-pulls d = let fewer = length-filter_map-le pull_in (events_of r.router d) in let few = few-at d in omega (arith, fewer, few)
 
   pub can-offer : (place : ℕ) → place < length r.accounts.items → CanOffer r.router place
@@ -161,10 +161,10 @@ module _ (r : ScriptRouter) (ready : IsReady r) where
         packets = λ device its. let few = few-accepted device in omega (arith, few);
       }
 
-  pub can-pull : (d moment : ℕ) → d < length r.router.setup.trees → moment ≤ most_moment → CanPull r.router d moment
+  pub can-pull : (d moment : ℕ) → d < length r.router.setup.trees → moment ≤ MAX_MOMENT → CanPull r.router d moment
   can-pull d moment within low = record { there = within; moments = omega (arith, low); pulls = let few = few-pulls d in omega (arith, few) }
 
-  pub can-close : (d moment : ℕ) → d < length r.router.setup.trees → moment ≤ most_moment → CanClose r.router d moment
+  pub can-close : (d moment : ℕ) → d < length r.router.setup.trees → moment ≤ MAX_MOMENT → CanClose r.router d moment
   can-close d moment within low =
       record {
         there = within;

@@ -17,7 +17,8 @@ use Rattle.clk_tree.specs.Shares.{AreTreesOf}
 use Rattle.clk_tree.specs.declared.plan.parts.SenderSpec.{SenderSpec}
 use Rattle.clk_script.specs.declared.script.Command.{Command}
 use Rattle.clk_script.specs.declared.script.ScriptLine.{ScriptLine}
-use Rattle.clk_script.specs.Script.{Names, most_lines, command_fault, line_fault, fault_at, is_drain, first_fault, script_fault, commands_of, closing_moment, most_script_bytes}
+use Rattle.clk_script.specs.Script.{Names, command_fault, line_fault, fault_at, is_drain, first_fault, script_fault, commands_of, closing_moment}
+use Rattle.clk_script.specs.declared.limits.TheConstants.{MAX_LINES, MAX_SCRIPT_BYTES}
 use Rattle.clk_packet.specs.Bytes.{read_failures, write_failures, OfBytes}
 use Rattle.clk_router.specs.Course.{Course, IsOpened}
 use Rattle.clk_router.specs.Events.{Setup, plan_setup}
@@ -33,20 +34,20 @@ use Rattle.clk_script.proofs.Carrying.AnswerLemmas.{names-its}
 use Rattle.clk_packet.proofs.Callers.Written.{of-weaker}
 
 -- one byte past the limit is enough to tell what is wrong
-fault-cut : (names : Names) (all : List ℕ) → script_fault names (take (most_script_bytes + 1) all) ≡ script_fault names all
-fault-cut names all = by_test (nat_lt most_script_bytes (length all)) refl
+fault-cut : (names : Names) (all : List ℕ) → script_fault names (take (MAX_SCRIPT_BYTES + 1) all) ≡ script_fault names all
+fault-cut names all = by_test (nat_lt MAX_SCRIPT_BYTES (length all)) refl
   where
-    by_test : (b : Bool) → nat_lt most_script_bytes (length all) ≡ b → script_fault names (take (most_script_bytes + 1) all) ≡ script_fault names all
+    by_test : (b : Bool) → nat_lt MAX_SCRIPT_BYTES (length all) ≡ b → script_fault names (take (MAX_SCRIPT_BYTES + 1) all) ≡ script_fault names all
     by_test true e =
-        let cut : nat_lt most_script_bytes (length (take (most_script_bytes + 1) all)) ≡ true = rw length-take (grind (arith, nat_tests)) in
+        let cut : nat_lt MAX_SCRIPT_BYTES (length (take (MAX_SCRIPT_BYTES + 1) all)) ≡ true = rw length-take (grind (arith, nat_tests)) in
         rw (cut, e) refl
     by_test false e = ap (script_fault names) (take_all 33554433 all (grind (arith, nat_tests)))
 
 -- a script that isn't too long is read whole
-whole : (names : Names) (all : List ℕ) → script_fault names (take (most_script_bytes + 1) all) ≡ None → take (most_script_bytes + 1) all ≡ all
-whole names all e = by_test (nat_lt most_script_bytes (length all)) refl
+whole : (names : Names) (all : List ℕ) → script_fault names (take (MAX_SCRIPT_BYTES + 1) all) ≡ None → take (MAX_SCRIPT_BYTES + 1) all ≡ all
+whole names all e = by_test (nat_lt MAX_SCRIPT_BYTES (length all)) refl
   where
-    by_test : (b : Bool) → nat_lt most_script_bytes (length all) ≡ b → take (most_script_bytes + 1) all ≡ all
+    by_test : (b : Bool) → nat_lt MAX_SCRIPT_BYTES (length all) ≡ b → take (MAX_SCRIPT_BYTES + 1) all ≡ all
     by_test true f =
         let too_large : script_fault names all ≡ Some TooLarge = rw f refl in
         let none = sym (fault-cut names all) ∙ e in
@@ -152,7 +153,7 @@ names-opened plan keeps r opened = (λ i. record { senders = map number_of (send
 -- The answer to a script that was read, over a router that was made of a plan.
 pub answer-over : (plan : List Planned) (keeps : Keeps) (known : Option (List ℕ)) (bytes : List ℕ) (r : ScriptRouter) (script : Script) (answer : Answer) → IsOpened plan keeps r.router → Starts r.router.setup r → IsTextOf known bytes
     → script_fault (names_in r) bytes ≡ None → asked_by script.rows.items ≡ commands_of bytes → script.closing ≡ closing_moment bytes
-    → ((setup : Setup) → Starts setup r → Answers setup (asked_by script.rows.items) script.closing answer) → answer.drain ≡ script.closing → answer.script_router.router.keeps.packets ≡ true → length answer.rows.items ≤ most_lines
+    → ((setup : Setup) → Starts setup r → Answers setup (asked_by script.rows.items) script.closing answer) → answer.drain ≡ script.closing → answer.script_router.router.keeps.packets ≡ true → length answer.rows.items ≤ MAX_LINES
     → IfSome answer.closing (λ cs. length cs.items ≡ length r.router.setup.trees) → IsAnswerOver plan known answer
 answer-over plan keeps known bytes r script answer opened starts is_text sound rows closing answers drain packets few closings =
     record {

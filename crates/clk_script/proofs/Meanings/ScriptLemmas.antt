@@ -4,10 +4,11 @@ use Rattle.std.specs.List.{filter_map, AllByRecursion}
 use Rattle.std.specs.Str.{all_ascii_digits}
 use Rattle.std.specs.Str.Parse.{digits_value}
 use Rattle.std.specs.Str.Lines.{lines}
-use Rattle.clk_packet.specs.Limits.{most_length}
+use Rattle.clk_packet.specs.declared.limits.TheConstants.{MAX_LENGTH}
 use Rattle.clk_script.specs.declared.script.ScriptLine.{ScriptLine}
 use Rattle.clk_packet.specs.Numbers.{has_bytes, number_in}
-use Rattle.clk_script.specs.Script.{Names, send_of, pull_of, drain_of, sender_and_length, moment_and_device, only_moment, line_of_fields, line_of, fields, line_fault, fault_at, is_drain, first_fault, lines_of, script_fault, command_in, commands_of, most_moment}
+use Rattle.clk_script.specs.Script.{Names, send_of, pull_of, drain_of, sender_and_length, moment_and_device, only_moment, line_of_fields, line_of, fields, line_fault, fault_at, is_drain, first_fault, lines_of, script_fault, command_in, commands_of}
+use Rattle.clk_script.specs.declared.limits.TheConstants.{MAX_MOMENT}
 use Rattle.clk_script.specs.inside.ScriptRouter.{IsReadableLine, IsSound}
 
 -- a test that answers with its number
@@ -20,7 +21,7 @@ tested_most c v n most e = search rules
 number_in-most : (least most : ℕ) (digits : List ℕ) (n : ℕ) → number_in least most digits ≡ Some n → n ≤ most
 number_in-most least most digits n e = tested_most (all_ascii_digits digits && has_bytes digits && nat_le least (digits_value 10 digits)) (digits_value 10 digits) n most e
 
-number_in-least : (digits : List ℕ) (o : Option ℕ) → number_in 1 most_length digits ≡ o → IfSome o (λ n. 1 ≤ n)
+number_in-least : (digits : List ℕ) (o : Option ℕ) → number_in 1 MAX_LENGTH digits ≡ o → IfSome o (λ n. 1 ≤ n)
 number_in-least digits o e = search (rules, tested)
 
 sends_of : (sender length : Option ℕ) → IfSome length (λ n. 1 ≤ n) → IsReadableLine (send_of sender length)
@@ -30,19 +31,19 @@ sends_arguments : (arguments : List (List ℕ)) → IsReadableLine (sender_and_l
 sends_arguments arguments = search (rules, sends_of, number_in-least)
 
 -- a moment that was read is one of a script
-moment-most : (digits : List ℕ) (o : Option ℕ) → number_in 0 most_moment digits ≡ o → IfSome o (λ m. m ≤ most_moment)
+moment-most : (digits : List ℕ) (o : Option ℕ) → number_in 0 MAX_MOMENT digits ≡ o → IfSome o (λ m. m ≤ MAX_MOMENT)
 moment-most digits o e = search (rules, number_in-most)
 
-alone-most : (arguments : List (List ℕ)) → IfSome (only_moment arguments) (λ m. m ≤ most_moment)
+alone-most : (arguments : List (List ℕ)) → IfSome (only_moment arguments) (λ m. m ≤ MAX_MOMENT)
 alone-most arguments = search (rules, moment-most)
 
-pulls_of : (moment device : Option ℕ) → IfSome moment (λ m. m ≤ most_moment) → IsReadableLine (pull_of moment device)
+pulls_of : (moment device : Option ℕ) → IfSome moment (λ m. m ≤ MAX_MOMENT) → IsReadableLine (pull_of moment device)
 pulls_of moment device h = search rules
 
 pulls_arguments : (arguments : List (List ℕ)) → IsReadableLine (moment_and_device arguments)
 pulls_arguments arguments = search (rules, pulls_of, moment-most)
 
-drains_arguments : (o : Option ℕ) → IfSome o (λ m. m ≤ most_moment) → IsReadableLine (drain_of o)
+drains_arguments : (o : Option ℕ) → IfSome o (λ m. m ≤ MAX_MOMENT) → IsReadableLine (drain_of o)
 drains_arguments o h = search rules
 
 reads_fields : (all : List (List ℕ)) → IsReadableLine (line_of_fields all)

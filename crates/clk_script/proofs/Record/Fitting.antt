@@ -2,14 +2,15 @@
 use Rattle.std.proofs.Common.{◌≡◌, ℕ, zero, suc, ◌+◌, ◌<◌, ◌≤◌, ◌^◌, ◌||◌, Bool, false, List, [], ◌∷◌, ◌++◌, length, map, decimal, Option, Some, None, IfSome, refl, subst, length-append, arith, rules}
 use Rattle.std.specs.List.{filter_map, AllByRecursion}
 use Rattle.std.proofs.lemmas.List.{length-map}
-use Rattle.clk_packet.specs.Limits.{most_sender, most_length}
+use Rattle.clk_packet.specs.declared.limits.TheConstants.{MAX_SENDER, MAX_LENGTH}
 use Rattle.clk_packet.specs.Numbers.{number_in}
 use Rattle.clk_tree.proofs.Callers.Numbers.{number-read}
 use Rattle.clk_router.specs.Events.{Setup, Event, offered, pulled, moment_in}
 use Rattle.clk_script.specs.declared.script.Command.{Command}
 use Rattle.clk_script.specs.declared.script.Command.TheVariants.{Send, Pull}
 use Rattle.clk_script.specs.declared.script.ScriptLine.{ScriptLine}
-use Rattle.clk_script.specs.Script.{Names, most_lines, most_moment, most_device, send_of, pull_of, drain_of, line_fault, is_drain, first_fault, lines_of, script_fault}
+use Rattle.clk_script.specs.Script.{Names, send_of, pull_of, drain_of, line_fault, is_drain, first_fault, lines_of, script_fault}
+use Rattle.clk_script.specs.declared.limits.TheConstants.{MAX_LINES, MAX_MOMENT, MAX_DEVICE}
 use Rattle.clk_script.specs.Meaning.{names_of, command_of}
 use Rattle.clk_script.specs.Record.{record_text, drain_count, IsSmall, FitsNames, OnlyFittingRecordsMean}
 use Rattle.clk_script.specs.inside.ScriptRouter.{IsSound}
@@ -23,29 +24,29 @@ within least most n x small e = search (rules, number-read)
 
 -- a command whose line has nothing wrong has numbers within their ranges
 said-within : (names : Names) (number : ℕ) (command : Command) → IsSmall command → line_fault names false number (line_said command) ≡ None → CanSay command
-said-within names number (Send sender size) small e = by_numbers (number_in 0 most_sender (decimal sender)) (number_in 1 most_length (decimal size)) refl refl e
+said-within names number (Send sender size) small e = by_numbers (number_in 0 MAX_SENDER (decimal sender)) (number_in 1 MAX_LENGTH (decimal size)) refl refl e
   where
-    by_numbers : (o p : Option ℕ) → number_in 0 most_sender (decimal sender) ≡ o → number_in 1 most_length (decimal size) ≡ p → line_fault names false number (send_of o p) ≡ None
-        → (sender ≤ most_sender) × (1 ≤ size) × (size ≤ most_length)
+    by_numbers : (o p : Option ℕ) → number_in 0 MAX_SENDER (decimal sender) ≡ o → number_in 1 MAX_LENGTH (decimal size) ≡ p → line_fault names false number (send_of o p) ≡ None
+        → (sender ≤ MAX_SENDER) × (1 ≤ size) × (size ≤ MAX_LENGTH)
     by_numbers o p f g h = search (rules, within)
 said-within names number (Pull zero moment) small e = search (rules, within)
-said-within names number (Pull (suc d) moment) small e = by_numbers (number_in 0 most_moment (decimal moment)) (number_in 0 most_device (decimal (suc d))) refl refl e
+said-within names number (Pull (suc d) moment) small e = by_numbers (number_in 0 MAX_MOMENT (decimal moment)) (number_in 0 MAX_DEVICE (decimal (suc d))) refl refl e
   where
-    by_numbers : (o p : Option ℕ) → number_in 0 most_moment (decimal moment) ≡ o → number_in 0 most_device (decimal (suc d)) ≡ p → line_fault names false number (pull_of o p) ≡ None
-        → (suc d ≤ most_device) × (moment ≤ most_moment)
+    by_numbers : (o p : Option ℕ) → number_in 0 MAX_MOMENT (decimal moment) ≡ o → number_in 0 MAX_DEVICE (decimal (suc d)) ≡ p → line_fault names false number (pull_of o p) ≡ None
+        → (suc d ≤ MAX_DEVICE) × (moment ≤ MAX_MOMENT)
     by_numbers None p f g h = absurd (cc)
     by_numbers (Some m) None f g h = absurd (cc)
-    by_numbers (Some m) (Some c) f g h = ((within 0 most_device (suc d) c small.0 g).1, (within 0 most_moment moment m small.1 f).1)
+    by_numbers (Some m) (Some c) f g h = ((within 0 MAX_DEVICE (suc d) c small.0 g).1, (within 0 MAX_MOMENT moment m small.1 f).1)
 
-drain-within : (names : Names) (number moment : ℕ) → moment < 2 ^ 64 → line_fault names false number (drain_of (number_in 0 most_moment (decimal moment))) ≡ None → moment ≤ most_moment
+drain-within : (names : Names) (number moment : ℕ) → moment < 2 ^ 64 → line_fault names false number (drain_of (number_in 0 MAX_MOMENT (decimal moment))) ≡ None → moment ≤ MAX_MOMENT
 drain-within names number moment small e = search (rules, within)
 
 -- where nothing is wrong with lines, nothing is wrong with the first, nor with the others
 first-fine : (names : Names) (drained : Bool) (number : ℕ) (l : ScriptLine) (more : List ScriptLine) → first_fault names drained number (l ∷ more) ≡ None
-    → (number ≤ most_lines) × (line_fault names drained number l ≡ None) × (first_fault names (drained || is_drain l) (number + 1) more ≡ None)
+    → (number ≤ MAX_LINES) × (line_fault names drained number l ≡ None) × (first_fault names (drained || is_drain l) (number + 1) more ≡ None)
 first-fine names drained number l more e = search rules
 
-few-lines : (names : Names) (drained : Bool) (number : ℕ) (all : List ScriptLine) → first_fault names drained number all ≡ None → number ≤ most_lines + 1 → number + length all ≤ most_lines + 1
+few-lines : (names : Names) (drained : Bool) (number : ℕ) (all : List ScriptLine) → first_fault names drained number all ≡ None → number ≤ MAX_LINES + 1 → number + length all ≤ MAX_LINES + 1
 few-lines names drained number [] e few = omega (arith, few)
 few-lines names drained number (l ∷ more) e few =
     let fine = first-fine names drained number l more e in
@@ -53,7 +54,7 @@ few-lines names drained number (l ∷ more) e few =
     omega (arith, rest)
 
 all-within : (names : Names) (number : ℕ) (commands : List Command) (drain : Option ℕ) → AllByRecursion IsSmall commands → IfSome drain (λ moment. moment < 2 ^ 64)
-    → first_fault names false number (map line_said commands ++ drain_said drain) ≡ None → AllByRecursion CanSay commands × IfSome drain (λ moment. moment ≤ most_moment)
+    → first_fault names false number (map line_said commands ++ drain_said drain) ≡ None → AllByRecursion CanSay commands × IfSome drain (λ moment. moment ≤ MAX_MOMENT)
 all-within names number [] drain small ends e = search (rules, drain-within, first-fine, said-within, line-again)
 all-within names number (command ∷ more) drain small ends e =
     let fine = first-fine names false number (line_said command) (map line_said more ++ drain_said drain) e in
@@ -74,7 +75,7 @@ names-fit setup [] can sound = tt
 names-fit setup (offered p outcome ∷ more) can sound = ((sound.0.0, can.0.0), names-fit setup more can.1 sound.1)
 names-fit setup (pulled device moment visits ∷ more) can sound = (can.0.0, names-fit setup more can.1 sound.1)
 
-moments-fit : (events : List Event) → AllByRecursion CanSay (map command_of events) → AllByRecursion (λ moment. moment ≤ most_moment) (filter_map moment_in events)
+moments-fit : (events : List Event) → AllByRecursion CanSay (map command_of events) → AllByRecursion (λ moment. moment ≤ MAX_MOMENT) (filter_map moment_in events)
 moments-fit [] can = tt
 moments-fit (offered p outcome ∷ more) can = moments-fit more can.1
 moments-fit (pulled device moment visits ∷ more) can = (can.0.1, moments-fit more can.1)
@@ -94,8 +95,8 @@ only-fitting setup events drain text small ends means = record {
     said : first_fault (names_of setup) false 1 (map line_said commands ++ drain_said drain) ≡ None
     said = subst (λ l. first_fault (names_of setup) false 1 l ≡ None) (lines-record commands drain small ends) (sound-lines (names_of setup) script means.1.sound)
 
-    all : AllByRecursion CanSay commands × IfSome drain (λ moment. moment ≤ most_moment)
+    all : AllByRecursion CanSay commands × IfSome drain (λ moment. moment ≤ MAX_MOMENT)
     all = all-within (names_of setup) 1 commands drain small ends said
 
-    few : length events + drain_count drain ≤ most_lines
+    few : length events + drain_count drain ≤ MAX_LINES
     few = search (rules, names-fit, commands-are, each-command-sound, moments-fit, lines-record, sound-lines, all-within, few-lines, length-append, length-map, length-said, commands, said)

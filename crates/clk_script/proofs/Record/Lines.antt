@@ -1,27 +1,28 @@
 -- What the lines of a record say, command by command.
 use Rattle.std.proofs.Common.{◌≡◌, ℕ, zero, suc, ◌<◌, ◌≤◌, ◌^◌, List, [], ◌∷◌, ◌++◌, map, codes, decimal, Option, Some, None, IfSome, refl, ap, ◌∙◌, append_assoc, rules}
 use Rattle.std.specs.List.{AllByRecursion}
-use Rattle.clk_packet.specs.Limits.{most_sender, most_length}
+use Rattle.clk_packet.specs.declared.limits.TheConstants.{MAX_SENDER, MAX_LENGTH}
 use Rattle.clk_packet.specs.Numbers.{number_in}
 use Rattle.clk_tree.proofs.Callers.Numbers.{decimal-digits, number-again}
 use Rattle.clk_script.specs.declared.script.Command.{Command}
 use Rattle.clk_script.specs.declared.script.Command.TheVariants.{Send, Pull}
 use Rattle.clk_script.specs.declared.script.ScriptLine.{ScriptLine}
 use Rattle.clk_script.specs.declared.script.ScriptLine.TheVariants as line
-use Rattle.clk_script.specs.Script.{send_of, pull_of, drain_of, lines_of, most_moment, most_device}
+use Rattle.clk_script.specs.Script.{send_of, pull_of, drain_of, lines_of}
+use Rattle.clk_script.specs.declared.limits.TheConstants.{MAX_MOMENT, MAX_DEVICE}
 use Rattle.clk_script.specs.Record.{command_text, drain_text, record_text, IsSmall}
 use Rattle.clk_script.proofs.Texts.PlainLines.{IsField, digits-field, line-spaced}
 
 -- what the line of a command is read as: the command, or a malformed line where a number is out of range
 abbrev pub line_said : Command → ScriptLine
-line_said (Send sender size) = send_of (number_in 0 most_sender (decimal sender)) (number_in 1 most_length (decimal size))
-line_said (Pull zero moment) = pull_of (number_in 0 most_moment (decimal moment)) (Some 0)
-line_said (Pull (suc d) moment) = pull_of (number_in 0 most_moment (decimal moment)) (number_in 0 most_device (decimal (suc d)))
+line_said (Send sender size) = send_of (number_in 0 MAX_SENDER (decimal sender)) (number_in 1 MAX_LENGTH (decimal size))
+line_said (Pull zero moment) = pull_of (number_in 0 MAX_MOMENT (decimal moment)) (Some 0)
+line_said (Pull (suc d) moment) = pull_of (number_in 0 MAX_MOMENT (decimal moment)) (number_in 0 MAX_DEVICE (decimal (suc d)))
 
 -- what that of a drain is read as, if there is one
 abbrev pub drain_said : Option ℕ → List ScriptLine
 drain_said None = []
-drain_said (Some moment) = drain_of (number_in 0 most_moment (decimal moment)) ∷ []
+drain_said (Some moment) = drain_of (number_in 0 MAX_MOMENT (decimal moment)) ∷ []
 
 number-field : (n : ℕ) → n < 2 ^ 64 → IsField (decimal n)
 number-field n small = digits-field (decimal n) (decimal-digits n small)
@@ -52,8 +53,8 @@ lines-record (command ∷ more) drain small ends = search (rules, line-drain, ap
 
 -- the numbers of a command are within their ranges
 abbrev pub CanSay : Command → Type 0
-CanSay (Send sender size) = (sender ≤ most_sender) × (1 ≤ size) × (size ≤ most_length)
-CanSay (Pull device moment) = (device ≤ most_device) × (moment ≤ most_moment)
+CanSay (Send sender size) = (sender ≤ MAX_SENDER) × (1 ≤ size) × (size ≤ MAX_LENGTH)
+CanSay (Pull device moment) = (device ≤ MAX_DEVICE) × (moment ≤ MAX_MOMENT)
 
 can-small : (command : Command) → CanSay command → IsSmall command
 can-small command can = search rules
@@ -62,7 +63,7 @@ pub all-small : (commands : List Command) → AllByRecursion CanSay commands →
 all-small [] can = tt
 all-small (command ∷ more) can = (can-small command can.0, all-small more can.1)
 
-pub drain-small : (drain : Option ℕ) → IfSome drain (λ moment. moment ≤ most_moment) → IfSome drain (λ moment. moment < 2 ^ 64)
+pub drain-small : (drain : Option ℕ) → IfSome drain (λ moment. moment ≤ MAX_MOMENT) → IfSome drain (λ moment. moment < 2 ^ 64)
 drain-small drain fits = search rules
 
 -- the line of such a command is read as the command
@@ -74,11 +75,11 @@ abbrev pub drain_lines : Option ℕ → List ScriptLine
 drain_lines None = []
 drain_lines (Some moment) = line.Drain moment ∷ []
 
-drain-again : (drain : Option ℕ) → IfSome drain (λ moment. moment ≤ most_moment) → drain_said drain ≡ drain_lines drain
+drain-again : (drain : Option ℕ) → IfSome drain (λ moment. moment ≤ MAX_MOMENT) → drain_said drain ≡ drain_lines drain
 drain-again drain fits = search (rules, number-again)
 
 -- all lines of such a record are read as its commands and its drain
-pub lines-again : (commands : List Command) (drain : Option ℕ) → AllByRecursion CanSay commands → IfSome drain (λ moment. moment ≤ most_moment)
+pub lines-again : (commands : List Command) (drain : Option ℕ) → AllByRecursion CanSay commands → IfSome drain (λ moment. moment ≤ MAX_MOMENT)
     → map line_said commands ++ drain_said drain ≡ map line.Command commands ++ drain_lines drain
 lines-again [] drain can fits = drain-again drain fits
 lines-again (command ∷ more) drain can fits = search (rules, drain-again, line-again, (lines-again more drain can.1 fits))

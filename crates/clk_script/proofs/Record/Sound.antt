@@ -4,11 +4,12 @@ use Rattle.std.specs.List.{filter_map, flat_map, AllByRecursion}
 use Rattle.std.proofs.lemmas.List.{length-map}
 use Rattle.std.proofs.lemmas.Bool.Decides.{nat_tests}
 use Rattle.std.proofs.lemmas.Fmt.{length-decimal-le}
-use Rattle.clk_packet.specs.Limits.{most_sender, most_length}
+use Rattle.clk_packet.specs.declared.limits.TheConstants.{MAX_SENDER, MAX_LENGTH}
 use Rattle.clk_router.specs.Events.{Setup, Event, offered, pulled, moment_in, IsOfDevice}
 use Rattle.clk_script.specs.declared.script.Command.{Command}
 use Rattle.clk_script.specs.declared.script.ScriptLine.TheVariants as line
-use Rattle.clk_script.specs.Script.{Names, most_script_bytes, most_lines, most_moment, most_device, command_fault, first_fault, lines_of, script_fault, command_in, commands_of, drain_in, closing_moment}
+use Rattle.clk_script.specs.Script.{Names, command_fault, first_fault, lines_of, script_fault, command_in, commands_of, drain_in, closing_moment}
+use Rattle.clk_script.specs.declared.limits.TheConstants.{MAX_SCRIPT_BYTES, MAX_LINES, MAX_MOMENT, MAX_DEVICE}
 use Rattle.clk_script.specs.Meaning.{names_of, command_of, course_text, IsClosed}
 use Rattle.clk_script.specs.inside.ScriptRouter.{IsSound}
 use Rattle.clk_script.specs.Record.{named_device, command_text, drain_text, record_text, drain_count, FitsNames, RecordsMeanTheirCourse}
@@ -26,37 +27,37 @@ drain-again (command ∷ more) drain = drain-again more drain
 no-command_fault : (names : Names) (number : ℕ) (command : Command) → IsSound names command → command_fault names number command ≡ None
 no-command_fault names number command sound = search rules
 
-in-number : (number : ℕ) → number ≤ most_lines → nat_lt most_lines number ≡ false
+in-number : (number : ℕ) → number ≤ MAX_LINES → nat_lt MAX_LINES number ≡ false
 in-number number few = grind (arith, nat_tests)
 
 -- nothing is wrong with lines that are few enough
-no-fault : (names : Names) (number : ℕ) (commands : List Command) (drain : Option ℕ) → AllByRecursion (IsSound names) commands → number + (length commands + drain_count drain) ≤ most_lines + 1
+no-fault : (names : Names) (number : ℕ) (commands : List Command) (drain : Option ℕ) → AllByRecursion (IsSound names) commands → number + (length commands + drain_count drain) ≤ MAX_LINES + 1
     → first_fault names false number (map line.Command commands ++ drain_lines drain) ≡ None
 no-fault names number [] None sound few = refl
 no-fault names number [] (Some moment) sound few = rw (in-number number (omega (arith, few))) refl
 no-fault names number (command ∷ more) drain sound few = search (rules, in-number, no-command_fault, (no-fault names (number + 1) more drain sound.1 (omega (arith, few))))
 
 -- a line has at most 25 bytes
-sender-short : (n : ℕ) → n ≤ most_sender → length (decimal n) ≤ 5
+sender-short : (n : ℕ) → n ≤ MAX_SENDER → length (decimal n) ≤ 5
 sender-short n few = length-decimal-le 5 n (omega arith) (omega (arith, few)) (omega (arith, few))
 
-length-short : (n : ℕ) → n ≤ most_length → length (decimal n) ≤ 5
+length-short : (n : ℕ) → n ≤ MAX_LENGTH → length (decimal n) ≤ 5
 length-short n few = length-decimal-le 5 n (omega arith) (omega (arith, few)) (omega (arith, few))
 
-moment-short : (n : ℕ) → n ≤ most_moment → length (decimal n) ≤ 13
+moment-short : (n : ℕ) → n ≤ MAX_MOMENT → length (decimal n) ≤ 13
 moment-short n few = length-decimal-le 13 n (omega arith) (omega (arith, few)) (omega (arith, few))
 
-device-short : (d : ℕ) → d ≤ most_device → length (named_device d) ≤ 6
+device-short : (d : ℕ) → d ≤ MAX_DEVICE → length (named_device d) ≤ 6
 device-short zero few = omega arith
 device-short (suc d) few = let short = length-decimal-le 5 (suc d) (omega arith) (omega (arith, few)) (omega (arith, few)) in omega (arith, short)
 
 command-short : (command : Command) → CanSay command → length (command_text command) ≤ 25
 command-short command can = search (rules, sender-short, length-short, length-append, moment-short, device-short)
 
-drain-short : (drain : Option ℕ) → IfSome drain (λ moment. moment ≤ most_moment) → length (drain_text drain) ≤ 25 * drain_count drain
+drain-short : (drain : Option ℕ) → IfSome drain (λ moment. moment ≤ MAX_MOMENT) → length (drain_text drain) ≤ 25 * drain_count drain
 drain-short drain fits = search (rules, moment-short, length-append)
 
-record-short : (commands : List Command) (drain : Option ℕ) → AllByRecursion CanSay commands → IfSome drain (λ moment. moment ≤ most_moment)
+record-short : (commands : List Command) (drain : Option ℕ) → AllByRecursion CanSay commands → IfSome drain (λ moment. moment ≤ MAX_MOMENT)
     → length (record_text commands drain) ≤ 25 * (length commands + drain_count drain)
 record-short [] drain can fits = let short = drain-short drain fits in omega (arith, short)
 record-short (command ∷ more) drain can fits =
@@ -68,26 +69,26 @@ record-short (command ∷ more) drain can fits =
     omega (arith, one, rest, joined, all, others)
 
 -- the lines of a record whose numbers are within their ranges, and its commands
-lines-are : (commands : List Command) (drain : Option ℕ) → AllByRecursion CanSay commands → IfSome drain (λ moment. moment ≤ most_moment)
+lines-are : (commands : List Command) (drain : Option ℕ) → AllByRecursion CanSay commands → IfSome drain (λ moment. moment ≤ MAX_MOMENT)
     → lines_of (record_text commands drain) ≡ map line.Command commands ++ drain_lines drain
 lines-are commands drain can fits = lines-record commands drain (all-small commands can) (drain-small drain fits) ∙ lines-again commands drain can fits
 
-pub commands-are : (commands : List Command) (drain : Option ℕ) → AllByRecursion CanSay commands → IfSome drain (λ moment. moment ≤ most_moment) → commands_of (record_text commands drain) ≡ commands
+pub commands-are : (commands : List Command) (drain : Option ℕ) → AllByRecursion CanSay commands → IfSome drain (λ moment. moment ≤ MAX_MOMENT) → commands_of (record_text commands drain) ≡ commands
 commands-are commands drain can fits = ap (filter_map command_in) (lines-are commands drain can fits) ∙ commands-again commands drain
 
 -- nothing is wrong with such a record, where it names what is there and is short enough
-record-sound : (names : Names) (commands : List Command) (drain : Option ℕ) → AllByRecursion CanSay commands → AllByRecursion (IsSound names) commands → IfSome drain (λ moment. moment ≤ most_moment)
-    → length commands + drain_count drain ≤ most_lines → script_fault names (record_text commands drain) ≡ None
+record-sound : (names : Names) (commands : List Command) (drain : Option ℕ) → AllByRecursion CanSay commands → AllByRecursion (IsSound names) commands → IfSome drain (λ moment. moment ≤ MAX_MOMENT)
+    → length commands + drain_count drain ≤ MAX_LINES → script_fault names (record_text commands drain) ≡ None
 record-sound names commands drain can sound fits few =
     let short = record-short commands drain can fits in
-    let small : nat_lt most_script_bytes (length (record_text commands drain)) ≡ false = not-large (length (record_text commands drain)) (omega (arith, short, few)) in
+    let small : nat_lt MAX_SCRIPT_BYTES (length (record_text commands drain)) ≡ false = not-large (length (record_text commands drain)) (omega (arith, short, few)) in
     rw small (ap (first_fault names false 1) (lines-are commands drain can fits) ∙ no-fault names 1 commands drain sound (omega (arith, few)))
   where
-    not-large : (n : ℕ) → n ≤ most_script_bytes → nat_lt most_script_bytes n ≡ false
+    not-large : (n : ℕ) → n ≤ MAX_SCRIPT_BYTES → nat_lt MAX_SCRIPT_BYTES n ≡ false
     not-large n few = grind (arith, nat_tests)
 
 -- the commands of events that fit
-all-said : (setup : Setup) (events : List Event) → AllByRecursion (FitsNames setup) events → AllByRecursion (λ moment. moment ≤ most_moment) (filter_map moment_in events)
+all-said : (setup : Setup) (events : List Event) → AllByRecursion (FitsNames setup) events → AllByRecursion (λ moment. moment ≤ MAX_MOMENT) (filter_map moment_in events)
     → AllByRecursion CanSay (map command_of events)
 all-said setup [] names moments = tt
 all-said setup (offered p outcome ∷ more) names moments = ((names.0.1, p.has_length, p.is_within), all-said setup more names.1 moments)

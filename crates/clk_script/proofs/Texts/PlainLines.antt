@@ -9,12 +9,13 @@ use Rattle.std.proofs.lemmas.Bool.{and_parts}
 use Rattle.std.proofs.lemmas.Bool.Decides.{nat_tests}
 use Rattle.std.proofs.lemmas.List.Elements.{All-cons, All-append}
 use Rattle.std.proofs.lemmas.List.Splits.{slice_split_at, slice_split_none, length-slice_split}
-use Rattle.clk_packet.specs.Limits.{most_sender, most_length}
+use Rattle.clk_packet.specs.declared.limits.TheConstants.{MAX_SENDER, MAX_LENGTH}
 use Rattle.clk_script.specs.declared.script.Command.TheVariants.{Send, Pull}
 use Rattle.clk_script.specs.declared.script.ScriptLine.TheVariants as line
 use Rattle.clk_packet.specs.Numbers.{BeginsWithNumber, has_bytes}
 use Rattle.clk_packet.proofs.Callers.Numbers.{AreDigits, number-digits}
-use Rattle.clk_script.specs.Script.{is_blank, fields, line_of_fields, line_of, lines_of, most_moment}
+use Rattle.clk_script.specs.Script.{is_blank, fields, line_of_fields, line_of, lines_of}
+use Rattle.clk_script.specs.declared.limits.TheConstants.{MAX_MOMENT}
 
 -- a byte above the space, as those of words and numbers: it is no blank, and ends no line
 abbrev is_visible : ℕ → Bool
@@ -87,28 +88,28 @@ line-spaced field more rest is are =
     ∙ ap (λ l. line_of_fields l ∷ lines_of rest) (fields-spaced field more is are)
 
 -- `pull M` and a line feed
-pub plain-pull : (text : List ℕ) (moment : ℕ) (rest : List ℕ) → BeginsWithNumber text 10 0 most_moment moment rest → lines_of (codes "pull " ++ text) ≡ line.Command (Pull 0 moment) ∷ lines_of rest
+pub plain-pull : (text : List ℕ) (moment : ℕ) (rest : List ℕ) → BeginsWithNumber text 10 0 MAX_MOMENT moment rest → lines_of (codes "pull " ++ text) ≡ line.Command (Pull 0 moment) ∷ lines_of rest
 plain-pull text moment rest h =
     ap (λ t. lines_of (codes "pull " ++ t)) h.text_is ∙ line-spaced (codes "pull") (h.digits ∷ []) rest (record { some = refl; all = refl }) (digits, tt) ∙ ap (λ l. l ∷ lines_of rest) is
   where
     digits : IsField h.digits
-    digits = digits-field h.digits (number-digits 0 most_moment h.digits moment h.number_is)
+    digits = digits-field h.digits (number-digits 0 MAX_MOMENT h.digits moment h.number_is)
 
     is : line_of_fields (codes "pull" ∷ h.digits ∷ []) ≡ line.Command (Pull 0 moment)
     is = rw h.number_is refl
 
 -- `send S L` and a line feed
-pub plain-send : (text middle rest : List ℕ) (sender size : ℕ) → BeginsWithNumber text 32 0 most_sender sender middle → BeginsWithNumber middle 10 1 most_length size rest
+pub plain-send : (text middle rest : List ℕ) (sender size : ℕ) → BeginsWithNumber text 32 0 MAX_SENDER sender middle → BeginsWithNumber middle 10 1 MAX_LENGTH size rest
     → lines_of (codes "send " ++ text) ≡ line.Command (Send sender size) ∷ lines_of rest
 plain-send text middle rest sender size h k =
     ap (λ t. lines_of (codes "send " ++ t)) (h.text_is ∙ ap (λ t. h.digits ++ 32 ∷ t) k.text_is ∙ sym (append_assoc h.digits (32 ∷ k.digits) (10 ∷ rest)))
     ∙ line-spaced (codes "send") (h.digits ∷ k.digits ∷ []) rest (record { some = refl; all = refl }) (first, (second, tt)) ∙ ap (λ l. l ∷ lines_of rest) is
   where
     first : IsField h.digits
-    first = digits-field h.digits (number-digits 0 most_sender h.digits sender h.number_is)
+    first = digits-field h.digits (number-digits 0 MAX_SENDER h.digits sender h.number_is)
 
     second : IsField k.digits
-    second = digits-field k.digits (number-digits 1 most_length k.digits size k.number_is)
+    second = digits-field k.digits (number-digits 1 MAX_LENGTH k.digits size k.number_is)
 
     is : line_of_fields (codes "send" ∷ h.digits ∷ k.digits ∷ []) ≡ line.Command (Send sender size)
     is = rw (h.number_is, k.number_is) refl

@@ -16,7 +16,8 @@ use Rattle.clk_script.specs.declared.script.ScriptLine.TheVariants as line
 use Rattle.clk_script.specs.declared.script.Command.{Command}
 use Rattle.clk_script.specs.declared.rows.ScriptRow.{ScriptRow}
 use Rattle.clk_script.specs.declared.reading.Reading.{Reading}
-use Rattle.clk_script.specs.Script.{Names, lines_of, drain_in, fault_at, first_fault, most_lines, most_moment}
+use Rattle.clk_script.specs.Script.{Names, lines_of, drain_in, fault_at, first_fault}
+use Rattle.clk_script.specs.declared.limits.TheConstants.{MAX_LINES, MAX_MOMENT}
 use Rattle.clk_script.specs.inside.ScriptRouter.{IsReadableLine}
 use Rattle.clk_script.specs.inside.Rows.{asked_by, asked_in, rows_of, IsToDo}
 use Rattle.clk_script.specs.inside.Reading.{AreRead, IsWrong, IsWrongText, IsReading, ReadsOn, EndsLine, AreHeld, HasCome, IsReadToEnd}
@@ -50,13 +51,13 @@ lines_of-both front rest h = search (rules, append_assoc, lines-both, map-append
 closing-more : (o d : Option ℕ) (drains : List ℕ) → o ≡ slice_get drains 0 → option_or o d ≡ slice_get (drains ++ cons_option d []) 0
 closing-more o d drains e = grind (arith, common_steps, elements, nat_tests)
 
-moment-more : (o : Option ℕ) (l : ScriptLine) → IfSome o (λ m. m ≤ most_moment) → IsReadableLine l → IfSome (option_or o (drain_in l)) (λ m. m ≤ most_moment)
+moment-more : (o : Option ℕ) (l : ScriptLine) → IfSome o (λ m. m ≤ MAX_MOMENT) → IsReadableLine l → IfSome (option_or o (drain_in l)) (λ m. m ≤ MAX_MOMENT)
 moment-more o l h readable = search rules
 
 asked-most : (o : Option Command) → length (cons_option o []) ≤ 1
 asked-most o = search rules
 
-AreRead-more : (names : Names) (read : List ScriptLine) (r new : Reading) (l : ScriptLine) → AreRead names read r → IsReadableLine l → fault_at names (is_some r.script.closing) (r.lines + 1) l ≡ None → new.lines ≡ r.lines + 1 → new.lines ≤ most_lines
+AreRead-more : (names : Names) (read : List ScriptLine) (r new : Reading) (l : ScriptLine) → AreRead names read r → IsReadableLine l → fault_at names (is_some r.script.closing) (r.lines + 1) l ≡ None → new.lines ≡ r.lines + 1 → new.lines ≤ MAX_LINES
     → new.script.closing ≡ option_or r.script.closing (drain_in l) → asked_by new.script.rows.items ≡ asked_by r.script.rows.items ++ asked_in l → AllByRecursion (IsToDo names) new.script.rows.items → AreRead names (read ++ l ∷ []) new
 AreRead-more names read r new l h readable sound count within closes asked to_do = search (rules, length-map, length-append, asked-most, append_assoc, filter_map-append, closing-more, moment-more)
 
@@ -75,7 +76,7 @@ drained-first names o number moment e = search rules
 
 -- The line's row, if it has one, is added.
 pub reading-row : (names : Names) (read : List ScriptLine) (r new : Reading) (l : ScriptLine) (row : Option ScriptRow) (drained : Bool) → AreRead names read r → r.fault ≡ None → IsReadableLine l → drained ≡ is_some r.script.closing
-    → (fault_at names drained (r.lines + 1) l ≡ None) × (asked_by (rows_of row) ≡ asked_in l) × AllByRecursion (IsToDo names) (rows_of row) × (r.lines + 1 ≤ most_lines)
+    → (fault_at names drained (r.lines + 1) l ≡ None) × (asked_by (rows_of row) ≡ asked_in l) × AllByRecursion (IsToDo names) (rows_of row) × (r.lines + 1 ≤ MAX_LINES)
     → new.fault ≡ r.fault → new.lines ≡ r.lines + 1 → new.script.rows.items ≡ r.script.rows.items ++ rows_of row → new.script.closing ≡ option_or r.script.closing (drain_in l) → IsReading names (read ++ l ∷ []) new
 reading-row names read r new l row drained h sound readable before fits same count rows closes = search (rules, AreRead-more, map-append, all-append)
 

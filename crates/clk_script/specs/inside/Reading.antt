@@ -6,7 +6,8 @@ use Rattle.clk_packet.specs.declared.fault.Fault.TheVariants.{Memory, Read}
 use Rattle.clk_script.specs.declared.script.ScriptLine.{ScriptLine}
 use Rattle.clk_script.specs.declared.reading.Script.{Script}
 use Rattle.clk_script.specs.declared.reading.Reading.{Reading}
-use Rattle.clk_script.specs.Script.{Names, lines_of, first_fault, script_fault, most_script_bytes, most_lines}
+use Rattle.clk_script.specs.Script.{Names, lines_of, first_fault, script_fault}
+use Rattle.clk_script.specs.declared.limits.TheConstants.{MAX_SCRIPT_BYTES, MAX_LINES}
 use Rattle.clk_script.specs.inside.Rows.{IsReadFrom, CanBeRun}
 
 -- These lines were read and have no fault. The script so far holds what they say, and can be run.
@@ -15,7 +16,7 @@ pub record AreRead (names : Names) (lines : List ScriptLine) (r : Reading) : Typ
   pub holds : IsReadFrom lines r.script
   pub runs : CanBeRun names r.script
   pub few : length r.script.rows.items ≤ r.lines
-  pub within : r.lines ≤ most_lines
+  pub within : r.lines ≤ MAX_LINES
 
 -- These lines have this fault, whatever follows them.
 abbrev pub IsWrong : Names → List ScriptLine → Fault → Type 0
@@ -60,13 +61,13 @@ EndsAs names text result = MatchResult result (IsReadToEnd names text) (λ fault
 
 -- The text is what a source had, but at most one byte more than a script may have.
 abbrev pub IsTextOf : Option (List ℕ) → List ℕ → Type 0
-IsTextOf known text = IfSome known (λ all. text ≡ take (most_script_bytes + 1) all)
+IsTextOf known text = IfSome known (λ all. text ≡ take (MAX_SCRIPT_BYTES + 1) all)
 
 -- The script is what a source had, which was no longer than a script may be.
 pub record IsScriptOf (names : Names) (known : Option (List ℕ)) (script : Script) : Type 0 where
   pub text : List ℕ
   pub is_text : IsTextOf known text
-  pub short : length text ≤ most_script_bytes
+  pub short : length text ≤ MAX_SCRIPT_BYTES
   pub to_end : IsReadToEnd names text script
 
 -- Why a script isn't read: an allocation or the source failed, or what the source had has this fault.

@@ -18,7 +18,7 @@ use Rattle.clk_script.specs.declared.rows.ScriptRow.TheVariants as row
 use Rattle.clk_script.specs.declared.script.Command.{Command}
 use Rattle.clk_script.specs.declared.script.Command.TheVariants.{Pull}
 use Rattle.clk_script.specs.Meaning.{command_of, MeansOverWith, Writes}
-use Rattle.clk_script.specs.Script.{most_lines}
+use Rattle.clk_script.specs.declared.limits.TheConstants.{MAX_LINES}
 use Rattle.clk_script.specs.inside.Rows.{asked_by, Answers}
 
 -- The answer to a script over a plan, if its bytes are known. All that its commands write is the meaning of the script.
@@ -29,7 +29,7 @@ pub record IsAnswerOver (plan : List Planned) (known : Option (List ℕ)) (answe
   pub answers : Answers (plan_setup trees plan) commands answer.drain answer
   pub means : (text : List ℕ) (logs : List (List Visit)) → Writes (plan_setup trees plan) commands answer.drain text logs → OfBytes known (λ script. MeansOverWith plan script text logs)
   pub packets : answer.script_router.router.keeps.packets ≡ true
-  pub few : length answer.rows.items ≤ most_lines
+  pub few : length answer.rows.items ≤ MAX_LINES
   pub few_closings : IfSome answer.closing (λ closings. length closings.items ≤ MAX_DEVICES)
 
 -- whether a row asks for something at a device
@@ -82,7 +82,7 @@ pub record CanReplay (answer : Answer) (again : Course) : Type 0 where
   pub commands : List Command
   pub answers : Answers again.setup commands answer.drain answer
   pub keeps : again.keeps ≡ keeps_latest
-  pub few : length answer.rows.items ≤ most_lines
+  pub few : length answer.rows.items ≤ MAX_LINES
   pub alike : DevicesGoAlike again.setup
 
 -- the visits of each device of the router over which a script was carried out

@@ -19,7 +19,8 @@ use Rattle.clk_script.specs.declared.rows.ScriptRow.TheVariants as row
 use Rattle.clk_script.specs.declared.reading.Script.{Script}
 use Rattle.clk_script.specs.declared.answer.Answer.{Answer}
 use Rattle.clk_script.specs.declared.script_router.ScriptRouter.{ScriptRouter}
-use Rattle.clk_script.specs.Script.{Names, command_in, drain_in, most_lines, most_moment}
+use Rattle.clk_script.specs.Script.{Names, command_in, drain_in}
+use Rattle.clk_script.specs.declared.limits.TheConstants.{MAX_LINES, MAX_MOMENT}
 use Rattle.clk_sched.specs.Results.{emitted}
 use Rattle.clk_router.specs.Course.{events_of}
 use Rattle.clk_router.specs.Events.{Setup, Event, offered, pulled, emitted_in, log_of, logs_of}
@@ -47,7 +48,7 @@ asked_in l = cons_option (command_in l) []
 -- a row that can be carried out: its sender stands at its place, or its device exists and its moment is in range
 abbrev pub IsToDo : Names → ScriptRow → Type 0
 IsToDo names (row.Send fate place p) = slice_get names.senders place ≡ Some p.sender
-IsToDo names (row.Pull gave device moment) = (device < names.devices) × (moment ≤ most_moment)
+IsToDo names (row.Pull gave device moment) = (device < names.devices) × (moment ≤ MAX_MOMENT)
 
 -- the outcome of an offer, as its row keeps it
 abbrev pub fate_of : Offered → Fate
@@ -72,8 +73,8 @@ pub record IsReadFrom (lines : List ScriptLine) (script : Script) : Type 0 where
 -- A script can be run: it names only what exists, has few enough rows, and its drain has a moment in range.
 pub record CanBeRun (names : Names) (script : Script) : Type 0 where
   pub to_do : AllByRecursion (IsToDo names) script.rows.items
-  pub few : length script.rows.items ≤ most_lines
-  pub closing : IfSome script.closing (λ moment. moment ≤ most_moment)
+  pub few : length script.rows.items ≤ MAX_LINES
+  pub closing : IfSome script.closing (λ moment. moment ≤ MAX_MOMENT)
 
 -- More events led on from these. They are those of the commands that were asked for, and each has its row, which can be carried out again.
 -- If there are several devices, the packets that pulls gave were added to those that were kept.

@@ -4,7 +4,7 @@ use Rattle.std.specs.List.{list_any, flat_map, filter_map, cons_option, AllByRec
 use Rattle.clk_packet.specs.declared.packet.Packet.{Packet}
 use Rattle.clk_packet.specs.declared.packet.Offered.{Offered}
 use Rattle.clk_packet.specs.declared.packet.Offered.TheVariants.{Evicted}
-use Rattle.clk_packet.specs.Limits.{most_elements}
+use Rattle.clk_packet.specs.declared.limits.TheConstants.{MAX_ELEMENTS}
 use Rattle.clk_packet.specs.Lists.{AreRising}
 use Rattle.clk_sched.specs.declared.session.departures.Departure.{Departure}
 use Rattle.clk_sched.specs.declared.visit.Visit.{Visit}
@@ -18,7 +18,8 @@ use Rattle.clk_script.specs.declared.script.Command.{Command}
 use Rattle.clk_script.specs.declared.script.Command.TheVariants.{Send, Pull}
 use Rattle.clk_script.specs.declared.script.ScriptLine.{ScriptLine}
 use Rattle.clk_script.specs.declared.script.ScriptLine.TheVariants as line
-use Rattle.clk_script.specs.Script.{Names, most_lines, most_moment}
+use Rattle.clk_script.specs.Script.{Names}
+use Rattle.clk_script.specs.declared.limits.TheConstants.{MAX_LINES, MAX_MOMENT}
 use Rattle.clk_script.specs.Meaning.{names_of, command_of, has_several, given_text, closing_text, CloseFirst}
 
 -- some sender's account stands at this place
@@ -44,7 +45,7 @@ pub record IsAt (setup : Setup) (events : List Event) (r : ScriptRouter) : Type 
 -- Nothing has happened over this setup. It has at least one device and not too many, and senders by rising numbers.
 pub record Starts (setup : Setup) (r : ScriptRouter) : Type 0 where
   pub some : 1 ≤ length setup.trees
-  pub few : length setup.trees ≤ most_elements
+  pub few : length setup.trees ≤ MAX_ELEMENTS
   pub rising : AreRising (sender_numbers setup)
   pub leads : IsAt setup [] r
   pub given : r.given.items ≡ []
@@ -53,14 +54,14 @@ pub record Starts (setup : Setup) (r : ScriptRouter) : Type 0 where
 -- a command whose numbers are in the range of a script
 abbrev pub IsReadable : Command → Type 0
 IsReadable (Send sender length) = 1 ≤ length
-IsReadable (Pull device moment) = moment ≤ most_moment
+IsReadable (Pull device moment) = moment ≤ MAX_MOMENT
 
 -- a line whose numbers are in the range of a script
 abbrev pub IsReadableLine : ScriptLine → Type 0
 IsReadableLine line.Blank = ⊤
 IsReadableLine line.Malformed = ⊤
 IsReadableLine (line.Command command) = IsReadable command
-IsReadableLine (line.Drain moment) = moment ≤ most_moment
+IsReadableLine (line.Drain moment) = moment ≤ MAX_MOMENT
 
 -- a command that names a sender or a device that exists
 abbrev pub IsSound : Names → Command → Type 0
@@ -74,7 +75,7 @@ pub record AreAlike (r : ScriptRouter) : Type 0 where
 
 -- No more has happened than a script may ask for.
 pub record IsReady (r : ScriptRouter) : Type 0 where
-  pub few : length r.router.events ≤ most_lines
+  pub few : length r.router.events ≤ MAX_LINES
   pub readable : AllByRecursion IsReadable (map command_of r.router.events)
   pub alike : AreAlike r
 

@@ -7,7 +7,7 @@ use Rattle.clk_syntax.specs.declared.naming.class.Role.{Role}
 use Rattle.clk_syntax.specs.declared.naming.class.Role.TheVariants as role
 use Rattle.clk_syntax.specs.declared.node.Node.{Node}
 use Rattle.clk_syntax.specs.declared.node.Link.{Link}
-use Rattle.clk_syntax.specs.Limits.{most_port}
+use Rattle.clk_syntax.specs.declared.limits.TheConstants.{MAX_PORT}
 use Rattle.clk_syntax.specs.Declarations.{first_after}
 use Rattle.clk_syntax.specs.Ports.{role_at, is_queue, has_input, uses_output, uses_input, inputs_used, inputs_of, all_connected, output_connected, bad_port, port_twice, target}
 use Rattle.clk_syntax.specs.inside.Checks.{first_of, bad_link, count_at, has_inputs, leads_on}
@@ -130,7 +130,7 @@ inputs-counted nodes i role.Scheduler links is there none =
     all-counted i (max 1 (inputs_used i links)) links (λ j. once nodes i j (ap is_queue is) links none) (used-fits i (max 1 (inputs_used i links)) links (omega arith))
 inputs-counted nodes i (role.SchedulerOf n) links is there none =
     all-counted i n links (λ j. once nodes i j (ap is_queue is) links none)
-    (role-fits nodes i n (role.SchedulerOf n) links is (λ input e. ltb-true input n (and_parts (nat_lt input n) (nat_le input most_port) e).0) (bad-port-first nodes links ∙ there))
+    (role-fits nodes i n (role.SchedulerOf n) links is (λ input e. ltb-true input n (and_parts (nat_lt input n) (nat_le input MAX_PORT) e).0) (bad-port-first nodes links ∙ there))
 inputs-counted nodes i role.Device links is there none =
     all-counted i 1 links (λ j. once nodes i j (ap is_queue is) links none)
     (role-fits nodes i 1 role.Device links is (λ input e. let zeroth : input ≡ 0 = eqb-true input 0 e in omega arith) (bad-port-first nodes links ∙ there))

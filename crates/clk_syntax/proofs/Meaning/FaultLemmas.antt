@@ -7,7 +7,7 @@ use Rattle.clk_syntax.specs.declared.node.Node.{Node}
 use Rattle.clk_syntax.specs.declared.node.Link.{Link}
 use Rattle.clk_syntax.specs.declared.texts.statements.Connection.{Connection}
 use Rattle.clk_syntax.specs.declared.texts.token.Token.{Token}
-use Rattle.clk_syntax.specs.Limits.{most_tree_bytes}
+use Rattle.clk_syntax.specs.declared.limits.TheConstants.{MAX_TREE_BYTES}
 use Rattle.clk_syntax.specs.Tokens.{tokens_of}
 use Rattle.clk_syntax.specs.Diagram.{start, wrong_from}
 use Rattle.clk_syntax.specs.Grammar.{IsText}
@@ -19,9 +19,9 @@ pub not-less : (m n : ℕ) → n ≤ m → nat_lt m n ≡ false
 not-less m n l = grind (arith, nat_tests)
 
 -- a text that isn't too long, and in which no token is wrong, has statements
-pub right-text : (text : List ℕ) (tokens : List Token) → length text ≤ most_tree_bytes → tokens ≡ tokens_of text → wrong_from start tokens ≡ None → text_fault text ≡ None
+pub right-text : (text : List ℕ) (tokens : List Token) → length text ≤ MAX_TREE_BYTES → tokens ≡ tokens_of text → wrong_from start tokens ≡ None → text_fault text ≡ None
 right-text text tokens few are right =
-    ap (λ b. if b then Some TooLarge else option_map BadText (bad_text text)) (not-less most_tree_bytes (length text) few)
+    ap (λ b. if b then Some TooLarge else option_map BadText (bad_text text)) (not-less MAX_TREE_BYTES (length text) few)
     ∙ ap (λ o. option_map BadText (option_map (offset_of (length text)) o)) (ap (wrong_from start) (sym are) ∙ right)
 
 abbrev pub faultless-by : (text : List ℕ) (tokens : List Token) (declared : List Declared) (connections : List Connection) (nodes : List Node) (links : List Link)

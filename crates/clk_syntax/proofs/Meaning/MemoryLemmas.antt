@@ -5,7 +5,7 @@ use Rattle.clk_packet.specs.declared.fault.Fault.{Fault}
 use Rattle.clk_packet.specs.declared.fault.Fault.TheVariants.{Memory, BadText, UnknownClass, BadArgument, NameTwice, UnknownName, BadPort, PortTwice, PortMissing, WrongKind, NoDevice, NotATree, TooLarge}
 use Rattle.clk_syntax.specs.declared.node.Node.{Node}
 use Rattle.clk_syntax.specs.declared.node.Link.{Link}
-use Rattle.clk_syntax.specs.Limits.{most_tree_bytes}
+use Rattle.clk_syntax.specs.declared.limits.TheConstants.{MAX_TREE_BYTES}
 use Rattle.clk_syntax.specs.Source.{Element, Wire}
 use Rattle.clk_syntax.specs.Declarations.{name_twice, unknown_class, bad_argument, unknown_name}
 use Rattle.clk_syntax.specs.Ports.{bad_port, port_twice, port_missing, wrong_kind, has_device, not_a_tree}
@@ -55,5 +55,5 @@ fault-other elements wires =
 
 pub text-no-memory : (text : List ℕ) → ¬ (HasFault text Memory)
 text-no-memory text (inl told) =
-    if-other (nat_lt most_tree_bytes (length text)) (Some TooLarge) (option_map BadText (bad_text text)) (λ e. absurd (cc)) (by-place BadText (λ place e. absurd (cc)) (bad_text text)) told
+    if-other (nat_lt MAX_TREE_BYTES (length text)) (Some TooLarge) (option_map BadText (bad_text text)) (λ e. absurd (cc)) (by-place BadText (λ place e. absurd (cc)) (bad_text text)) told
 text-no-memory text (inr h) = fault-other (elements_of text h.statements) (wires_of text h.statements) h.is

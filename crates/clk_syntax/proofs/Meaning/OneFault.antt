@@ -3,7 +3,7 @@ use Rattle.std.proofs.Common.{◌≡◌, ◌⊎◌, ℕ, List, length, Bool, nat
 use Rattle.clk_packet.specs.declared.fault.Fault.{Fault}
 use Rattle.clk_packet.specs.declared.fault.Fault.TheVariants.{BadText, TooLarge}
 use Rattle.clk_syntax.specs.declared.texts.token.Token.{Token}
-use Rattle.clk_syntax.specs.Limits.{most_tree_bytes}
+use Rattle.clk_syntax.specs.declared.limits.TheConstants.{MAX_TREE_BYTES}
 use Rattle.clk_syntax.specs.Tokens.{tokens_of}
 use Rattle.clk_syntax.specs.Diagram.{start, wrong_from}
 use Rattle.clk_syntax.specs.Grammar.{Statement, IsText}
@@ -45,7 +45,7 @@ says-by text statements (Some fault) right is told = inr (fault, inr (record { s
 
 says-as : (text : List ℕ) (told : Option Fault) → text_fault text ≡ told → Says text
 says-as text None right =
-    let read = right-are-texts (tokens_of text) (none-wrong (nat_lt most_tree_bytes (length text)) (length text) (wrong_from start (tokens_of text)) right) in
+    let read = right-are-texts (tokens_of text) (none-wrong (nat_lt MAX_TREE_BYTES (length text)) (length text) (wrong_from start (tokens_of text)) right) in
     says-by text read.0 (told_by text read.0) right read.1 refl
 says-as text (Some fault) told = inr (fault, inl told)
 

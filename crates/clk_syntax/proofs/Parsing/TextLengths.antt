@@ -4,7 +4,7 @@ use Rattle.std.proofs.lemmas.List.{length-map}
 use Rattle.std.specs.List.{flat_map, AllByRecursion}
 use Rattle.clk_syntax.specs.declared.texts.token.Token.{Token}
 use Rattle.clk_syntax.specs.declared.texts.statements.Connection.{Connection}
-use Rattle.clk_syntax.specs.Limits.{most_port}
+use Rattle.clk_syntax.specs.declared.limits.TheConstants.{MAX_PORT}
 use Rattle.clk_syntax.specs.Grammar.{Hop, Statement, nothing, declaration, chain, bare, written_hop, written, ended, IsText}
 use Rattle.clk_syntax.specs.Source.{Declared, Element, hops_from, connected_in, elements, port, wire, wires}
 use Rattle.clk_syntax.specs.Within.{HasPorts, words_in}
@@ -44,7 +44,7 @@ pub elements-few : (text : List ℕ) (declared : List Declared) → length (elem
 elements-few text [] = omega arith
 elements-few text (d ∷ more) = search (rules, length-append, length-map, (elements-few text more))
 
-port-small : (text : List ℕ) (p : Option Token) → port_kept (port text p) ≤ most_port + 1
+port-small : (text : List ℕ) (p : Option Token) → port_kept (port text p) ≤ MAX_PORT + 1
 port-small text p = search rules
 
 -- connections have ports as the code keeps them

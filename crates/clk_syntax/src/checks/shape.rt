@@ -1,7 +1,7 @@
 //! The checks of devices, of trees and of sizes.
 
 ghost use Rattle.std.specs.Prelude.{◌≡◌, ◌<◌, ◌≤◌, length, Some, IfOk, IsOkUnless, if◌then◌else◌};
-ghost use Rattle.clk_packet.specs.Limits.{most_elements};
+ghost use Rattle.clk_packet.specs.declared.limits.TheConstants.{MAX_ELEMENTS};
 ghost use Rattle.clk_syntax.specs.Ports.{is_scheduler, has_device, not_a_tree};
 ghost use Rattle.clk_syntax.specs.Size.{levels, is_too_large, too_large};
 ghost use Rattle.clk_syntax.specs.Tables.{IsTabled};
@@ -45,7 +45,7 @@ fn level(role: Role) -> u32
 /// How many schedulers and Shapers stand on the way from an element on, itself among them.
 fn levels(graph: &Graph, start: u32) -> u32
     requires tabled { IsTabled graph.now }
-    requires few { length graph.now.nodes.now ≤ most_elements }
+    requires few { length graph.now.nodes.now ≤ MAX_ELEMENTS }
     requires start { start < length graph.now.nodes.now }
     ensures { result ≡ levels graph.now.nodes.now graph.now.links.now start }
 {
@@ -67,7 +67,7 @@ fn levels(graph: &Graph, start: u32) -> u32
 /// Whether an element has too many inputs, or too many schedulers and Shapers on its way.
 fn is_too_large(graph: &Graph, place: u32, node: Node) -> bool
     requires tabled { IsTabled graph.now }
-    requires few { length graph.now.nodes.now ≤ most_elements }
+    requires few { length graph.now.nodes.now ≤ MAX_ELEMENTS }
     requires place { place < length graph.now.nodes.now }
     ensures { result ≡ is_too_large place node graph.now.nodes.now graph.now.links.now }
 {

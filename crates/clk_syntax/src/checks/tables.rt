@@ -2,7 +2,7 @@
 
 ghost use Rattle.std.specs.Prelude.{◌≡◌, ◌≤◌, ◌<◌, length, Some, IfOk, IsOkUnless};
 ghost use Rattle.std.specs.List.{AllByRecursion};
-ghost use Rattle.clk_syntax.specs.Limits.{most_tree_bytes};
+ghost use Rattle.clk_syntax.specs.declared.limits.TheConstants.{MAX_TREE_BYTES};
 ghost use Rattle.clk_syntax.specs.Ports.{role_at, next, target};
 ghost use Rattle.clk_syntax.specs.Within.{IsLinkWithin, HasPorts};
 ghost use Rattle.clk_syntax.specs.Tables.{IsTargets, IsInputs, IsTabled, inputs_at};
@@ -35,8 +35,8 @@ pub struct Graph<'a> {
 impl<'a> Graph<'a> {
     /// These elements and connections with their tables. Fault 1 if an allocation fails.
     pub fn new(alloc: Global, nodes: &'a [Node], links: &'a [Link]) -> Result<Graph<'a>, Fault>
-        requires few_nodes { length nodes.now ≤ most_tree_bytes }
-        requires few_links { length links.now ≤ most_tree_bytes }
+        requires few_nodes { length nodes.now ≤ MAX_TREE_BYTES }
+        requires few_links { length links.now ≤ MAX_TREE_BYTES }
         requires within { AllByRecursion (IsLinkWithin nodes.now) links.now }
         requires ports { AllByRecursion HasPorts links.now }
         ensures nodes { IfOk result (λ graph. graph.nodes.now ≡ nodes.now) }
@@ -107,7 +107,7 @@ fn targets_of(alloc: Global, nodes: &[Node], links: &[Link]) -> Result<Vec<Optio
 
 /// What the connections use of the inputs of each element. Fault 1 if an allocation fails.
 fn inputs_of(alloc: Global, nodes: &[Node], links: &[Link]) -> Result<Vec<InputUse>, Fault>
-    requires few { length links.now ≤ most_tree_bytes }
+    requires few { length links.now ≤ MAX_TREE_BYTES }
     requires within { AllByRecursion (IsLinkWithin nodes.now) links.now }
     requires ports { AllByRecursion HasPorts links.now }
     ensures made { IfOk result (λ inputs. IsInputs (length nodes.now) links.now inputs.items) }

@@ -4,7 +4,7 @@ ghost use Rattle.std.specs.Prelude.{◌≡◌, ◌+◌, ◌<◌, ◌≤◌, ◌=
 ghost use Rattle.std.specs.List.{position_or_len, prefix_len};
 ghost use Rattle.std.specs.Str.{all_ascii_digits};
 ghost use Rattle.clk_packet.specs.declared.fault.Fault.TheVariants.{Memory};
-ghost use Rattle.clk_syntax.specs.Limits.{most_tree_bytes};
+ghost use Rattle.clk_syntax.specs.declared.limits.TheConstants.{MAX_TREE_BYTES};
 ghost use Rattle.clk_syntax.specs.Within.{AreWithin};
 ghost use Rattle.clk_syntax.specs.Tokens.{is_blank, is_word_byte, begins_with, comment_end, comment, word_symbol, word, mark_of, piece_at, first_piece, piece_len, shown, tokens_of};
 
@@ -227,7 +227,7 @@ fn keep(tokens: &mut Vec<Token>, place: usize, piece: Piece) -> Result<usize, Fa
 
 /// The tokens of a text. Fault 1 if an allocation fails.
 pub fn tokens_of(alloc: Global, text: &[u8]) -> Result<Vec<Token>, Fault>
-    requires { length text.now ≤ most_tree_bytes }
+    requires { length text.now ≤ MAX_TREE_BYTES }
     ensures tokens { IfOk result (λ tokens. tokens.items ≡ tokens_of text.now) }
     ensures within { IfOk result (λ tokens. AreWithin (length text.now) tokens.items) }
     ensures fault { IsOkUnless result Memory }

@@ -7,7 +7,7 @@ use Rattle.clk_syntax.specs.declared.texts.statements.Declaration.{Declaration}
 use Rattle.clk_syntax.specs.declared.checks.tables.Graph.{Graph}
 use Rattle.clk_syntax.specs.declared.texts.token.Token.{Token}
 use Rattle.clk_syntax.specs.Classes.{Class, class_view, numbers_in, is_class}
-use Rattle.clk_syntax.specs.Limits.{most_tree_bytes}
+use Rattle.clk_syntax.specs.declared.limits.TheConstants.{MAX_TREE_BYTES}
 use Rattle.clk_syntax.specs.Source.{Declared, Element, letters, element, elements, kept}
 use Rattle.clk_syntax.specs.Declarations.{class_in}
 use Rattle.clk_syntax.specs.Within.{IsWithin, IsDeclaredWithin, words_in}
@@ -93,7 +93,7 @@ pub record CanAdd (graph : Graph) (text : List ℕ) (d : Declared) (class : decl
   pub numbers : length (numbers_in (class_view class)) < 2 ^ 32
 
 pub can-add : (graph : Graph) (text : List ℕ) (all rest : List Declared) (d : Declared) (class : declared.Class) (classes : List declared.Class) (now : List plan.Element)
-    → AreBuilt graph text all (d ∷ rest) (class ∷ classes) now → words_in all ≤ most_tree_bytes → CanAdd graph text d class now
+    → AreBuilt graph text all (d ∷ rest) (class ∷ classes) now → words_in all ≤ MAX_TREE_BYTES → CanAdd graph text d class now
 can-add graph text all rest d class classes now h few =
     let is : class_in text d ≡ Some (class_view class) = ap (λ os. get_or os 0 None) h.known in
     let together = known-together text d (class_view class) d.names (elements text rest) is in
@@ -117,7 +117,7 @@ built-read graph text all ds classes k d class names now new h l there is same i
 
 -- what is known where they are added
 pub can-add-read : (graph : Graph) (text : List ℕ) (all : List Declared) (ds : List Declaration) (classes : List declared.Class) (k : ℕ) (d : Declaration) (class : declared.Class) (now : List plan.Element)
-    → AreBuilt graph text all (map kept (drop k ds)) (drop k classes) now → k < length ds → d ≡ get_or ds k d → class ≡ get_or classes k class → words_in all ≤ most_tree_bytes → CanAdd graph text (kept d) class now
+    → AreBuilt graph text all (map kept (drop k ds)) (drop k classes) now → k < length ds → d ≡ get_or ds k d → class ≡ get_or classes k class → words_in all ≤ MAX_TREE_BYTES → CanAdd graph text (kept d) class now
 can-add-read graph text all ds classes k d class now h l there is few =
     subst (λ x. CanAdd graph text (kept x) class now) (sym there) (subst (λ x. CanAdd graph text (kept (get_or ds k d)) x now) (sym is)
     (can-add graph text all (map kept (drop (k + 1) ds)) (kept (get_or ds k d)) (get_or classes k class) (drop (k + 1) classes) now (built-at graph text all ds classes k d class now h l).1 few))

@@ -8,7 +8,7 @@ use Rattle.std.proofs.lemmas.Bool.{false≢true}
 use Rattle.std.proofs.lemmas.Bool.Decides.{nat_tests}
 use Rattle.clk_packet.specs.declared.fault.Fault.{Fault}
 use Rattle.clk_packet.specs.declared.fault.Fault.TheVariants.{Memory}
-use Rattle.clk_packet.specs.Limits.{most_inputs, most_levels}
+use Rattle.clk_packet.specs.declared.limits.TheConstants.{MAX_INPUTS, MAX_LEVELS}
 use Rattle.clk_packet.specs.Scheduler.{Scheduler}
 use Rattle.clk_sched.specs.Tree.{Tree, scheduler, root, height}
 use Rattle.clk_sched.specs.Built.{built, row}
@@ -16,10 +16,10 @@ use Rattle.clk_syntax.specs.Classes.{class_view}
 use Rattle.clk_tree.specs.declared.plan.element.Element.{Element}
 use Rattle.clk_tree.specs.Plan.{Planned}
 use Rattle.clk_tree.specs.Elements.{planned}
-use Rattle.clk_tree.specs.PlanTree.{is_queue, queue_count, number_if, queue_number, IsRowOf}
-use Rattle.clk_tree.specs.inside.PlanTree.{is_queue_at, IsOver, IsBuilt, IsScheduled}
+use Rattle.clk_tree.specs.PlanTree.{is_queue, queue_count, queue_number, IsRowOf}
+use Rattle.clk_tree.specs.inside.PlanTree.{is_queue_at, IsOver, IsBuilt, IsScheduled, number_if}
 
-built-ok : (class : Scheduler) (children : List Tree) → length children ≤ most_inputs → height (row children) + 1 ≤ most_levels
+built-ok : (class : Scheduler) (children : List Tree) → length children ≤ MAX_INPUTS → height (row children) + 1 ≤ MAX_LEVELS
     → built class children ≡ Ok (scheduler class (row children))
 unfolding built
 built-ok class children few low = grind (arith, nat_tests)
@@ -52,7 +52,7 @@ pub record IsMade (plan : List Planned) (s levels : ℕ) (result : Result Tree F
   pub height : IfOk result (λ t. height (root t) ≤ levels)
   pub fault : IsOkUnless result Memory
 
-pub over-made : (plan : List Planned) (s levels : ℕ) (e : Planned) (children : List Tree) (result : Result Tree Fault) → levels ≤ most_levels → IsSchedulerAt plan s levels e
+pub over-made : (plan : List Planned) (s levels : ℕ) (e : Planned) (children : List Tree) (result : Result Tree Fault) → levels ≤ MAX_LEVELS → IsSchedulerAt plan s levels e
     → length children ≡ length e.sources → IsRowOf plan e.sources (row children) → height (row children) ≤ levels - 1
     → (result ≡ Err Memory) ⊎ IsBuilt e.class children result → IsMade plan s levels result
 over-made plan s levels e children result most h count rows low k = search (rules, built-ok)

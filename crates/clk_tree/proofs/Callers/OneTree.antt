@@ -3,7 +3,8 @@ use Rattle.std.proofs.Common.{◌≡◌, ℕ, List, [], ◌∷◌, length, suc, 
 use Rattle.clk_packet.specs.Scheduler.{Scheduler}
 use Rattle.clk_sched.specs.Tree.{Row, end, leaf, node, Tree, root}
 use Rattle.clk_tree.specs.Plan.{Planned}
-use Rattle.clk_tree.specs.PlanTree.{number_if, sources_at, sources_of_device, IsNode, IsRowOf, IsTreeOf}
+use Rattle.clk_tree.specs.PlanTree.{sources_at, sources_of_device, IsNode, IsRowOf, IsTreeOf}
+use Rattle.clk_tree.specs.inside.PlanTree.{number_if}
 use Rattle.clk_tree.specs.Shares.{AreTreesOf}
 
 -- a queue is no scheduler

@@ -2,7 +2,7 @@
 use Rattle.std.proofs.Common.{◌≡◌, ℕ, ◌+◌, ◌≤◌, ◌<◌, Bool, true, false, List, [], ◌∷◌, length, map, Some, slice_get, Option}
 use Rattle.std.specs.List.{list_all, AllByRecursion}
 use Rattle.clk_packet.specs.Numbers.{has_bytes}
-use Rattle.clk_syntax.specs.Limits.{most_port}
+use Rattle.clk_syntax.specs.declared.limits.TheConstants.{MAX_PORT}
 use Rattle.clk_syntax.specs.Tokens.{is_word_byte, is_digit}
 use Rattle.clk_syntax.specs.Source.{Element, Wire}
 use Rattle.clk_syntax.specs.Classes.{Class, queue, class_named}
@@ -64,7 +64,7 @@ pub record IsNameText (name : List ℕ) : Type 0 where
 pub record CanBeWritten (count : ℕ) (e : Planned) : Type 0 where
   pub name : IsNameText e.name
   pub arguments : AllByRecursion IsWordText (arguments_of e.class)
-  pub inputs : length e.sources ≤ most_port
+  pub inputs : length e.sources ≤ MAX_PORT
   pub sources : AllByRecursion (λ s. s < count) e.sources
 
 -- the line of a class is read as that class

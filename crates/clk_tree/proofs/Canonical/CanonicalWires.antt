@@ -4,7 +4,7 @@ use Rattle.std.proofs.Common.{◌≡◌, ℕ, ◌+◌, ◌≤◌, ◌<◌, List,
 use Rattle.std.proofs.lemmas.Bool.Decides.{nat_tests}
 use Rattle.std.specs.List.{flat_map, AllByRecursion}
 use Rattle.clk_syntax.specs.declared.texts.token.Symbol.TheVariants.{LeadsTo, OpenPort, ClosePort, Semicolon}
-use Rattle.clk_syntax.specs.Limits.{most_port}
+use Rattle.clk_syntax.specs.declared.limits.TheConstants.{MAX_PORT}
 use Rattle.clk_syntax.specs.Grammar.{Statement, chain, bare, ended}
 use Rattle.clk_syntax.specs.Reading.{wires_of}
 use Rattle.clk_tree.specs.Plan.{Planned}
@@ -48,11 +48,11 @@ wire-sound from digits to f d t = (f, refl, (refl, (zero-number.word, refl, (ref
 wire-written : (place : ℕ) (from digits to : List ℕ) → map bare (parts_tokens place (wire_parts from digits to)) ≡ flat_map ended (wire_statement place from digits to ∷ [])
 wire-written place from digits to = search (rules, token-bare)
 
-wire-connects : (text : List ℕ) (place : ℕ) (from digits to : List ℕ) (input : ℕ) → IsNumberText input digits → input ≤ most_port → AreLettered text place (wire_parts from digits to)
+wire-connects : (text : List ℕ) (place : ℕ) (from digits to : List ℕ) (input : ℕ) → IsNumberText input digits → input ≤ MAX_PORT → AreLettered text place (wire_parts from digits to)
     → map bare_wire (wires_of text (wire_statement place from digits to ∷ [])) ≡ line_wire from (Some 0) (Some input) to ∷ []
 wire-connects text place from digits to input number small h = search (rules, zero-number)
 
-parts-lines : (text from digits to : List ℕ) (input : ℕ) → IsNameText from → IsNumberText input digits → input ≤ most_port → IsNameText to
+parts-lines : (text from digits to : List ℕ) (input : ℕ) → IsNameText from → IsNumberText input digits → input ≤ MAX_PORT → IsNameText to
     → AreLines text (parts_text (wire_parts from digits to)) [] (line_wire from (Some 0) (Some input) to ∷ [])
 parts-lines text from digits to input f number small t = record {
   read = λ place rest at. record {
@@ -66,7 +66,7 @@ parts-lines text from digits to input f number small t = record {
   };
 }
 
-connection-lines : (text : List ℕ) (plan : List Planned) (source input : ℕ) (name : List ℕ) → IsNameText (name_of (slice_get plan source)) → input ≤ most_port → IsNameText name
+connection-lines : (text : List ℕ) (plan : List Planned) (source input : ℕ) (name : List ℕ) → IsNameText (name_of (slice_get plan source)) → input ≤ MAX_PORT → IsNameText name
     → AreLines text (connection_text plan source input name) [] (wire_line plan source input name ∷ [])
 connection-lines text plan source input name from small to = parts-lines text (name_of (slice_get plan source)) (decimal input) name input from (decimal-number input (omega arith)) small to
 
@@ -79,7 +79,7 @@ has-names count plan all s within = grind (arith, common_steps, elements, nat_te
 
 -- the connections to each input
 inputs-lines : (text : List ℕ) (plan : List Planned) (name : List ℕ) (input : ℕ) (sources : List ℕ) → HasNames plan → IsNameText name
-    → input + length sources ≤ most_port + 1 → AllByRecursion (λ s. s < length plan) sources → AreLines text (inputs_text plan name input sources) [] (input_lines plan name input sources)
+    → input + length sources ≤ MAX_PORT + 1 → AllByRecursion (λ s. s < length plan) sources → AreLines text (inputs_text plan name input sources) [] (input_lines plan name input sources)
 inputs-lines text plan name input [] names n small all = lines-none text
 inputs-lines text plan name input (s ∷ more) names n small all =
     lines-then text (connection_text plan s input name) (inputs_text plan name (input + 1) more)

@@ -4,13 +4,13 @@ use Rattle.std.specs.List.{AllByRecursion, range_with_len}
 use Rattle.std.proofs.lemmas.Bool.{cases_Bool}
 use Rattle.std.proofs.lemmas.List.FromFn.{length-range_with_len, length-map-range_with_len}
 use Rattle.std.proofs.lemmas.Option.{slice_get_within, same_Some}
-use Rattle.clk_packet.specs.Limits.{most_elements}
+use Rattle.clk_packet.specs.declared.limits.TheConstants.{MAX_ELEMENTS}
 use Rattle.clk_syntax.specs.declared.naming.class.ClassName.{ClassName}
 use Rattle.clk_syntax.specs.declared.naming.class.Role.{Role}
 use Rattle.clk_syntax.specs.declared.naming.class.Role.TheVariants as role
 use Rattle.clk_syntax.specs.declared.node.Node.{Node}
 use Rattle.clk_syntax.specs.declared.node.Link.{Link}
-use Rattle.clk_syntax.specs.Limits.{most_port}
+use Rattle.clk_syntax.specs.declared.limits.TheConstants.{MAX_PORT}
 use Rattle.clk_packet.proofs.Callers.Schedulers.{most-small}
 use Rattle.clk_packet.proofs.Callers.Lists.{all-both}
 use Rattle.clk_syntax.specs.Classes.{Class, device, class_with, role_of}
@@ -56,7 +56,7 @@ plan-words elements wires spelled = all-planned IsSpelled HasWords (length (all_
 
 -- the sources of an element of a plan of so many elements
 pub record HasSources (count : ℕ) (e : Planned) : Type 0 where
-  pub inputs : length e.sources ≤ most_port
+  pub inputs : length e.sources ≤ MAX_PORT
   pub sources : AllByRecursion (λ s. s < count) e.sources
 
 length-filter-le : (p : ℕ → Bool) (xs : List ℕ) → length (filter p xs) ≤ length xs
@@ -68,7 +68,7 @@ below-filter p a zero end within = tt
 below-filter p a (suc n) end within = search (rules, (below-filter p (a + 1) n end (omega arith)))
 
 -- what is connected to a queue
-queue-sources : (plan : List Planned) (links : List Link) (i : ℕ) → length plan ≤ most_elements
+queue-sources : (plan : List Planned) (links : List Link) (i : ℕ) → length plan ≤ MAX_ELEMENTS
     → (e : Planned) → e.sources ≡ filter (is_connected links i) (range_with_len 0 (length plan)) → HasSources (length plan) e
 queue-sources plan links i few e is = search (rules, length-filter-le, length-range_with_len, below-filter)
 
@@ -77,7 +77,7 @@ input-sources : (plan : List Planned) (count : ℕ) (nodes : List Node) (links :
     → is_queue (Some r) ≡ false → (e : Planned) → e.sources ≡ map (source_at links i) (range_with_len 0 (inputs_of i r links)) → HasSources (length plan) e
 input-sources plan count nodes links i r of sound at pull e is = record {
   inputs = let few = (sound.small i r at).inputs in let all = length-map-range_with_len (source_at links i) 0 (inputs_of i r links) in
-      subst (λ l. length l ≤ most_port) (sym is) (omega arith);
+      subst (λ l. length l ≤ MAX_PORT) (sym is) (omega arith);
   sources = subst (AllByRecursion (λ s. s < length plan)) (sym is)
       (all-range (λ s. s < length plan) (source_at links i) 0 (inputs_of i r links)
       (λ p within. let h = fed nodes links i p r sound at pull (omega arith) in

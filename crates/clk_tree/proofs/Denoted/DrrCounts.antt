@@ -3,7 +3,7 @@ use Rattle.std.proofs.Common.{◌≡◌, ℕ, suc, ◌+◌, ◌<◌, ◌≤◌, 
 use Rattle.std.specs.List.{AllByRecursion}
 use Rattle.std.proofs.lemmas.Bool.{false≢true}
 use Rattle.std.proofs.lemmas.Option.{slice_get_within, slice_get-get_or}
-use Rattle.clk_packet.specs.Limits.{most_levels}
+use Rattle.clk_packet.specs.declared.limits.TheConstants.{MAX_LEVELS}
 use Rattle.clk_packet.specs.Lists.{stands_in}
 use Rattle.clk_sched.specs.Tree.{Tree, root, leaves}
 use Rattle.clk_sched.specs.FewHeads.{drrs_above}
@@ -18,7 +18,7 @@ use Rattle.clk_tree.proofs.Callers.OneTree.{one-tree}
 pub record AreCounted (plan : List Planned) (n : ℕ) (counts : List ℕ) : Type 0 where
   pub count : length counts ≡ length (queues_of plan)
   pub each : (d q : ℕ) (tree : Tree) → d < n → IsTreeOf plan d tree → leads_to d (slice_get (queues_of plan) q) ≡ true → get_or counts q 0 ≡ drrs_above q (root tree)
-  pub low : (q : ℕ) → get_or counts q 0 ≤ most_levels
+  pub low : (q : ℕ) → get_or counts q 0 ≤ MAX_LEVELS
 
 -- the leaves of a tree are the queues of a device
 pub record IsOver (queues : List Queued) (d : ℕ) (tree : Tree) : Type 0 where
@@ -29,7 +29,7 @@ pub record IsWritten (tree : Tree) (old new : List ℕ) : Type 0 where
   pub long : length new ≡ length old
   pub counts : (q : ℕ) → stands_in q (leaves (root tree)) ≡ true → get_or new q 0 ≡ drrs_above q (root tree)
   pub others : (q : ℕ) → stands_in q (leaves (root tree)) ≡ false → get_or new q 0 ≡ get_or old q 0
-  pub limit : (q : ℕ) → drrs_above q (root tree) ≤ most_levels
+  pub limit : (q : ℕ) → drrs_above q (root tree) ≤ MAX_LEVELS
 
 -- one tree more
 pub counted-more : (plan : List Planned) (n : ℕ) (tree : Tree) (old new : List ℕ) → AreCounted plan n old → IsTreeOf plan n tree → IsOver (queues_of plan) n tree → IsWritten tree old new → AreCounted plan (n + 1) new
@@ -39,7 +39,7 @@ counted-more plan n tree old new counted is over written = record {
   low = λ q. by_leaf q (stands_in q (leaves (root tree))) refl;
 }
   where
-    by_leaf : (q : ℕ) (b : Bool) → stands_in q (leaves (root tree)) ≡ b → get_or new q 0 ≤ most_levels
+    by_leaf : (q : ℕ) (b : Bool) → stands_in q (leaves (root tree)) ≡ b → get_or new q 0 ≤ MAX_LEVELS
     by_leaf q b e = search (rules, eqb-true, one-tree, false≢true, eq-eqb)
 
     by_device : (d q : ℕ) (t : Tree) → d < n + 1 → IsTreeOf plan d t → leads_to d (slice_get (queues_of plan) q) ≡ true → (b : Bool) → (d == n) ≡ b → get_or new q 0 ≡ drrs_above q (root t)
@@ -57,6 +57,6 @@ counted-all plan n counts all counted trees are = record { count = counted.count
         slice_get-get_or counts q 0 (omega (arith, there, counted.count)) ∙ ap Some (counted.each queue.device q tree (omega (arith, made, are.count, all)) (are.each queue.device tree to) leads)
 
 -- what holds at each place holds of each count
-pub all-low : (counts : List ℕ) → ((q : ℕ) → get_or counts q 0 ≤ most_levels) → AllByRecursion (λ n. n ≤ most_levels) counts
+pub all-low : (counts : List ℕ) → ((q : ℕ) → get_or counts q 0 ≤ MAX_LEVELS) → AllByRecursion (λ n. n ≤ MAX_LEVELS) counts
 all-low [] low = tt
 all-low (n ∷ counts) low = (low 0, all-low counts (λ q. low (suc q)))

@@ -5,7 +5,7 @@ use Rattle.std.specs.List.{AllByRecursion}
 use Rattle.std.proofs.lemmas.List.{length-map, get_or-map}
 use Rattle.std.proofs.lemmas.Option.{slice_get_within}
 use Rattle.clk_packet.specs.declared.fault.Fault.{Fault}
-use Rattle.clk_packet.specs.Limits.{most_levels, most_elements}
+use Rattle.clk_packet.specs.declared.limits.TheConstants.{MAX_LEVELS, MAX_ELEMENTS}
 use Rattle.clk_sched.specs.Session as session
 use Rattle.clk_packet.specs.Lists.{stands_in}
 use Rattle.clk_sched.specs.Tree.{Tree, root, leaves, leaves_distinct}
@@ -47,7 +47,7 @@ denoted-one text plan d = each (device_sources plan) (denoted-scheduled text pla
 pub record HasDevices (plan : List Planned) (tops : List ℕ) : Type 0 where
   pub count : length tops ≡ device_count plan
   pub some : 1 ≤ length tops
-  pub within : length tops ≤ most_elements
+  pub within : length tops ≤ MAX_ELEMENTS
 
 pub kept-devices : (plan : List Planned) (tops : List ℕ) (queues : List Queued) (senders : List SenderSpec) → IsKept plan tops queues senders → HasDevices plan tops
 kept-devices plan tops queues senders h =
@@ -67,13 +67,13 @@ all-at : (P : ℕ → Type 0) (xs : List ℕ) (i x : ℕ) → AllByRecursion P x
 all-at P xs i x all below is = search (rules, common_steps)
 
 pub kept-scheduled : (plan : List Planned) (tops : List ℕ) (queues : List Queued) (senders : List SenderSpec) (d top : ℕ) → IsKept plan tops queues senders → d < length tops
-    → top ≡ get_or tops d top → IsScheduled plan most_levels top
+    → top ≡ get_or tops d top → IsScheduled plan MAX_LEVELS top
 kept-scheduled plan tops queues senders d top h below is =
-    all-at (IsScheduled plan most_levels) tops d top (each tops (subst (AllByRecursion (IsRoot plan)) h.sources (denoted-scheduled h.denoted.0 plan h.denoted.1))) below is
+    all-at (IsScheduled plan MAX_LEVELS) tops d top (each tops (subst (AllByRecursion (IsRoot plan)) h.sources (denoted-scheduled h.denoted.0 plan h.denoted.1))) below is
   where
-    each : (tops : List ℕ) → AllByRecursion (IsRoot plan) (map (λ top. top ∷ []) tops) → AllByRecursion (IsScheduled plan most_levels) tops
+    each : (tops : List ℕ) → AllByRecursion (IsRoot plan) (map (λ top. top ∷ []) tops) → AllByRecursion (IsScheduled plan MAX_LEVELS) tops
     each [] all = tt
-    each (t ∷ more) all = (let same : all.0.top ∷ [] ≡ t ∷ [] = sym all.0.source in subst (IsScheduled plan most_levels) (cc) all.0.is, each more all.1)
+    each (t ∷ more) all = (let same : all.0.top ∷ [] ≡ t ∷ [] = sym all.0.source in subst (IsScheduled plan MAX_LEVELS) (cc) all.0.is, each more all.1)
 
 -- what is connected to a device
 kept-sources : (plan : List Planned) (tops : List ℕ) (queues : List Queued) (senders : List SenderSpec) (d top : ℕ) → IsKept plan tops queues senders → d < length tops
@@ -84,7 +84,7 @@ kept-sources plan tops queues senders d top h below is = search (rules, get_or-m
 pub record IsMadeTree (plan : List Planned) (d : ℕ) (made : Result Tree Fault) : Type 0 where
   pub tree : IfOk made (IsTreeOf plan d)
   pub distinct : IfOk made (λ tree. leaves_distinct tree ≡ true)
-  pub fits : IfOk made (λ tree. 1 + session.elements (root tree) ≤ most_elements)
+  pub fits : IfOk made (λ tree. 1 + session.elements (root tree) ≤ MAX_ELEMENTS)
   pub leaves : IfOk made (λ tree. (q : ℕ) → stands_in q (leaves (root tree)) ≡ leads_to d (slice_get (queues_of plan) q))
 
 pub kept-made : (plan : List Planned) (tops : List ℕ) (queues : List Queued) (senders : List SenderSpec) (d top : ℕ) (made : Result Tree Fault) → IsKept plan tops queues senders → d < length tops
@@ -127,5 +127,5 @@ pub read-all : (text : List ℕ) (declared given : List Declaration) (connection
 read-all text declared given connections nodes checked links named same_nodes same = search (rules, nodes-known)
 
 -- A plan has as many elements as a session may have at most.
-pub denoted-few : (text : List ℕ) (es : List plan.Element) → Denotes text (map planned es) → length es ≤ most_elements
+pub denoted-few : (text : List ℕ) (es : List plan.Element) → Denotes text (map planned es) → length es ≤ MAX_ELEMENTS
 denoted-few text es d = search (rules, length-map, plan-few)

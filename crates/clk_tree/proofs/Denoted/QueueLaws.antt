@@ -1,7 +1,7 @@
 -- A plan has no more queues than elements, and the senders of each queue have rising numbers.
 use Rattle.std.proofs.Common.{ℕ, ◌+◌, ◌<◌, ◌≤◌, Bool, true, false, if◌then◌else◌, List, [], ◌∷◌, length, map, filter, arith, rules}
 use Rattle.std.specs.List.{AllByRecursion}
-use Rattle.clk_packet.specs.Limits.{most_elements}
+use Rattle.clk_packet.specs.declared.limits.TheConstants.{MAX_ELEMENTS}
 use Rattle.clk_tree.specs.declared.plan.parts.SenderSpec.{SenderSpec}
 use Rattle.clk_tree.specs.Plan.{Planned, Denotes}
 use Rattle.clk_tree.specs.PlanParts.{Queued, number_of, senders_of, queues_of}
@@ -14,7 +14,7 @@ queues-fewer : (plan : List Planned) (i : ℕ) (rest : List Planned) → length 
 queues-fewer plan i [] = omega arith
 queues-fewer plan i (e ∷ more) = search (rules, (queues-fewer plan (i + 1) more))
 
-pub queues-few : (text : List ℕ) (plan : List Planned) → Denotes text plan → length (queues_of plan) ≤ most_elements
+pub queues-few : (text : List ℕ) (plan : List Planned) → Denotes text plan → length (queues_of plan) ≤ MAX_ELEMENTS
 queues-few text plan d = let fewer = queues-fewer plan 0 plan in let small = denoted-small text plan d in omega (arith, fewer, small)
 
 -- Some of the senders by rising number.

@@ -5,8 +5,8 @@ use Rattle.std.proofs.lemmas.Bool.{false≢true}
 use Rattle.std.proofs.lemmas.Option.{same_Some}
 use Rattle.clk_syntax.specs.Classes.{Class, queue}
 use Rattle.clk_tree.specs.Plan.{Planned}
-use Rattle.clk_tree.specs.PlanTree.{is_queue, queue_count, number_if, queue_number}
-use Rattle.clk_tree.specs.inside.PlanTree.{is_queue_at}
+use Rattle.clk_tree.specs.PlanTree.{is_queue, queue_count, queue_number}
+use Rattle.clk_tree.specs.inside.PlanTree.{is_queue_at, number_if}
 use Rattle.clk_tree.specs.PlanPaths.{device_of}
 use Rattle.clk_tree.specs.PlanParts.{Queued, queue_of, queues_of}
 use Rattle.clk_tree.specs.inside.FromPlace.{queues_from}

@@ -7,7 +7,7 @@ use Rattle.std.specs.List.{AllByRecursion, range_with_len, cons_option}
 use Rattle.std.proofs.lemmas.Bool.{cases_eq, and_parts, not-false, false≢true, both_ways}
 use Rattle.std.proofs.lemmas.Option.{same_Some}
 use Rattle.clk_packet.specs.declared.fault.Fault.TheVariants.{BadPort, PortTwice, PortMissing}
-use Rattle.clk_packet.specs.Limits.{most_elements}
+use Rattle.clk_packet.specs.declared.limits.TheConstants.{MAX_ELEMENTS}
 use Rattle.clk_sched.specs.Session as session
 use Rattle.clk_packet.specs.Lists.{are_distinct, In}
 use Rattle.clk_sched.specs.Tree.{Tree, root, leaves_distinct}
@@ -285,13 +285,13 @@ planned-known : (count : ℕ) (links : List Link) (b : ℕ) (ks : List Known) �
 planned-known count links b [] = refl
 planned-known count links b (k ∷ more) = ap suc (planned-known count links (b + 1) more)
 
-pub plan-few : (elements : List Element) (wires : List Wire) → fault_of elements wires ≡ None → length (plan_of elements wires) ≤ most_elements
+pub plan-few : (elements : List Element) (wires : List Wire) → fault_of elements wires ≡ None → length (plan_of elements wires) ≤ MAX_ELEMENTS
 plan-few elements wires none = search (rules, neither, planned-known, nodes-known)
 
-pub denoted-small : (text : List ℕ) (plan : List Planned) → Denotes text plan → length plan ≤ most_elements
-denoted-small text plan h = subst (λ p. length p ≤ most_elements) (sym h.is) (plan-few (elements_of text h.faultless.statements) (wires_of text h.faultless.statements) h.faultless.sound)
+pub denoted-small : (text : List ℕ) (plan : List Planned) → Denotes text plan → length plan ≤ MAX_ELEMENTS
+denoted-small text plan h = subst (λ p. length p ≤ MAX_ELEMENTS) (sym h.is) (plan-few (elements_of text h.faultless.statements) (wires_of text h.faultless.statements) h.faultless.sound)
 
-pub denoted-session : (text : List ℕ) (plan : List Planned) (d : ℕ) → Denotes text plan → d < device_count plan → (t : Tree) → IsTreeOf plan d t → 1 + session.elements (root t) ≤ most_elements
+pub denoted-session : (text : List ℕ) (plan : List Planned) (d : ℕ) → Denotes text plan → d < device_count plan → (t : Tree) → IsTreeOf plan d t → 1 + session.elements (root t) ≤ MAX_ELEMENTS
 denoted-session text plan d h below t is =
     let fits = denoted-fits text plan d h below t is in
     let few = denoted-small text plan h in

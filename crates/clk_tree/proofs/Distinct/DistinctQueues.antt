@@ -5,8 +5,8 @@ use Rattle.std.proofs.Common.{◌≡◌, ℕ, ◌<◌, zero, suc, true, List, []
 use Rattle.std.proofs.lemmas.Bool.{cases_order, false≢true}
 use Rattle.std.proofs.lemmas.Option.{cond_some}
 use Rattle.clk_tree.specs.Plan.{Planned}
-use Rattle.clk_tree.specs.PlanTree.{queue_count, number_if, queue_number}
-use Rattle.clk_tree.specs.inside.PlanTree.{is_queue_at}
+use Rattle.clk_tree.specs.PlanTree.{queue_count, queue_number}
+use Rattle.clk_tree.specs.inside.PlanTree.{is_queue_at, number_if}
 
 -- as many queues stand before a queue as its number says, and more before what comes later
 queues-before : (plan : List Planned) (i j : ℕ) → i < j → is_queue_at (slice_get plan i) ≡ true → queue_count (take i plan) < queue_count (take j plan)

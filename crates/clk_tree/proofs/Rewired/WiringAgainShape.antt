@@ -1,7 +1,7 @@
 -- Connections in another order, and elements at other places, pass the checks of the tree and of sizes.
 use Rattle.std.proofs.lemmas.Grind.{common_steps}
 use Rattle.std.proofs.Common.{◌≡◌, ℕ, ◌+◌, ◌&&◌, ◌||◌, nat_lt, zero, suc, not, if◌then◌else◌, List, [], ◌∷◌, length, Some, None, refl, ap, ap₂, ◌∙◌, rules}
-use Rattle.clk_packet.specs.Limits.{most_inputs, most_levels, most_elements}
+use Rattle.clk_packet.specs.declared.limits.TheConstants.{MAX_INPUTS, MAX_LEVELS, MAX_ELEMENTS}
 use Rattle.clk_syntax.specs.declared.node.Node.{Node}
 use Rattle.clk_syntax.specs.declared.node.Link.{Link}
 use Rattle.clk_syntax.specs.Declarations.{fails_at}
@@ -55,7 +55,7 @@ module _ (links rewired : List Link) (is : IsRewired links rewired) where
 
     as-large : (i : ℕ) (n o : Node) → o.role ≡ n.role → is_too_large i o others rewired ≡ is_too_large i n nodes links
     as-large i n o e =
-        ap₂ (λ m l. nat_lt most_inputs m || nat_lt most_levels l) (ap (λ r. inputs_of i r rewired) e ∙ same-inputs-of links rewired is i n.role)
+        ap₂ (λ m l. nat_lt MAX_INPUTS m || nat_lt MAX_LEVELS l) (ap (λ r. inputs_of i r rewired) e ∙ same-inputs-of links rewired is i n.role)
         (ap (λ m. levels_from others rewired m i) (same-length nodes others same) ∙ same-levels (length nodes) i)
 
     some-large : (i : ℕ) (left after : List Node) → AreSameNodes left after → some_too_large i after others rewired ≡ some_too_large i left nodes links
@@ -67,4 +67,4 @@ module _ (links rewired : List Link) (is : IsRewired links rewired) where
         ap₂ (λ a b. a || b) (as-large i n o here.0) (some-large (i + 1) left after here.1)
 
     pub same-large : too_large others rewired ≡ too_large nodes links
-    same-large = ap₂ (λ n b. nat_lt most_elements n || b) (same-length nodes others same) (some-large 0 nodes others same)
+    same-large = ap₂ (λ n b. nat_lt MAX_ELEMENTS n || b) (same-length nodes others same) (some-large 0 nodes others same)

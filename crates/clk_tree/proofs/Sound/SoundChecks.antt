@@ -2,7 +2,7 @@
 use Rattle.std.proofs.Common.{◌≡◌, ℕ, ◌+◌, ◌≤◌, ◌==◌, ◌&&◌, zero, suc, true, false, not, if◌then◌else◌, List, [], ◌∷◌, Option, Some, None, refl, ap, subst, ◌∙◌, arith, eq-eqb, unwrap_or, rules}
 use Rattle.std.specs.List.{AllByRecursion}
 use Rattle.std.proofs.lemmas.Bool.{and_parts, or_parts, not-false}
-use Rattle.clk_packet.specs.Limits.{most_inputs, most_levels}
+use Rattle.clk_packet.specs.declared.limits.TheConstants.{MAX_INPUTS, MAX_LEVELS}
 use Rattle.clk_packet.proofs.Callers.Lists.{all-both}
 use Rattle.clk_syntax.specs.declared.naming.class.Role.{Role}
 use Rattle.clk_syntax.specs.declared.node.Node.{Node}
@@ -82,8 +82,8 @@ leads-at all links i (node ∷ nodes) (suc j) r none at is =
 
 -- an element is within the limits
 pub record IsSmall (nodes : List Node) (links : List Link) (i : ℕ) (r : Role) : Type 0 where
-  pub inputs : inputs_of i r links ≤ most_inputs
-  pub levels : levels nodes links i ≤ most_levels
+  pub inputs : inputs_of i r links ≤ MAX_INPUTS
+  pub levels : levels nodes links i ≤ MAX_LEVELS
 
 small : (all : List Node) (links : List Link) (i : ℕ) (node : Node) → is_too_large i node all links ≡ false → IsSmall all links i node.role
 small all links i node fits = search (rules, or_parts)

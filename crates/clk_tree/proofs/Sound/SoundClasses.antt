@@ -1,7 +1,7 @@
 -- The arguments of a class that a text names are within their limits.
 use Rattle.std.proofs.Common.{◌≡◌, ℕ, ◌≤◌, true, List, [], ◌∷◌, length, Option, Some, None, option_map, option_and_then, IfSome, refl, subst, rules}
 use Rattle.std.specs.Bool.{⊤}
-use Rattle.clk_packet.specs.Limits.{most_sender, most_capacity, most_inputs}
+use Rattle.clk_packet.specs.declared.limits.TheConstants.{MAX_SENDER, MAX_CAPACITY, MAX_INPUTS}
 use Rattle.clk_syntax.specs.declared.naming.class.ClassName.{ClassName}
 use Rattle.clk_syntax.specs.declared.naming.class.ClassName.TheVariants as named
 use Rattle.clk_syntax.specs.declared.node.Link.{Link}
@@ -17,8 +17,8 @@ use Rattle.clk_syntax.specs.Ports.{is_scheduler}
 use Rattle.clk_tree.specs.inside.PlanTree.{IsOver}
 
 abbrev pub HasLimits : Class → Type 0
-HasLimits (sender n) = n ≤ most_sender
-HasLimits (queue kind capacity) = (1 ≤ capacity) × (capacity ≤ most_capacity)
+HasLimits (sender n) = n ≤ MAX_SENDER
+HasLimits (queue kind capacity) = (1 ≤ capacity) × (capacity ≤ MAX_CAPACITY)
 HasLimits (scheduler s) = sched.HasLimits s
 HasLimits class = ⊤
 
@@ -54,9 +54,9 @@ class-limits x class e = by_case (class_named x.class.letters) e
     by_case name e = search (rules, limits)
 
 -- A scheduler within its limits can stand over as many inputs as it has.
-over : (s : Scheduler) (inputs : ℕ) → sched.HasLimits s → IfSome (inputs_of s) (λ n. n ≡ inputs) → 1 ≤ inputs → inputs ≤ most_inputs → IsOver (scheduler s) inputs
+over : (s : Scheduler) (inputs : ℕ) → sched.HasLimits s → IfSome (inputs_of s) (λ n. n ≡ inputs) → 1 ≤ inputs → inputs ≤ MAX_INPUTS → IsOver (scheduler s) inputs
 over s inputs has for some few = record { some = some; within = few; fits = fits-over s inputs has for }
 
-pub over-inputs : (class : Class) (i : ℕ) (links : List Link) → HasLimits class → is_scheduler (Some (role_of class)) ≡ true → ports.inputs_of i (role_of class) links ≤ most_inputs
+pub over-inputs : (class : Class) (i : ℕ) (links : List Link) → HasLimits class → is_scheduler (Some (role_of class)) ≡ true → ports.inputs_of i (role_of class) links ≤ MAX_INPUTS
     → IsOver class (ports.inputs_of i (role_of class) links)
 over-inputs class i links has is few = search (rules, inputs-some, over)

@@ -5,7 +5,7 @@ use Rattle.std.specs.List.{AllByRecursion}
 use Rattle.std.proofs.lemmas.Bool.{and_parts, false≢true, cases_lt, cases_eq}
 use Rattle.clk_packet.specs.declared.fault.Fault.{Fault}
 use Rattle.clk_packet.specs.declared.fault.Fault.TheVariants.{NoDevice, TooLarge}
-use Rattle.clk_packet.specs.Limits.{most_elements, most_levels}
+use Rattle.clk_packet.specs.declared.limits.TheConstants.{MAX_ELEMENTS, MAX_LEVELS}
 use Rattle.clk_packet.proofs.Callers.Lists.{all-both}
 use Rattle.clk_syntax.specs.declared.naming.class.Role.{Role}
 use Rattle.clk_syntax.specs.declared.naming.class.Role.TheVariants as role
@@ -56,7 +56,7 @@ are-sound nodes links e =
       onward = all-next nodes [] links all.twice;
       connected = λ i r at. subst (λ j. IsConnected links j r) (zeroth i) (connected-at links 0 nodes i r all.missing at);
       ends = λ i r at is. subst (λ j. leads nodes links j ≡ true) (zeroth i) (leads-at nodes links 0 nodes i r all.tree at is);
-      small = λ i r at. subst (λ j. IsSmall nodes links j r) (zeroth i) (small-at nodes links 0 nodes i r (no-size (nat_lt most_elements (length nodes)) (some_too_large 0 nodes nodes links) all.size) at);
+      small = λ i r at. subst (λ j. IsSmall nodes links j r) (zeroth i) (small-at nodes links 0 nodes i r (no-size (nat_lt MAX_ELEMENTS (length nodes)) (some_too_large 0 nodes nodes links) all.size) at);
       device = has (has_device nodes) all.device;
       once = all.twice;
     }
@@ -121,7 +121,7 @@ device-alone : (o : Option Role) → is_device o ≡ true → is_scheduler o ≡
 device-alone o d s = search (rules, false≢true)
 
 -- the way of a scheduler is no longer than is allowed: a longer one comes back to where it was
-pub way-short : (nodes : List Node) (links : List Link) (k i : ℕ) (r : Role) → AreSound nodes links → Way nodes links k i → role_at nodes i ≡ Some r → is_scheduler (Some r) ≡ true → k ≤ most_levels
+pub way-short : (nodes : List Node) (links : List Link) (k i : ℕ) (r : Role) → AreSound nodes links → Way nodes links k i → role_at nodes i ≡ Some r → is_scheduler (Some r) ≡ true → k ≤ MAX_LEVELS
 way-short nodes links k i r sound way at is = elim (cases_lt (length nodes) k) [
   | inl long ↦ absurd (device-alone (role_at nodes (follow links (length nodes) i)) (sound.ends i r at is) (way-on nodes links k (length nodes) i way long))
   | inr short ↦ (search (rules, (levels_from nodes links (length nodes) i), (way-counts nodes links k (length nodes) i way short), (sound.small i r at).levels))

@@ -4,7 +4,7 @@ use Rattle.std.proofs.Common.{◌≡◌, ℕ, ◌+◌, ◌<◌, ◌≤◌, inl, 
 use Rattle.std.specs.List.{AllByRecursion, range_with_len}
 use Rattle.std.proofs.lemmas.List.FromFn.{length-map-range_with_len}
 use Rattle.std.proofs.lemmas.Option.{same_Some}
-use Rattle.clk_packet.specs.Limits.{most_levels, most_inputs}
+use Rattle.clk_packet.specs.declared.limits.TheConstants.{MAX_LEVELS, MAX_INPUTS}
 use Rattle.clk_syntax.specs.declared.naming.class.Role.{Role}
 use Rattle.clk_syntax.specs.declared.naming.class.Role.TheVariants as role
 use Rattle.clk_syntax.specs.declared.node.Node.{Node}
@@ -40,7 +40,7 @@ all-range P f a (suc n) each = (each a (omega arith), all-range P f (a + 1) n (�
 scheduler-pulls : (r : Role) → is_scheduler (Some r) ≡ true → is_queue (Some r) ≡ false
 scheduler-pulls r is = search rules
 
-module _ (plan : List Planned) (count : ℕ) (nodes : List Node) (links : List Link) (most : ℕ) (sound : AreSound nodes links) (is : IsPlanOf plan count nodes links) (large : most_levels ≤ most) where
+module _ (plan : List Planned) (count : ℕ) (nodes : List Node) (links : List Link) (most : ℕ) (sound : AreSound nodes links) (is : IsPlanOf plan count nodes links) (large : MAX_LEVELS ≤ most) where
   queue-done : (m s : ℕ) → is_queue_at (slice_get plan s) ≡ true → IsScheduled plan m s
   queue-done m s q = search rules
 
@@ -53,7 +53,7 @@ module _ (plan : List Planned) (count : ℕ) (nodes : List Node) (links : List L
       let count-is : inputs_of s (role_of h.element.class) links ≡ length h.element.sources =
       ap (λ t. inputs_of s t links) same ∙ sym (ap length sources ∙ length-map-range_with_len (source_at links s) 0 (inputs_of s r links)) in
       let over : IsOver h.element.class (inputs_of s (role_of h.element.class) links) =
-      over-inputs h.element.class s links h.limits (ap (λ t. is_scheduler (Some t)) same ∙ scheduler) (subst (λ t. inputs_of s t links ≤ most_inputs) (sym same) (sound.small s r at).inputs) in
+      over-inputs h.element.class s links h.limits (ap (λ t. is_scheduler (Some t)) same ∙ scheduler) (subst (λ t. inputs_of s t links ≤ MAX_INPUTS) (sym same) (sound.small s r at).inputs) in
       inr (subst (λ o. MatchOption o ⊥ (λ e. IsOver e.class (length e.sources) × AllByRecursion (IsScheduled plan m) e.sources)) (sym h.at)
       (subst (IsOver h.element.class) count-is over, subst (AllByRecursion (IsScheduled plan m)) (sym sources) below))
 
@@ -100,7 +100,7 @@ sound-nodes elements wires none =
 pub record IsRoot (plan : List Planned) (sources : List ℕ) : Type 0 where
   pub top : ℕ
   pub source : sources ≡ top ∷ []
-  pub is : IsScheduled plan most_levels top
+  pub is : IsScheduled plan MAX_LEVELS top
 
 device-root : (elements : List Element) (wires : List Wire) → fault_of elements wires ≡ None → (i : ℕ) (e : Planned) → slice_get (plan_of elements wires) i ≡ Some e → tree.is_device e.class ≡ true
     → IsRoot (plan_of elements wires) e.sources
@@ -113,7 +113,7 @@ device-root elements wires none i e at is =
     device-role (role_at (nodes_of elements) i) (ap is_device (node-at count links elements 0 i e at) ∙ sym (device-class e.class) ∙ is) in
     let h = plan.at i role.Device there in
     let same : h.element ≡ e = same_Some h.element e (sym h.at ∙ at) in
-    let done = all-done (plan_of elements wires) count (nodes_of elements) links most_levels sound plan (omega arith) most_levels 0 i role.Device (omega arith) (ap is_device there) there refl in
+    let done = all-done (plan_of elements wires) count (nodes_of elements) links MAX_LEVELS sound plan (omega arith) MAX_LEVELS 0 i role.Device (omega arith) (ap is_device there) there refl in
     record { top = source_at links i 0; source = ap (λ (p : Planned). p.sources) (sym same) ∙ h.sources; is = done.0 }
   where
     device-role : (o : Option Role) → is_device o ≡ true → o ≡ Some role.Device

@@ -1,8 +1,8 @@
 -- How a tree is built from the elements of a plan.
-use Rattle.std.specs.Prelude.{◌≡◌, ◌≤◌, ◌⊎◌, ℕ, List, length, Bool, true, false, Option, Some, None, MatchOption, Result, zero, suc, slice_get}
+use Rattle.std.specs.Prelude.{◌≡◌, ◌≤◌, ◌⊎◌, ℕ, List, length, Bool, true, false, if◌then◌else◌, Option, Some, None, option_and_then, MatchOption, Result, zero, suc, slice_get}
 use Rattle.std.specs.List.{AllByRecursion}
 use Rattle.clk_packet.specs.declared.fault.Fault.{Fault}
-use Rattle.clk_packet.specs.Limits.{most_inputs}
+use Rattle.clk_packet.specs.declared.limits.TheConstants.{MAX_INPUTS}
 use Rattle.clk_packet.specs.Scheduler.{Scheduler, HasArguments}
 use Rattle.clk_sched.specs.Tree.{Tree}
 use Rattle.clk_sched.specs.Built.{built}
@@ -18,7 +18,7 @@ FitsInputs inputs (Some class) = HasArguments class inputs
 -- A class can be that of a scheduler over so many inputs: there is at least one, they are within the limit, and its arguments fit them.
 pub record IsOver (class : Class) (inputs : ℕ) : Type 0 where
   pub some : 1 ≤ inputs
-  pub within : inputs ≤ most_inputs
+  pub within : inputs ≤ MAX_INPUTS
   pub fits : FitsInputs inputs (scheduler_over class inputs)
 
 -- the result of the constructor of a class over these trees
@@ -34,3 +34,7 @@ abbrev pub IsScheduled : List Planned → ℕ → ℕ → Type 0
 IsScheduled plan zero s = is_queue_at (slice_get plan s) ≡ true
 IsScheduled plan (suc levels) s =
     (is_queue_at (slice_get plan s) ≡ true) ⊎ MatchOption (slice_get plan s) ⊥ (λ e. IsOver e.class (length e.sources) × AllByRecursion (IsScheduled plan levels) e.sources)
+
+-- this number, if the element is a queue
+abbrev pub number_if : ℕ → Option Planned → Option ℕ
+number_if n o = option_and_then (λ (e : Planned). if is_queue e.class then Some n else None) o

@@ -3,8 +3,8 @@
 ghost use Rattle.std.specs.Prelude.{◌≡◌, ◌<◌, ◌≤◌, ◌+◌, ◌++◌, ◌^◌, map, length, IfOk, OnOk, IsOkUnless};
 ghost use Rattle.std.specs.List.{AllByRecursion};
 ghost use Rattle.clk_packet.specs.declared.fault.Fault.TheVariants.{Memory};
-ghost use Rattle.clk_packet.specs.Limits.{most_elements};
-ghost use Rattle.clk_syntax.specs.Limits.{most_tree_bytes};
+ghost use Rattle.clk_packet.specs.declared.limits.TheConstants.{MAX_ELEMENTS};
+ghost use Rattle.clk_syntax.specs.declared.limits.TheConstants.{MAX_TREE_BYTES};
 ghost use Rattle.clk_syntax.specs.Classes.{class_view, numbers_in, is_class};
 ghost use Rattle.clk_syntax.specs.Source.{elements, kept};
 ghost use Rattle.clk_syntax.specs.Declarations.{class_in};
@@ -29,11 +29,11 @@ pub fn elements_of(
     graph: &Graph,
 ) -> Result<Vec<Element>, Fault>
     requires tabled { IsTabled graph.now }
-    requires few { length graph.now.nodes.now ≤ most_elements }
+    requires few { length graph.now.nodes.now ≤ MAX_ELEMENTS }
     requires within { AllByRecursion (IsDeclaredWithin (length text.now)) (map kept declarations.now) }
     requires classes { map (class_in text.now) (map kept declarations.now) ≡ map is_class classes.now }
     requires all { length graph.now.nodes.now ≡ length (all_known (elements text.now (map kept declarations.now))) }
-    requires words { words_in (map kept declarations.now) ≤ most_tree_bytes }
+    requires words { words_in (map kept declarations.now) ≤ MAX_TREE_BYTES }
     ensures made { IfOk result (λ made. map planned made.items
         ≡ planned_from (length graph.now.nodes.now) graph.now.links.now 0 (all_known (elements text.now (map kept declarations.now)))) }
     ensures fault { IsOkUnless result Memory }
@@ -62,7 +62,7 @@ fn push_declared(
     elements: &mut Vec<Element>,
 ) -> Result<(), Fault>
     requires tabled { IsTabled graph.now }
-    requires few { length graph.now.nodes.now ≤ most_elements }
+    requires few { length graph.now.nodes.now ≤ MAX_ELEMENTS }
     requires within { AllByRecursion (IsWithin (length text.now)) names.now }
     requires room { length elements.old.items + length names.now ≤ length graph.now.nodes.now }
     requires numbers { length (numbers_in (class_view class.now)) < 2 ^ 32 }
@@ -87,7 +87,7 @@ fn element(
     place: u32,
 ) -> Result<Element, Fault>
     requires tabled { IsTabled graph.now }
-    requires few { length graph.now.nodes.now ≤ most_elements }
+    requires few { length graph.now.nodes.now ≤ MAX_ELEMENTS }
     requires place { place < length graph.now.nodes.now }
     requires numbers { length (numbers_in (class_view class.now)) < 2 ^ 32 }
     ensures made { IfOk result (λ e. planned e ≡ planned_at (length graph.now.nodes.now) graph.now.links.now place (known_as name.now (class_view class.now))) }

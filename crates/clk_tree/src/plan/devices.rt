@@ -1,7 +1,7 @@
 //! To which device the outputs of elements lead.
 
 ghost use Rattle.std.specs.Prelude.{◌≡◌, ◌≤◌, map, take, length, slice_get};
-ghost use Rattle.clk_packet.specs.Limits.{most_elements};
+ghost use Rattle.clk_packet.specs.declared.limits.TheConstants.{MAX_ELEMENTS};
 ghost use Rattle.clk_tree.specs.PlanTree.{device_count};
 ghost use Rattle.clk_tree.specs.PlanPaths.{has_output, place_fed, place_after, device_of};
 ghost use Rattle.clk_tree.specs.Elements.{planned};
@@ -20,7 +20,7 @@ fn has_output(elements: &[Element], place: u16) -> bool
 
 /// The place of the element to which another is connected, or the number of elements if there is none.
 fn place_fed(elements: &[Element], place: u16) -> u16
-    requires few { length elements.now ≤ most_elements }
+    requires few { length elements.now ≤ MAX_ELEMENTS }
     ensures { result ≡ place_fed (map planned elements.now) place }
 {
     let mut fed = 0;
@@ -35,7 +35,7 @@ fn place_fed(elements: &[Element], place: u16) -> u16
 
 /// The place at the end of the path from an element.
 fn path_end(elements: &[Element], place: u16) -> u16
-    requires few { length elements.now ≤ most_elements }
+    requires few { length elements.now ≤ MAX_ELEMENTS }
     ensures { result ≡ place_after (map planned elements.now) (length elements.now) place }
 {
     let mut at = place;
@@ -50,7 +50,7 @@ fn path_end(elements: &[Element], place: u16) -> u16
 
 /// How many devices stand before a place.
 fn devices_before(elements: &[Element], place: u16) -> u16
-    requires few { length elements.now ≤ most_elements }
+    requires few { length elements.now ≤ MAX_ELEMENTS }
     ensures { result ≡ device_count (take place (map planned elements.now)) }
 {
     let end = elements.len().min(place as usize);
@@ -65,7 +65,7 @@ fn devices_before(elements: &[Element], place: u16) -> u16
 
 /// The number of the device at the end of the path from an element: devices are numbered from 0 in order of declaration.
 pub fn device_of(elements: &[Element], place: u16) -> u16
-    requires few { length elements.now ≤ most_elements }
+    requires few { length elements.now ≤ MAX_ELEMENTS }
     ensures { result ≡ device_of (map planned elements.now) place }
 {
     devices_before(elements, path_end(elements, place))

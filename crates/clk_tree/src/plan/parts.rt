@@ -3,7 +3,7 @@
 ghost use Rattle.std.specs.Prelude.{◌≡◌, ◌≤◌, map, length, nat_le, IfOk, OnOk, IsOkUnless};
 ghost use Rattle.std.specs.List.{prefix_len};
 ghost use Rattle.clk_packet.specs.declared.fault.Fault.TheVariants.{Memory};
-ghost use Rattle.clk_packet.specs.Limits.{most_elements};
+ghost use Rattle.clk_packet.specs.declared.limits.TheConstants.{MAX_ELEMENTS};
 ghost use Rattle.clk_tree.specs.PlanParts.{queued, queue_fed, placed, senders_to, senders_of, queues_of, name_of_sender};
 ghost use Rattle.clk_tree.specs.declared.plan.parts.SenderSpec.{SenderSpec};
 ghost use Rattle.clk_tree.specs.Elements.{planned};
@@ -38,7 +38,7 @@ pub struct SenderSpec {
 
 /// The number of the queue to which an element is connected.
 fn queue_fed(elements: &[Element], place: u16) -> u16
-    requires few { length elements.now ≤ most_elements }
+    requires few { length elements.now ≤ MAX_ELEMENTS }
     ensures { result ≡ queue_fed (map planned elements.now) place }
 {
     let mut queue = 0;
@@ -76,7 +76,7 @@ fn place(senders: &mut Vec<SenderSpec>, sender: SenderSpec) -> Result<(), Fault>
 
 /// The senders of a plan, by rising number. Fault 1 if an allocation fails.
 pub fn senders_of(alloc: Global, elements: &[Element]) -> Result<Vec<SenderSpec>, Fault>
-    requires few { length elements.now ≤ most_elements }
+    requires few { length elements.now ≤ MAX_ELEMENTS }
     ensures made { IfOk result (λ senders. senders.items ≡ senders_of (map planned elements.now)) }
     ensures fault { IsOkUnless result Memory }
 {
@@ -111,7 +111,7 @@ pub fn queues_of(
     elements: &[Element],
     senders: &[SenderSpec],
 ) -> Result<Vec<QueueSpec>, Fault>
-    requires few { length elements.now ≤ most_elements }
+    requires few { length elements.now ≤ MAX_ELEMENTS }
     requires senders { senders.now ≡ senders_of (map planned elements.now) }
     ensures made { IfOk result (λ queues. map queued queues.items ≡ queues_of (map planned elements.now)) }
     ensures fault { IsOkUnless result Memory }

@@ -3,7 +3,7 @@
 ghost use Rattle.std.specs.Prelude.{◌≡◌, ◌≤◌, ◌∷◌, [], true, map, length, slice_get, Some, IfOk, IsOkUnless};
 ghost use Rattle.std.specs.List.{AllByRecursion};
 ghost use Rattle.clk_packet.specs.declared.fault.Fault.TheVariants.{Memory};
-ghost use Rattle.clk_packet.specs.Limits.{most_levels};
+ghost use Rattle.clk_packet.specs.declared.limits.TheConstants.{MAX_LEVELS};
 ghost use Rattle.clk_sched.specs.Tree.{root, height};
 ghost use Rattle.clk_sched.specs.Built.{row};
 ghost use Rattle.clk_tree.specs.PlanTree.{queue_number, IsRowOf};
@@ -19,7 +19,7 @@ use std::alloc::Global;
 /// fails.
 #[cycle(tree)]
 pub fn tree_at(alloc: Global, elements: &[Element], place: u16, levels: u8) -> Result<Tree, Fault>
-    requires levels { levels ≤ most_levels }
+    requires levels { levels ≤ MAX_LEVELS }
     requires scheduled { IsScheduled (map planned elements.now) levels place }
     ensures tree { IfOk result (λ tree. IsRowOf (map planned elements.now) (place ∷ []) (root tree)) }
     ensures height { IfOk result (λ tree. height (root tree) ≤ levels) }
@@ -41,7 +41,7 @@ fn trees_at(
     places: &[u16],
     levels: u8,
 ) -> Result<Vec<Tree>, Fault>
-    requires levels { levels ≤ most_levels }
+    requires levels { levels ≤ MAX_LEVELS }
     requires scheduled { AllByRecursion (IsScheduled (map planned elements.now) levels) places.now }
     ensures trees { IfOk result (λ trees. IsRowOf (map planned elements.now) places.now (row trees.items)) }
     ensures count { IfOk result (λ trees. length trees.items ≡ length places.now) }

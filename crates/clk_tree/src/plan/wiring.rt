@@ -3,7 +3,7 @@
 ghost use Rattle.std.specs.Prelude.{◌≡◌, ◌<◌, ◌≤◌, ◌++◌, ◌∷◌, [], ℕ, if◌then◌else◌, map, filter, length, IfOk, OnOk, IsOkUnless};
 ghost use Rattle.std.specs.List.{AllByRecursion, range_with_len};
 ghost use Rattle.clk_packet.specs.declared.fault.Fault.TheVariants.{Memory};
-ghost use Rattle.clk_packet.specs.Limits.{most_elements};
+ghost use Rattle.clk_packet.specs.declared.limits.TheConstants.{MAX_ELEMENTS};
 ghost use Rattle.clk_sched.specs.Tree.{is_number};
 ghost use Rattle.clk_syntax.specs.Ports.{target};
 ghost use Rattle.clk_syntax.specs.Tables.{IsTabled};
@@ -17,7 +17,7 @@ use std::alloc::Global;
 /// input. Fault 1 if an allocation fails.
 pub fn sources_of(alloc: Global, graph: &Graph, place: u32, role: Role) -> Result<Vec<u16>, Fault>
     requires tabled { IsTabled graph.now }
-    requires few { length graph.now.nodes.now ≤ most_elements }
+    requires few { length graph.now.nodes.now ≤ MAX_ELEMENTS }
     requires place { place < length graph.now.nodes.now }
     ensures made { IfOk result (λ sources. sources.items ≡ sources_of (length graph.now.nodes.now) graph.now.links.now place role) }
     ensures fault { IsOkUnless result Memory }
@@ -34,7 +34,7 @@ pub fn sources_of(alloc: Global, graph: &Graph, place: u32, role: Role) -> Resul
 /// The elements that are connected to one, in order. Fault 1 if an allocation fails.
 fn connected_to(alloc: Global, graph: &Graph, place: u32) -> Result<Vec<u16>, Fault>
     requires tabled { IsTabled graph.now }
-    requires few { length graph.now.nodes.now ≤ most_elements }
+    requires few { length graph.now.nodes.now ≤ MAX_ELEMENTS }
     ensures made { IfOk result (λ sources. sources.items ≡ filter (is_connected graph.now.links.now place) (range_with_len 0 (length graph.now.nodes.now))) }
     ensures fault { IsOkUnless result Memory }
 {
@@ -73,7 +73,7 @@ fn sources_at_inputs(
     inputs: u32,
     links: &[Link],
 ) -> Result<Vec<u16>, Fault>
-    requires within { AllByRecursion (λ c. c.from < most_elements) links.now }
+    requires within { AllByRecursion (λ c. c.from < MAX_ELEMENTS) links.now }
     ensures made { IfOk result (λ sources. sources.items ≡ map (source_at links.now place) (range_with_len 0 inputs)) }
     ensures fault { IsOkUnless result Memory }
 {

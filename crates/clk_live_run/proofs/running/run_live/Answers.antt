@@ -2,7 +2,7 @@ use Rattle.std.proofs.Common.{◌≡◌, ◌*◌, ◌≤◌, true, true≢false,
 use Rattle.std.proofs.lemmas.List.{length-map}
 use Rattle.clk_gate.specs.Sent.{sent_in}
 use Rattle.clk_inlet.specs.Halves.{offered, AreHalves}
-use Rattle.clk_sched.specs.Limits.{most_left}
+use Rattle.clk_sched.specs.declared.limits.TheConstants.{MAX_LEFT}
 use Rattle.clk_tree.specs.PlanParts.{number_of}
 use Rattle.clk_router.specs.Course.{Course}
 use Rattle.clk_router.specs.Events.{Setup, sender_numbers}
@@ -48,7 +48,7 @@ close-requires-clause-can g c = λ items d there.
     let l = c.in_ok-ended.ended.consumer.live in
     let is = taken-is c.args.traces.now c.in_ok-senders.senders.items l c.senders-2.result.now (items ∙ through g c) c.in_ok-senders.ensures.numbers in
     let few = sent-few c.args.traces.now c.senders-2.result.now c.senders-2.ensures.rising c.count.ensures.within in
-    let low : taken_in l ≤ most_left = omega (arith, is, few) in
+    let low : taken_in l ≤ MAX_LEFT = omega (arith, is, few) in
     can-close c.args.step consumed.pulls c.args.limit l consumed.paced consumed.few c.requires.limit.1 low d there
 
 -- the senders of the plan

@@ -1,16 +1,16 @@
 -- What a DRRSched holds of each input: its quantum, its deficit and its head.
 use Rattle.std.specs.Prelude.{◌≡◌, ◌≢◌, ℕ, ◌+◌, ◌-◌, ◌<◌, ◌≤◌, ◌==◌, Bool, false, nat_le, List, Option, Some, None, slice_get, slice_set, if◌then◌else◌}
 use Rattle.clk_packet.specs.declared.packet.Packet.{Packet}
-use Rattle.clk_packet.specs.Limits.{most_length, most_quantum}
+use Rattle.clk_packet.specs.declared.limits.TheConstants.{MAX_LENGTH, MAX_QUANTUM}
 use Rattle.clk_sched.specs.declared.session.drr.Served.{Served}
 
 -- each quantum keeps to its limit
 abbrev pub AreQuantaWithin : List Served → Type 0
-AreQuantaWithin row = (i : ℕ) (s : Served) → slice_get row i ≡ Some s → s.quantum ≤ most_quantum
+AreQuantaWithin row = (i : ℕ) (s : Served) → slice_get row i ≡ Some s → s.quantum ≤ MAX_QUANTUM
 
 -- each deficit is less than the greatest length, at the cursor plus the quantum
 abbrev pub AreDeficitsWithin : ℕ → List Served → Type 0
-AreDeficitsWithin cursor row = (i : ℕ) (s : Served) → slice_get row i ≡ Some s → s.deficit < most_length + (if i == cursor then s.quantum else 0)
+AreDeficitsWithin cursor row = (i : ℕ) (s : Served) → slice_get row i ≡ Some s → s.deficit < MAX_LENGTH + (if i == cursor then s.quantum else 0)
 
 -- an input that holds no head has no deficit
 abbrev pub IsWithoutDeficit : Served → Type 0

@@ -3,7 +3,7 @@ use Rattle.std.proofs.Common.{rules, ◌≡◌, ◌≤◌, length, sym, subst}
 use Rattle.std.specs.List.{AllByRecursion}
 use Rattle.std.specs.Vec.{with_items}
 use Rattle.std.proofs.lemmas.List.{with_items_is}
-use Rattle.clk_script.specs.Script.{most_lines}
+use Rattle.clk_script.specs.declared.limits.TheConstants.{MAX_LINES}
 use Rattle.clk_script.specs.inside.ScriptRouter.{names_in}
 use Rattle.clk_script.specs.inside.Rows.{asked_by, Answers, IsToDo}
 use Rattle.clk_script.proofs.Carrying.AnswerLemmas.{IsReady-answered, Answers-all, closings-kept}
@@ -13,7 +13,7 @@ pub close-requires-clause-ready : goal.close-requires-clause-ready
 close-requires-clause-ready c =
     let rows = c.deref_mut.ensures.value in
     let to_do = subst (AllByRecursion (IsToDo (names_in c.args.script_router))) (sym rows) c.requires.sound.to_do in
-    let few = subst (λ l. length l ≤ most_lines) (sym rows) c.requires.sound.few in
+    let few = subst (λ l. length l ≤ MAX_LINES) (sym rows) c.requires.sound.few in
     (IsReady-answered c.requires.fresh.0 c.args.script_router c.carry_out.new.script_router c.deref_mut.result.now c.carry_out.new.rows c.requires.fresh.1 to_do few c.in_ok-carry_out.ensures.done).0
 
 pub returns-clause-answers : goal.returns-clause-answers

@@ -2,7 +2,7 @@ use Rattle.std.proofs.Common.{◌≤◌, length, Some, sym, ap, subst, ◌∙◌
 use Rattle.clk_packet.specs.Lists.{AreRising}
 use Rattle.clk_router.specs.Course.{events_of, sender_at, CanPull}
 use Rattle.clk_script.specs.Meaning.{names_of}
-use Rattle.clk_script.specs.Script.{most_lines}
+use Rattle.clk_script.specs.declared.limits.TheConstants.{MAX_LINES}
 use Rattle.clk_script.specs.inside.Rows.{IsToDo}
 use Rattle.clk_script.proofs.Carrying.CarriedLemmas.{asked-send, asked-elsewhere, pull-elsewhere, can-offer-there, can-pull-there, carried-none, carried-offer, sends-there}
 use Rattle.clk_script.proofs.replay.replay_row.Goals as goal
@@ -19,7 +19,7 @@ replay_pull-requires-clause-can g c =
     let to_do = subst (IsToDo (names_of c.args.again.now.setup)) c.in-Pull.is c.requires.to_do in
     subst (λ d. CanPull c.args.again.now d c.ticks.result) c.if-asked-device.false
     (subst (CanPull c.args.again.now c.in-Pull.asked) (sym c.ticks.ensures)
-    (can-pull-there c.args.again.now c.in-Pull.asked c.in-Pull.moment to_do.0 to_do.1 (subst (λ d. length (events_of c.args.again.now d) ≤ most_lines) (sym c.if-asked-device.false) c.requires.few)))
+    (can-pull-there c.args.again.now c.in-Pull.asked c.in-Pull.moment to_do.0 to_do.1 (subst (λ d. length (events_of c.args.again.now d) ≤ MAX_LINES) (sym c.if-asked-device.false) c.requires.few)))
 
 pub returns-else-device_of_sender-device : goal.returns-else-device_of_sender-device
 returns-else-device_of_sender-device g c = search (rules, carried-offer, asked-send, sends-there)

@@ -2,7 +2,8 @@ use Rattle.std.proofs.Common.{◌≡◌, ◌≤◌, length, true, None, Ok, Err,
 use Rattle.std.proofs.lemmas.Result.{err_from_is_err_and}
 use Rattle.clk_packet.specs.declared.fault.Fault.{Fault}
 use Rattle.clk_router.specs.Events.{Setup}
-use Rattle.clk_script.specs.Script.{script_fault, most_lines}
+use Rattle.clk_script.specs.Script.{script_fault}
+use Rattle.clk_script.specs.declared.limits.TheConstants.{MAX_LINES}
 use Rattle.clk_script.specs.Meaning.{Explains}
 use Rattle.clk_script.specs.declared.answer.Answer.{Answer}
 use Rattle.clk_script.specs.inside.ScriptRouter.{names_in, Starts}
@@ -39,7 +40,7 @@ returns-clause-answer g c =
   where
     by_result : script_fault (names_in c.in_ok-script_router.script_router) c.in_ok-script.ensures.read.text ≡ None → (r : Result Answer Fault)
         → IfOk r (λ answer. (setup : Setup) → Starts setup c.in_ok-script_router.script_router → Answers setup (asked_by c.in_ok-script.script.rows.items) c.in_ok-script.script.closing answer)
-        → IfOk r (λ answer. answer.drain ≡ c.in_ok-script.script.closing) → IfOk r (λ answer. answer.script_router.router.keeps.packets ≡ true) → IfOk r (λ answer. length answer.rows.items ≤ most_lines)
+        → IfOk r (λ answer. answer.drain ≡ c.in_ok-script.script.closing) → IfOk r (λ answer. answer.script_router.router.keeps.packets ≡ true) → IfOk r (λ answer. length answer.rows.items ≤ MAX_LINES)
         → IfOk r (λ answer. IfSome answer.closing (λ closings. length closings.items ≡ length c.in_ok-script_router.script_router.router.setup.trees)) → IfOk r (IsAnswerOver c.args.plan.now (g.R.Source.remaining c.args.reader.now))
     by_result sound (Ok answer) answers drain packets few closings =
         let read = c.in_ok-script.ensures.read in

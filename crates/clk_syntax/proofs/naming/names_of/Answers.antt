@@ -3,7 +3,7 @@ use Rattle.std.specs.List.{AllByRecursion}
 use Rattle.std.proofs.lemmas.List.{drop_all}
 use Rattle.std.proofs.lemmas.Result.{err_from_is_err_and}
 use Rattle.clk_syntax.specs.Source.{kept, elements}
-use Rattle.clk_syntax.specs.Limits.{most_tree_bytes}
+use Rattle.clk_syntax.specs.declared.limits.TheConstants.{MAX_TREE_BYTES}
 use Rattle.clk_syntax.specs.inside.Naming.{Declares}
 use Rattle.clk_syntax.specs.Within.{IsDeclaredWithin, words_in}
 use Rattle.clk_syntax.proofs.Callers.Lists.{drop-item}
@@ -29,7 +29,7 @@ loop-declaration-preserved c =
     let inv = c.loop-declaration.invariant in
     let next = drop-item ds i c.declaration-item.result c.loop-declaration-test.true c.declaration-item.is in
     let within = subst (λ xs. AllByRecursion (IsDeclaredWithin (length text)) (map kept xs)) next inv.within in
-    let few = subst (λ xs. c.loop-declaration.names.count + words_in (map kept xs) ≤ most_tree_bytes) next inv.few in
+    let few = subst (λ xs. c.loop-declaration.names.count + words_in (map kept xs) ≤ MAX_TREE_BYTES) next inv.few in
     let counted = c.in_ok-declare.ensures.counted in
     record {
       within = within.1;

@@ -1,6 +1,6 @@
 use Rattle.std.proofs.Common.{◌+◌, ◌≤◌, length, map, drop}
 use Rattle.std.specs.List.{AllByRecursion}
-use Rattle.clk_syntax.specs.Limits.{most_tree_bytes}
+use Rattle.clk_syntax.specs.declared.limits.TheConstants.{MAX_TREE_BYTES}
 use Rattle.clk_syntax.specs.Source.{kept, elements}
 use Rattle.clk_syntax.specs.inside.Naming.{Declares, IsSlotted}
 use Rattle.clk_syntax.specs.Within.{IsDeclaredWithin, words_in}
@@ -10,7 +10,7 @@ abbrev pub invariant-loop-declaration : goal.invariant-loop-declaration
 invariant-loop-declaration l =
     record {
       within : AllByRecursion (IsDeclaredWithin (length l.text)) (map kept (drop l.declaration-index l.declarations));
-      few : l.names.count + words_in (map kept (drop l.declaration-index l.declarations)) ≤ most_tree_bytes;
+      few : l.names.count + words_in (map kept (drop l.declaration-index l.declarations)) ≤ MAX_TREE_BYTES;
       slots : IsSlotted l.names;
       declares : Declares (elements l.text (map kept l.declarations)) (elements l.text (map kept (drop l.declaration-index l.declarations))) l.names;
     }

@@ -1,6 +1,6 @@
 use Rattle.std.proofs.Common.{length, map, subst, sym, ap, ◌∙◌, ◌≤◌, arith}
 use Rattle.std.specs.List.{AllByRecursion}
-use Rattle.clk_syntax.specs.Limits.{most_tree_bytes}
+use Rattle.clk_syntax.specs.declared.limits.TheConstants.{MAX_TREE_BYTES}
 use Rattle.clk_syntax.specs.Tokens.{tokens_of}
 use Rattle.clk_syntax.specs.Grammar.{IsText}
 use Rattle.clk_syntax.specs.Source.{kept, elements}
@@ -24,14 +24,14 @@ name_all-requires-clause-few c =
     let r = c.in_ok-statements.ensures.read in
     let few = words-few c.deref.result.now r.0 r.1 in let less = tokens-few c.args.text.now in
     let same = ap length (c.deref.ensures.value ∙ c.in_ok-tokens.ensures.tokens) in
-    subst (λ d. words_in d ≤ most_tree_bytes) (sym r.2) (omega (arith, few, less, same, c.if-text-gt-MAX_TREE_BYTES.false))
+    subst (λ d. words_in d ≤ MAX_TREE_BYTES) (sym r.2) (omega (arith, few, less, same, c.if-text-gt-MAX_TREE_BYTES.false))
 
 pub returns-clause-words : goal.returns-clause-words
 returns-clause-words c =
     let r = c.in_ok-statements.ensures.read in
     let few = words-few c.deref.result.now r.0 r.1 in let less = tokens-few c.args.text.now in
     let same = ap length (c.deref.ensures.value ∙ c.in_ok-tokens.ensures.tokens) in
-    subst (λ d. words_in d ≤ most_tree_bytes) (sym r.2) (omega (arith, few, less, same, c.if-text-gt-MAX_TREE_BYTES.false))
+    subst (λ d. words_in d ≤ MAX_TREE_BYTES) (sym r.2) (omega (arith, few, less, same, c.if-text-gt-MAX_TREE_BYTES.false))
 
 pub returns-clause-few_nodes : goal.returns-clause-few_nodes
 returns-clause-few_nodes c =

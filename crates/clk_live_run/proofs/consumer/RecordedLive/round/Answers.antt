@@ -1,5 +1,5 @@
 use Rattle.std.proofs.Common.{◌+◌, ◌≤◌, length, ap, ◌∙◌, arith}
-use Rattle.clk_gate.specs.Limits.{most_limit}
+use Rattle.clk_gate.specs.declared.limits.TheConstants.{MAX_LIMIT}
 use Rattle.clk_live_run.proofs.Takings.{paced-took, paced-length, paced-round, round-early}
 use Rattle.clk_live_run.proofs.consumer.RecordedLive.round.Goals as goal
 
@@ -21,6 +21,6 @@ returns-clause-paced g c =
     let first = few.0 in
     let second = few.1 in
     let more = c.if-pulls-limit.false in
-    let low : c.args.pulls + 1 ≤ most_limit = omega (arith, first, second, more) in
+    let low : c.args.pulls + 1 ≤ MAX_LIMIT = omega (arith, first, second, more) in
     paced-round c.args.step c.args.pulls c.args.self.now.live c.take_round.new.self.live c.pull_round.new.self.live c.requires.paced c.take_round.ensures.took c.pull_round.ensures.pulled
     (round-early (c.args.pulls + 1) c.args.step low c.requires.step)

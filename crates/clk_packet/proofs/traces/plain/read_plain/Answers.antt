@@ -1,6 +1,6 @@
 use Rattle.std.proofs.Common.{◌≡◌, ◌+◌, ◌≤◌, refl, length, arith}
 use Rattle.std.proofs.lemmas.Bool.Decides.{nat_tests}
-use Rattle.clk_packet.specs.Trace.{most_records}
+use Rattle.clk_packet.specs.declared.limits.TheConstants.{MAX_RECORDS}
 use Rattle.clk_packet.proofs.PlainLemmas.{StandsPlain-none, StandsPlain-more, StandsPlain-end}
 use Rattle.clk_packet.proofs.traces.plain.read_plain.Goals as goal
 
@@ -16,7 +16,7 @@ loop-preserved c =
     let count = inv.count in
     let total = c.in_ok-add.ensures.added.total in
     let more = c.loop-test.true in
-    let few : c.loop.counter + 1 ≤ most_records = grind (arith, nat_tests) in
+    let few : c.loop.counter + 1 ≤ MAX_RECORDS = grind (arith, nat_tests) in
     record {
       count = omega (arith, count, total);
       few = few;

@@ -1,6 +1,6 @@
 use Rattle.std.proofs.Common.{◌<◌, ◌≤◌, length, map, subst}
 use Rattle.std.specs.List.{AllByRecursion}
-use Rattle.clk_packet.specs.Limits.{most_elements}
+use Rattle.clk_packet.specs.declared.limits.TheConstants.{MAX_ELEMENTS}
 use Rattle.clk_tree.specs.Elements.{planned}
 use Rattle.clk_tree.specs.PlanTree.{device_count}
 use Rattle.clk_tree.specs.PlanParts.{Queued, queues_of, HasCapacity}
@@ -22,7 +22,7 @@ returns-clause-devices c =
 
 pub returns-clause-few : goal.returns-clause-few
 returns-clause-few c =
-    subst (λ plan. length (queues_of plan) ≤ most_elements) c.self.view_is
+    subst (λ plan. length (queues_of plan) ≤ MAX_ELEMENTS) c.self.view_is
     (queues-few c.self.invariant.denoted.0 (map planned c.self.inside.elements.items) c.self.invariant.denoted.1)
 
 pub returns-clause-senders : goal.returns-clause-senders

@@ -1,5 +1,5 @@
 use Rattle.std.proofs.Common.{◌≡◌, ◌∷◌, [], ℕ, map, slice_get, IfOk, sym, subst}
-use Rattle.clk_packet.specs.Limits.{most_levels}
+use Rattle.clk_packet.specs.declared.limits.TheConstants.{MAX_LEVELS}
 use Rattle.clk_packet.specs.Lists.{stands_in}
 use Rattle.clk_sched.specs.Tree.{Tree, root, leaves}
 use Rattle.clk_tree.specs.Elements.{planned}
@@ -14,7 +14,7 @@ tree_at-requires-clause-scheduled c =
     let plan = map planned c.self.inside.elements.items in
     let queues = map queued c.self.inside.queues.items in
     let below = kept-below plan c.args.self.now c.self.inside.tops.items queues c.self.inside.senders.items c.args.device c.self.invariant c.self.view_is c.requires.device in
-    subst (λ es. IsScheduled (map planned es) most_levels c.index.result.now) (sym c.deref.ensures.value)
+    subst (λ es. IsScheduled (map planned es) MAX_LEVELS c.index.result.now) (sym c.deref.ensures.value)
     (kept-scheduled plan c.self.inside.tops.items queues c.self.inside.senders.items c.args.device c.index.result.now c.self.invariant below c.index.ensures)
 
 -- the tree that is made there
