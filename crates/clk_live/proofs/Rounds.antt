@@ -253,9 +253,6 @@ starts-next old new places start next again from size count mid filled rising ma
                 let above : nat_lt after places ≡ false = ap₂ nat_lt is many ∙ e in
                 at-turn 0 (turns ∙ ap (λ b. if b then after else 0) above) (inr refl)
 
-        below-places : place < length (sender_numbers old.course.setup)
-        below-places = slice_get_within (sender_numbers old.course.setup) place t.packet.sender its
-
         by_from : (from < count) ⊎ (count ≤ from) → starts_at new ≡ after_place place (length old.outlets)
         by_from (inl more) =
             let last = (second_last full).some more t at in
