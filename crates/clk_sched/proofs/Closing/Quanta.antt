@@ -1,6 +1,6 @@
 -- The rounds of the closing bound are enough for each quantum in a tree.
 use Rattle.std.proofs.lemmas.Grind.{common_steps}
-use Rattle.std.proofs.Common.{◌≡◌, ℕ, ◌+◌, ◌*◌, ◌-◌, ◌≤◌, List, [], ◌∷◌, ◌++◌, max, sym, ◌∙◌, subst, mul-add, add-mul, arith, rules}
+use Rattle.std.proofs.Common.{◌≡◌, ℕ, ◌+◌, ◌*◌, ◌-◌, ◌≤◌, List, [], ◌∷◌, ◌++◌, max, sym, ◌∙◌, subst, mul-add, add-mul, arith}
 use Rattle.std.specs.List.{AllByRecursion}
 use Rattle.std.proofs.Math.Nat.{lt-mul-div-succ}
 use Rattle.clk_packet.specs.Scheduler.{Scheduler, drr}

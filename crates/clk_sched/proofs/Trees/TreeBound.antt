@@ -1,28 +1,17 @@
 -- The quanta of a tree, and the bound of its closing.
-use Rattle.std.proofs.lemmas.Grind.{common_steps}
-use Rattle.std.proofs.Common.{◌≡◌, ℕ, suc, ◌+◌, ◌*◌, ◌-◌, ◌/◌, ◌<◌, ◌≤◌, ◌^◌, List, [], ◌∷◌, ◌++◌, length, map, fold, max, get_or, refl, sym, ap, ap₂, ◌∙◌, subst, append_assoc, arith, rules}
+use Rattle.std.proofs.Common.{◌≡◌, ℕ, suc, ◌+◌, ◌*◌, ◌<◌, ◌≤◌, ◌^◌, List, [], ◌∷◌, ◌++◌, max, refl, sym, ap, ap₂, ◌∙◌, subst, arith, rules}
 use Rattle.std.specs.List.{AllByRecursion, flat_map}
-use Rattle.std.proofs.lemmas.List.{map-append}
-use Rattle.std.proofs.lemmas.List.Sums.{fold-append}
 use Rattle.std.proofs.Math.Nat.{mul-le-mul}
 use Rattle.clk_packet.specs.declared.limits.TheConstants.{MAX_QUANTUM, MAX_LENGTH, MAX_LEVELS}
 use Rattle.clk_sched.specs.declared.limits.TheConstants.{MAX_LEFT}
 use Rattle.clk_packet.specs.Scheduler.{Scheduler, HasArguments, drr}
-use Rattle.clk_sched.specs.Tree.{Row, end, leaf, node, Tree, queue, scheduler, PlacedScheduler, schedulers_in, schedulers_of, root, nodes, width, IsWellFormed, IsSound}
-use Rattle.clk_sched.specs.Built.{levels, row}
+use Rattle.clk_sched.specs.Tree.{Row, end, leaf, node, Tree, queue, scheduler, PlacedScheduler, schedulers_in, root, nodes, width, IsWellFormed, IsSound}
+use Rattle.clk_sched.specs.Built.{levels}
 use Rattle.clk_sched.specs.Bound.{quanta_of, rounds_for, rounds, closing_bound}
 use Rattle.clk_sched.specs.inside.Quanta.{quanta_below, quanta_in, most_rounds}
 use Rattle.std.proofs.lemmas.List.Concat.{flat_map-append}
 use Rattle.clk_sched.proofs.Lists.Members.{all-append, all-weaker}
-use Rattle.clk_sched.proofs.Trees.TreeLemmas.{rest, sound-formed}
-
--- the most rounds for some quanta, and then for others
-pub most-append : (most : ℕ) (these those : List ℕ) → most_rounds most (these ++ those) ≡ most_rounds (most_rounds most these) those
-most-append most these those = ap (fold max most) (map-append rounds_for these those) ∙ fold-append max most (map rounds_for these) (map rounds_for those)
-
--- the quanta of a row of trees: those of the first, and those of the others
-pub quanta-row : (trees : List Tree) (first : Tree) → 1 ≤ length trees → first ≡ get_or trees 0 first → quanta_below (row trees) ≡ quanta_in first ++ quanta_below (row (rest trees))
-quanta-row trees first some is = grind (arith, common_steps, append_assoc)
+use Rattle.clk_sched.proofs.Trees.TreeLemmas.{sound-formed}
 
 -- the quanta of the schedulers that are listed in a row
 quanta-listed : (r : Row) (above first next : ℕ) → flat_map (λ (n : PlacedScheduler). quanta_of n.class) (schedulers_in above first next r) ≡ quanta_below r
