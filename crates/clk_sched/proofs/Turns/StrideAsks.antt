@@ -80,7 +80,7 @@ abbrev pub FitsLater : Nodes → ℕ → ℕ → Passes → Type 0
 FitsLater n x asked s = FitsAt n.inputs.items x s × (asked ≤ length s.row.items)
 
 fits-first : {S : Type 0} (gives : S → ℕ → Option Packet → S → Type 0) (a b : Nodes) (p q : S) (x : ℕ) (order : List ℕ) (s : Passes) → HasAskedAll gives a b p q x order None → FitsAt b.inputs.items x s → FitsAt a.inputs.items x s
-fits-first gives a b p q x order s vain fits = subst (λ table. FitsAt table x s) vain.keeps.inputs fits
+fits-first gives a b p q x _ s vain fits = subst (λ table. FitsAt table x s) vain.keeps.inputs fits
 
 -- One of those that were left gave a packet.
 pub turned-won : {S : Type 0} (gives : S → ℕ → Option Packet → S → Type 0) (b c : Nodes) (q r : S) (x asked place : ℕ) (packet : Packet) (s z : Passes) (row : List Ranked) (o : Option (ℕ × Packet)) → FitsLater b x asked s → row ≡ s.row.items

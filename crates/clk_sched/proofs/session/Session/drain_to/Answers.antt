@@ -1,18 +1,29 @@
-use Rattle.std.proofs.lemmas.Grind.{common_steps}
-use Rattle.std.proofs.Common.{◌≡◌, ◌+◌, true, max, Ok, sym, ap, ◌∙◌, subst, arith, rules}
+use Rattle.std.proofs.Common.{◌≡◌, ◌+◌, true, false, length, max, Ok, IsOk, refl, sym, ap, ◌∙◌, subst, arith}
 use Rattle.std.proofs.lemmas.Bool.{false≢true}
-use Rattle.std.proofs.lemmas.List.{length-append}
+use Rattle.std.proofs.lemmas.List.{length-append, drop_all}
 use Rattle.clk_sched.specs.Tree.{leaves_distinct}
 use Rattle.clk_sched.specs.Drain.{drain_start, GivesAll}
+use Rattle.clk_sched.specs.Keeps.{grows}
+use Rattle.clk_sched.specs.Log.{pulls}
+use Rattle.clk_sched.specs.Run.{IsRun}
 use Rattle.clk_sched.specs.Session.{progress_of}
 use Rattle.clk_sched.proofs.Sessions.SessionDrain.{draining-first, drain-step, draining-all, given-one, given-none}
 use Rattle.clk_sched.proofs.Closing.Emptied.{emptied-first}
-use Rattle.clk_sched.specs.Departures.{departure_at, IsAddedTo}
+use Rattle.clk_sched.specs.Departures.{departure_at, departures_in, IsAddedTo}
 use Rattle.clk_sched.proofs.Sessions.Departed.{added-none, added-more}
 use Rattle.clk_sched.proofs.session.Session.drain_to.Goals as goal
 
 pub loop-given-init : goal.loop-given-init
-loop-given-init g c = search (rules, common_steps, draining-first, emptied-first, added-none)
+loop-given-init g c =
+    let s = progress_of c.args.self.now in
+    let run = subst (λ s. IsRun s.tree s.log) c.self.view_is c.self.invariant.0.run in (
+      omega arith,
+      draining-first g.Q.Ask.gives s c.args.q.now c.max-start.result c.args.left run (let start = c.max-start.ensures in let now = c.now.ensures.moment in omega (arith, start, now)),
+      (λ keeps is. emptied-first c.args.self.now.tree c.args.self.now.log (g.Q.Ask.holds c.args.q.now) c.args.left c.bound-bound.ensures.sound run is),
+      refl,
+      refl,
+      subst (λ more. IsAddedTo c.args.departures.now (departures_in more) c.args.departures.now) (sym (drop_all (length (pulls s.log)) (pulls s.log) (omega arith))) (added-none c.args.departures.now),
+    )
 
 pub loop-given-preserved-then-is_some : goal.loop-given-preserved-then-is_some
 loop-given-preserved-then-is_some g c =
@@ -60,4 +71,11 @@ returns-clause-drained g c =
     }
 
 pub returns-in_err-got-clause-steady : goal.returns-in_err-got-clause-steady
-returns-in_err-got-clause-steady g c = search (rules, length-append, false≢true)
+returns-in_err-got-clause-steady g c steady few dropped =
+    let drained = c.loop-given.invariant.1.drained in
+    let pulled = ap length drained.pulls_are ∙ length-append (pulls (progress_of c.args.self.now).log) drained.more in
+    let made = drained.made_are in
+    let within = c.loop-given.invariant.0 in
+    let low = c.bound-bound.ensures.limit in
+    let ok = c.pull.ensures.steady (subst (λ keeps. grows keeps ≡ false) (sym c.loop-given.invariant.3) steady) (omega (arith, few, pulled, made, within, low)) in
+    absurd (false≢true (subst IsOk c.in_err-got.was ok))
