@@ -1,14 +1,12 @@
 -- The devices of a plan by number: what was opened for each, what each came to, and that no sender sends to two.
-use Rattle.std.proofs.Common.{◌≡◌, ℕ, zero, suc, ◌+◌, ◌==◌, true, List, [], ◌∷◌, ◌++◌, length, map, filter, refl, sym, subst, Vec, rules, arith}
-use Rattle.std.proofs.lemmas.Grind.{common_steps}
-use Rattle.std.proofs.lemmas.Bool.Decides.{nat_tests}
+use Rattle.std.proofs.Common.{◌≡◌, ℕ, zero, suc, ◌+◌, ◌==◌, true, List, [], ◌∷◌, ◌++◌, length, map, filter, refl, sym, ◌∙◌, subst, Vec, rules, arith}
 use Rattle.std.specs.declared.alloc.Global.{Global}
 use Rattle.std.specs.List.{flat_map, range_with_len, AllByRecursion}
 use Rattle.clk_packet.specs.declared.packet.Packet.{Packet}
 use Rattle.clk_packet.specs.Lists.{are_distinct}
 use Rattle.clk_ruled.specs.Queue.{SeatLists}
 use Rattle.clk_tree.specs.Plan.{Planned}
-use Rattle.clk_tree.specs.PlanTree.{device_count}
+use Rattle.clk_tree.specs.PlanTree.{device_count, IsTreeOf}
 use Rattle.clk_tree.specs.PlanParts.{Queued, queues_of}
 use Rattle.clk_drain.specs.declared.running.opening.LeafQueue.{LeafQueue}
 use Rattle.clk_drain.specs.Outcome.{SharedQueue, Device}
@@ -49,7 +47,15 @@ devices-from plan terms device [] [] [] [] (d ∷ devices) h joined closed = abs
 devices-from plan terms device [] [] [] (f ∷ feeds) devices h joined closed = absurd joined
 devices-from plan terms device (q ∷ queues) (s ∷ seats) (e ∷ ends) [] devices h joined closed = absurd joined
 devices-from plan terms device (q ∷ queues) (s ∷ seats) (e ∷ ends) (f ∷ feeds) [] h joined closed = absurd closed
-devices-from plan terms device (q ∷ queues) (s ∷ seats) (e ∷ ends) (f ∷ feeds) (d ∷ devices) h joined closed = grind (arith, common_steps, nat_tests, (devices-from plan terms (suc device) queues seats ends feeds devices h.1))
+devices-from plan terms device (q ∷ queues) (s ∷ seats) (e ∷ ends) (f ∷ feeds) (d ∷ devices) h joined closed = (
+  record {
+    tree = subst (IsTreeOf plan device) (sym (closed.0.tree ∙ joined.0.tree_is)) h.0.tree;
+    queues = closed.0.queues ∙ joined.0.queues_are;
+  },
+  devices-from plan terms (suc device) queues seats ends feeds devices h.1
+      (let next : device + 1 ≡ suc device = omega arith in subst (λ n. AreJoinedFeeds terms (queues_by_device (queues_of plan) n (length ends)) ends feeds) next joined.1)
+      closed.1,
+)
 devices-from plan terms device queues seats ends feeds devices h joined closed = absurd h
 
 -- Each device was pulled when it was to be pulled.
