@@ -78,8 +78,7 @@ pub tallies-told : (packets : List Packet) (marked : Packet → Bool) → ((p : 
 tallies-told packets marked same [] = refl
 tallies-told packets marked same (l ∷ seats) = λ i. tally_by (λ p. same p i) l ∷ tallies-told packets marked same seats i
 
--- What the books say of seats that are all of their queue's: what each sender's seat had, and how many packets came and were put out in
--- all.
+-- What the books say of seats that are all of their queue's: what each sender's seat had, and how many packets came and were evicted.
 record AreBooked (b : Books) (seats : List SeatLists) : Type 0 where
   accepted : (s : ℕ) → of_sender s b.all ≡ accepted_of seats s
   evicted : (s : ℕ) → evicted_by s b.gone ≡ evicted_of seats s
