@@ -1,11 +1,11 @@
 -- The warnings of a plan and a trace, and why there are none (this project's own definition).
-use Rattle.std.specs.Prelude.{◌≡◌, ◌⊎◌, ℕ, List, Option, Some, IfSome}
+use Rattle.std.specs.Prelude.{◌≡◌, ◌⊎◌, ℕ, List, Option, Some, None, IfSome}
 use Rattle.clk_packet.specs.declared.packet.Packet.{Packet}
 use Rattle.clk_packet.specs.declared.fault.Fault.{Fault}
 use Rattle.clk_packet.specs.declared.fault.Fault.TheVariants.{Write}
 use Rattle.clk_packet.specs.Trace.{ExplainsTrace}
 use Rattle.clk_tree.specs.Plan.{Planned}
-use Rattle.clk_gate.specs.Known.{senders_in, AreKnown, IsUnknownSender}
+use Rattle.clk_gate.specs.Known.{senders_in, first_unknown, IsUnknownSender}
 use Rattle.clk_lint.specs.Lines.{lint_text}
 use Rattle.clk_command.specs.Running.{Tells}
 
@@ -13,7 +13,7 @@ use Rattle.clk_command.specs.Running.{Tells}
 pub record LintWrites (plan : List Planned) (trace : Option (List ℕ)) (text : List ℕ) : Type 0 where
   pub traces : List (List Packet)
   pub tells : IfSome trace (λ bytes. Tells bytes traces)
-  pub known : AreKnown (senders_in plan) traces
+  pub known : first_unknown (senders_in plan) traces ≡ None
   pub lines : text ≡ lint_text plan (Some traces)
 
 -- The plan lacks a sender of the trace, and the fault names it.

@@ -5,3 +5,4 @@ pub mod TraceSums
 pub mod Rooms
 pub mod QueuesAt
 pub mod PlanDevices
+pub mod Numbered

@@ -1,4 +1,5 @@
 -- What a whole run comes to.
+pub mod Leads
 pub mod ManyDevices
 pub mod WholeRun
 pub mod NoHeads

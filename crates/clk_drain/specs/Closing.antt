@@ -15,7 +15,8 @@ use Rattle.clk_sched.specs.Drain.{GivesAll}
 use Rattle.clk_sched.specs.Results.{emitted as emitted_in}
 use Rattle.clk_drain.specs.declared.drained.Drained.{Drained}
 use Rattle.clk_drain.specs.Line.{LineLists, seats_of, seats_in, senders_at}
-use Rattle.clk_drain.specs.Outcome.{SharedQueue, Device, IsSettledOutcome}
+use Rattle.clk_drain.specs.Outcome.{Device, IsSettledOutcome}
+use Rattle.clk_tree.specs.PlanParts.{SharedQueue}
 use Rattle.clk_drain.specs.Lost.{SeatedQueue, NamesFirstLost}
 
 -- how many packets the queues of these lines accepted in all

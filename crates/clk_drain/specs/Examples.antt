@@ -12,7 +12,8 @@ use Rattle.clk_sched.specs.Tree.{Tree, queue, scheduler, leaf, end}
 use Rattle.clk_sched.specs.Log.{asking}
 use Rattle.clk_sched.specs.Examples.{look}
 use Rattle.clk_sched.specs.Examples.Priority.{p0_0, p1_0, p2_0}
-use Rattle.clk_drain.specs.Outcome.{SharedQueue, Device}
+use Rattle.clk_drain.specs.Outcome.{Device}
+use Rattle.clk_tree.specs.PlanParts.{SharedQueue}
 
 -- the second packet of sender 0
 abbrev pub p0_1 : Packet

@@ -15,12 +15,13 @@ use Rattle.clk_sched.specs.Answers.{Answers, tree_queue}
 use Rattle.clk_sched.specs.Results.{heads, leaf_packets}
 use Rattle.clk_tree.specs.Plan.{Planned}
 use Rattle.clk_tree.specs.PlanTree.{device_count}
-use Rattle.clk_tree.specs.PlanParts.{queues_of}
+use Rattle.clk_tree.specs.PlanParts.{queues_of, SharedQueue}
 use Rattle.clk_drain.specs.Closing.{HasSent}
 use Rattle.clk_drain.specs.Line.{LineLists, pulling_all, PullsAt, senders_at}
 use Rattle.clk_drain.specs.Lost.{SeatedQueue, NamesFirstLost}
-use Rattle.clk_drain.specs.Outcome.{SharedQueue, Device, senders_to, IsDeviceSettled}
-use Rattle.clk_drain.specs.Run.{queues_at, IsRunWith, IsFaultOfRun}
+use Rattle.clk_drain.specs.Outcome.{Device, senders_to, IsDeviceSettled}
+use Rattle.clk_drain.specs.Run.{IsRunWith, IsFaultOfRun}
+use Rattle.clk_drain.specs.Opening.{queues_at}
 
 -- The tap of each line takes, in order, exactly what its leaf gave in the visits that asked the lines.
 abbrev pub TapsTakeWhatLeavesGive : Type 0

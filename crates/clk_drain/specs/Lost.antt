@@ -6,7 +6,7 @@ use Rattle.clk_packet.specs.declared.fault.Fault.{Fault}
 use Rattle.clk_packet.specs.declared.fault.Fault.TheVariants.{Unsettled}
 use Rattle.clk_ruled.specs.Queue.{SeatLists}
 use Rattle.clk_ruled.specs.Settle.{accepted_count, lost_count, HasLostBelow}
-use Rattle.clk_drain.specs.Outcome.{SharedQueue}
+use Rattle.clk_tree.specs.PlanParts.{SharedQueue}
 
 -- a queue, with the lists of its seats
 pub record SeatedQueue : Type 0 where

@@ -1,50 +1,40 @@
 -- What a run of producers on threads returns (this project's own definition).
-use Rattle.std.specs.Prelude.{◌≡◌, ℕ, ◌<◌, ◌==◌, true, List, [], ◌∷◌, length, map, sum_by, suc, ⊤, MatchOption, slice_get, if◌then◌else◌, Vec}
-use Rattle.std.specs.List.{AllByRecursion}
+use Rattle.std.specs.Prelude.{◌≡◌, ℕ, ◌<◌, true, List, length, map, filter, sum_by, Some, None, ⊤, MatchOption, slice_get, Vec}
+use Rattle.std.specs.List.{AllByRecursion, AllZip, range_with_len}
 use Rattle.std.specs.declared.alloc.Global.{Global}
 use Rattle.clk_packet.specs.declared.packet.Packet.{Packet}
 use Rattle.clk_packet.specs.declared.packet.Kind.TheVariants.{TailDrop, FrontDrop}
 use Rattle.clk_packet.specs.declared.tally.Tally.{Tally}
 use Rattle.clk_packet.specs.declared.fault.Fault.{Fault}
 use Rattle.clk_packet.specs.declared.fault.Fault.TheVariants.{Memory, UnknownSender, Unsettled}
+use Rattle.clk_packet.specs.Lists.{stands_in}
 use Rattle.clk_packet.specs.Trace.{sent_by}
 use Rattle.clk_sched.specs.declared.session.keeps.Keeps.{Keeps}
 use Rattle.clk_sched.specs.declared.visit.Visit.{Visit}
 use Rattle.clk_sched.specs.Keeps.{keeps_emitted, keeps_visits}
 use Rattle.clk_sched.specs.Packed.{logged}
+use Rattle.clk_sched.specs.Tree.{root, leaves}
 use Rattle.clk_tree.specs.Plan.{Planned}
 use Rattle.clk_tree.specs.PlanTree.{IsTreeOf, device_count}
-use Rattle.clk_tree.specs.PlanParts.{Queued, queues_of}
-use Rattle.clk_gate.specs.Known.{senders_in, AreKnown, IsFirstUnknown}
+use Rattle.clk_tree.specs.PlanParts.{SharedQueue, shared_queues}
+use Rattle.clk_gate.specs.Known.{senders_in, first_unknown}
 use Rattle.clk_drain.specs.declared.outcome.Outcome.{Outcome}
 use Rattle.clk_sched.specs.declared.session.packed.PackedLog.{PackedLog}
 use Rattle.clk_drain.specs.Moments.{HasMoments}
-use Rattle.clk_drain.specs.Outcome.{SharedQueue, Device, IsSettledOutcome}
-use Rattle.clk_drain.specs.Opening.{shared_at}
+use Rattle.clk_drain.specs.Outcome.{Device, IsSettledOutcome}
 
--- the queues of a device among these queues of a plan, of which the first has the number `leaf`
-abbrev pub queues_at : ℕ → ℕ → List Queued → List SharedQueue
-queues_at device leaf [] = []
-queues_at device leaf (q ∷ queues) =
-    if q.device == device then shared_at leaf q ∷ queues_at device (suc leaf) queues else queues_at device (suc leaf) queues
-
--- This device has the tree and the queues of the device of the plan with this number.
+-- This device has the tree of the plan's device of this number, and the queues that are leaves of the tree.
 pub record IsDeviceOf (plan : List Planned) (number : ℕ) (d : Device) : Type 0 where
   pub tree : IsTreeOf plan number d.tree
-  pub queues : d.queues ≡ queues_at number 0 (queues_of plan)
+  pub queues : d.queues ≡ filter (λ (q : SharedQueue). stands_in q.leaf (leaves (root d.tree))) (shared_queues plan)
 
--- These are all devices of a plan from a number on, in order.
-abbrev pub AreDevicesFrom : List Planned → ℕ → List Device → Type 0
-AreDevicesFrom plan number [] = number ≡ device_count plan
-AreDevicesFrom plan number (d ∷ devices) = IsDeviceOf plan number d × AreDevicesFrom plan (suc number) devices
-
--- A run of a plan over a trace has this outcome: the logs of its devices, the packets that each device emitted, and one tally a sender.
+-- A run of a plan over a trace has this outcome: the logs of the plan's devices, in order, the packets that each device emitted, and one
+-- tally a sender. All packets that each sender sends are settled.
 pub record IsRunWith (plan : List Planned) (traces : List (List Packet)) (step limit : ℕ) (logs : List (List Visit)) (packets : List (List Packet)) (tallies : List Tally) : Type 0 where
   pub devices : List Device
-  pub each : AreDevicesFrom plan 0 devices
+  pub each : AllZip (IsDeviceOf plan) (range_with_len 0 (device_count plan)) devices
   pub logs_are : logs ≡ map (λ (d : Device). d.log) devices
   pub emitted : packets ≡ map (λ (d : Device). d.emitted) devices
-  -- all packets that each sender sends are settled
   pub settled : IsSettledOutcome (sent_by traces) devices tallies
   pub moments : AllByRecursion (λ (d : Device). HasMoments step limit d.tree d.log) devices
 
@@ -62,13 +52,12 @@ pub record IsKeptRun (keeps : Keeps) (plan : List Planned) (traces : List (List 
   pub told : keeps_emitted keeps ≡ true → map (λ packets. packets.items) outcome.emitted.items ≡ packets
   pub is : IsRunWith plan traces step limit logs packets outcome.tallies.items
 
--- By these counts a queue lost packets although it accepted fewer than it may hold: its senders sent it so many, and it accepted so many.
-pub record HasLostEarly (q : Queued) (sent accepted capacity : ℕ) : Type 0 where
+-- By these counts a queue lost packets although it accepted fewer than it may hold: a Queue refused at least one packet, or a FrontDropQueue
+-- accepted all that were sent to it and evicted at least one.
+pub record HasLostEarly (q : SharedQueue) (sent accepted capacity : ℕ) : Type 0 where
   pub capacity_is : capacity ≡ q.capacity
   pub below : accepted < capacity
-  -- a Queue refused at least one packet
   pub refused : q.kind ≡ TailDrop → accepted < sent
-  -- a FrontDropQueue accepted all packets, and evicted at least one
   pub evicted : q.kind ≡ FrontDrop → (0 < accepted) × (accepted ≡ sent)
 
 -- Why a run fails: an allocation or the start of a thread failed (fault 1), the plan lacks a sender of the trace (15), or a queue lost
@@ -76,8 +65,8 @@ pub record HasLostEarly (q : Queued) (sent accepted capacity : ℕ) : Type 0 whe
 -- fault, since a drain never stops short.
 abbrev pub IsFaultOfRun : List Planned → List (List Packet) → Fault → Type 0
 IsFaultOfRun plan traces Memory = ⊤
-IsFaultOfRun plan traces (UnknownSender s) = IsFirstUnknown (senders_in plan) traces s
+IsFaultOfRun plan traces (UnknownSender s) = first_unknown (senders_in plan) traces ≡ Some s
 IsFaultOfRun plan traces (Unsettled leaf accepted capacity) =
-    AreKnown (senders_in plan) traces
-    × MatchOption (slice_get (queues_of plan) leaf) ⊥ (λ q. HasLostEarly q (sum_by (λ s. length (sent_by traces s)) q.senders) accepted capacity)
+    (first_unknown (senders_in plan) traces ≡ None)
+    × MatchOption (slice_get (shared_queues plan) leaf) ⊥ (λ q. HasLostEarly q (sum_by (λ s. length (sent_by traces s)) q.senders) accepted capacity)
 IsFaultOfRun plan traces fault = ⊥

@@ -49,6 +49,9 @@ pub fn losses_have_lists(plan: &Plan, traces: &Traces)
 pub fn runs_account_for_emitted(plan: &Plan)
     ensures { RunsAccountForEmitted plan.now }
 {
-    // Reading senders brings into scope that no sender sends to two queues.
+    // This call does nothing: its contract is a law.
+    plan.trees_share_queues();
+    // Reading senders and queues brings into scope that no sender sends to two queues, and that each queue has a device.
     let _ = plan.senders();
+    let _ = plan.queues();
 }

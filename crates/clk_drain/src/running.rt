@@ -11,10 +11,10 @@ mod producer;
 mod terms;
 mod threads;
 
-ghost use Rattle.std.specs.Prelude.{◌≡◌, ◌≤◌, ◌<◌, true, false, [], IfOk, IfErr};
+ghost use Rattle.std.specs.Prelude.{◌≡◌, ◌≤◌, ◌<◌, true, false, [], None, IfOk, IfErr};
 ghost use Rattle.clk_sched.specs.Keeps.{keeps_visits};
 ghost use Rattle.clk_gate.specs.declared.limits.TheConstants.{MAX_STEP, MAX_LIMIT};
-ghost use Rattle.clk_gate.specs.Known.{senders_in, AreKnown};
+ghost use Rattle.clk_gate.specs.Known.{senders_in, first_unknown};
 ghost use Rattle.clk_drain.specs.Run.{IsRunOutcome, IsKeptRun, IsFaultOfRun};
 
 use crate::outcome::Outcome;
@@ -60,7 +60,7 @@ pub fn run<R: Threads + Wait, W: Wait + Sync, G: Gate + Sync>(
     requires step { (1 ≤ step) × (step ≤ MAX_STEP) }
     requires limit { (1 ≤ limit) × (limit ≤ MAX_LIMIT) }
     ensures outcome { IfOk result (IsRunOutcome plan.now traces.now step limit) }
-    ensures known { IfOk result (λ _. AreKnown (senders_in plan.now) traces.now) }
+    ensures known { IfOk result (λ _. first_unknown (senders_in plan.now) traces.now ≡ None) }
     ensures fault { IfErr result (IsFaultOfRun plan.now traces.now) }
 {
     run_keeping(rt, alloc, wait, plan, traces, step, limit, gate, Keeps::ALL)?.unpack(alloc)
@@ -90,7 +90,7 @@ pub fn run_with<R: Threads + Wait, W: Wait + Sync, G: Gate + Sync>(
     requires limit { (1 ≤ limit) × (limit ≤ MAX_LIMIT) }
     ensures outcome { IfOk result (IsKeptRun keeps plan.now traces.now step limit) }
     ensures none { keeps_visits keeps ≡ false → IfOk result (λ outcome. outcome.logs.items ≡ []) }
-    ensures known { IfOk result (λ _. AreKnown (senders_in plan.now) traces.now) }
+    ensures known { IfOk result (λ _. first_unknown (senders_in plan.now) traces.now ≡ None) }
     ensures fault { IfErr result (IsFaultOfRun plan.now traces.now) }
 {
     let outcome = run_keeping(rt, alloc, wait, plan, traces, step, limit, gate, keeps)?;
@@ -116,7 +116,7 @@ fn run_keeping<R: Threads + Wait, W: Wait + Sync, G: Gate + Sync>(
     requires step { (1 ≤ step) × (step ≤ MAX_STEP) }
     requires limit { (1 ≤ limit) × (limit ≤ MAX_LIMIT) }
     ensures outcome { IfOk result (IsKeptRun keeps plan.now traces.now step limit) }
-    ensures known { IfOk result (λ _. AreKnown (senders_in plan.now) traces.now) }
+    ensures known { IfOk result (λ _. first_unknown (senders_in plan.now) traces.now ≡ None) }
     ensures fault { IfErr result (IsFaultOfRun plan.now traces.now) }
 {
     check_senders(plan.senders(), traces)?;

@@ -1,11 +1,11 @@
 //! Whether a plan has the senders of a trace.
 
-ghost use Rattle.std.specs.Prelude.{◌≡◌, ◌<◌, true, false, map, length, IfOk, IfErr};
+ghost use Rattle.std.specs.Prelude.{◌≡◌, ◌<◌, true, false, map, length, None, IfOk, IfErr};
 ghost use Rattle.clk_packet.specs.declared.fault.Fault.TheVariants.{UnknownSender};
 ghost use Rattle.clk_packet.specs.Trace.{sent_by};
 ghost use Rattle.clk_packet.specs.Lists.{stands_in};
 ghost use Rattle.clk_tree.specs.PlanParts.{number_of};
-ghost use Rattle.clk_gate.specs.Known.{AreKnown, IsUnknownSender};
+ghost use Rattle.clk_gate.specs.Known.{first_unknown, IsUnknownSender};
 
 use clk_packet::{Fault, Traces};
 use clk_tree::SenderSpec;
@@ -16,7 +16,7 @@ use clk_tree::SenderSpec;
 ///
 /// Fault 15 with the least sender of the trace that is none of these.
 pub fn check_senders(senders: &[SenderSpec], traces: &Traces) -> Result<(), Fault>
-    ensures known { IfOk result (λ _. AreKnown (map number_of senders.now) traces.now) }
+    ensures known { IfOk result (λ _. first_unknown (map number_of senders.now) traces.now ≡ None) }
     ensures fault { IfErr result (λ fault. IsUnknownSender (map number_of senders.now) traces.now fault) }
 {
     for sender in 0..=u16::MAX {

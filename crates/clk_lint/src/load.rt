@@ -1,8 +1,9 @@
 //! What senders send by a trace.
 
 ghost use Rattle.std.specs.Prelude.{◌≡◌, slice_get};
+ghost use Rattle.clk_packet.specs.declared.packet.Packet.{Packet};
 ghost use Rattle.clk_packet.specs.Trace.{sent_by};
-ghost use Rattle.clk_sched.specs.Laws.Deficit.{bytes_of};
+ghost use Rattle.std.specs.Option.{option_map_or};
 ghost use Rattle.clk_lint.specs.Load.{burst_of, longest, longest_by, longest_of, trace_of};
 
 use clk_packet::Traces;
@@ -55,7 +56,7 @@ fn longest_of(traces: &Traces, sender: u16) -> u16
 
 /// The length of a packet of a sender, or 0 if it sends no packet of this number.
 fn length_of(traces: &Traces, sender: u16, number: u32) -> u16
-    ensures { result ≡ bytes_of (slice_get (sent_by traces.now sender) number) }
+    ensures { result ≡ option_map_or (λ (p : Packet). p.length) (slice_get (sent_by traces.now sender) number) 0 }
 {
     match traces.sent(sender, number) {
         Some(packet) => packet.length,

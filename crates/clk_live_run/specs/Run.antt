@@ -14,7 +14,7 @@ use Rattle.clk_router.specs.Events.{Setup, Event, plan_setup, sender_numbers, ev
 use Rattle.clk_router.specs.Settled.{offered_of, IsCourseSettled, AreAllOut}
 use Rattle.clk_router.specs.Course.{Course}
 use Rattle.clk_live.specs.Outcome.{packet_length}
-use Rattle.clk_gate.specs.Known.{senders_in, IsFirstUnknown}
+use Rattle.clk_gate.specs.Known.{senders_in, first_unknown}
 use Rattle.clk_script.specs.Meaning.{IsClosed}
 use Rattle.clk_script.specs.declared.limits.TheConstants.{MAX_LINES}
 
@@ -65,6 +65,6 @@ MayBeTooLong plan traces limit = MAX_LINES < sent_in traces (senders_in plan) + 
 -- Fault 15 names the least sender that the plan lacks. Only a run that is to be recorded has a record.
 abbrev pub IsFaultOfLive : List Planned → List (List Packet) → ℕ → Bool → Fault → Type 0
 IsFaultOfLive plan traces limit recording Memory = ⊤
-IsFaultOfLive plan traces limit recording (UnknownSender s) = IsFirstUnknown (senders_in plan) traces s
+IsFaultOfLive plan traces limit recording (UnknownSender s) = first_unknown (senders_in plan) traces ≡ Some s
 IsFaultOfLive plan traces limit recording TooLarge = (recording ≡ true) × MayBeTooLong plan traces limit
 IsFaultOfLive plan traces limit recording fault = ⊥

@@ -19,19 +19,14 @@ pub data QueueEvent : Type 0 where
 abbrev pub accepted : List QueueEvent → List Packet
 accepted [] = []
 accepted (accept p ∷ events) = p ∷ accepted events
-accepted (refuse p ∷ events) = accepted events
-accepted (evict p ∷ events) = accepted events
-accepted (give p ∷ events) = accepted events
-accepted (empty ∷ events) = accepted events
+accepted (event ∷ events) = accepted events
 
 -- the packets that left the queue, evicted or given, in order
 abbrev pub gone : List QueueEvent → List Packet
 gone [] = []
-gone (accept p ∷ events) = gone events
-gone (refuse p ∷ events) = gone events
 gone (evict p ∷ events) = p ∷ gone events
 gone (give p ∷ events) = p ∷ gone events
-gone (empty ∷ events) = gone events
+gone (event ∷ events) = gone events
 
 -- the packets that the queue holds: those accepted, without the first ones, which left
 abbrev pub held : List QueueEvent → List Packet
@@ -45,24 +40,16 @@ pub record IsInOrder (capacity : ℕ) (events : List QueueEvent) : Type 0 where
 -- When an event may happen, while these packets are held: only a full Queue refuses, only a full FrontDropQueue evicts, and only an empty
 -- queue is found empty.
 abbrev pub MayStand : Kind → ℕ → List Packet → QueueEvent → Type 0
-MayStand kind capacity holding (accept p) = ⊤
 MayStand kind capacity holding (refuse p) = (kind ≡ TailDrop) × (length holding ≡ capacity)
 MayStand kind capacity holding (evict p) = (kind ≡ FrontDrop) × (length holding ≡ capacity)
-MayStand kind capacity holding (give p) = ⊤
 MayStand kind capacity holding empty = holding ≡ []
+MayStand kind capacity holding event = ⊤
 
 -- an eviction is followed at once by the acceptance that forced it
 abbrev pub IsFollowedUp : QueueEvent → List QueueEvent → Type 0
-IsFollowedUp (accept p) after = ⊤
-IsFollowedUp (refuse p) after = ⊤
-IsFollowedUp (evict p) [] = ⊥
 IsFollowedUp (evict p) (accept q ∷ after) = ⊤
-IsFollowedUp (evict p) (refuse q ∷ after) = ⊥
-IsFollowedUp (evict p) (evict q ∷ after) = ⊥
-IsFollowedUp (evict p) (give q ∷ after) = ⊥
-IsFollowedUp (evict p) (empty ∷ after) = ⊥
-IsFollowedUp (give p) after = ⊤
-IsFollowedUp empty after = ⊤
+IsFollowedUp (evict p) after = ⊥
+IsFollowedUp event after = ⊤
 
 -- each of these events may happen after those before it
 abbrev pub EachStands : Kind → ℕ → List QueueEvent → List QueueEvent → Type 0
@@ -83,9 +70,8 @@ offer_events p (Evicted front) = evict front ∷ accept p ∷ []
 
 -- a refusal names the packet that was offered
 abbrev pub NamesOffer : Packet → Offered → Type 0
-NamesOffer p Accepted = ⊤
 NamesOffer p (Refused q) = q ≡ p
-NamesOffer p (Evicted front) = ⊤
+NamesOffer p outcome = ⊤
 
 -- what a pull with this result adds to the history of its queue
 abbrev pub pull_event : Option Packet → QueueEvent

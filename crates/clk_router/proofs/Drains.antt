@@ -22,8 +22,8 @@ use Rattle.clk_sched.specs.Session.{given_in, latest_moment}
 use Rattle.clk_sched.specs.Tree.{Tree, root, leaves, leaves_distinct, queue_at, IsSound}
 use Rattle.clk_router.specs.Course.{Course}
 use Rattle.clk_router.specs.Drains.{DrainsEnd}
-use Rattle.clk_router.specs.Events.{Room, Setup, Event, is_at, events_at, log_of, pull_in, moment_in, accepted_in, evicted_in, emitted_in, answers_in, at_queue, history, pulls_from, closing_pulls, RunsTree, CanHappen}
-use Rattle.clk_router.specs.inside.Closable.{IsClosable}
+use Rattle.clk_router.specs.Events.{Room, Setup, Event, events_at, log_of, pull_in, moment_in, accepted_in, evicted_in, emitted_in, answers_in, at_queue, history, pulls_from, closing_pulls, RunsTree, CanHappen}
+use Rattle.clk_router.specs.inside.Closable.{IsClosable, is_at}
 use Rattle.clk_router.proofs.Callers.Apart.{alone, no-answers}
 use Rattle.clk_router.proofs.Callers.Emitted.{its-given}
 use Rattle.clk_router.proofs.Callers.Events.{latest-moment, events-pulls, log-pulls, turns-pulls, counted-pulls, pulls-add_none, pulls-given, pulls-history, pulled-events}

@@ -19,16 +19,16 @@ use Rattle.clk_sched.specs.Results.{asks_queue}
 use Rattle.clk_sched.specs.Session.{latest_moment, counted_moment, progress_of}
 use Rattle.clk_sched.specs.Run.{IsRun}
 use Rattle.clk_sched.specs.Step.{IsOnePullMore}
-use Rattle.clk_sched.specs.Tree.{Tree, root, leaves, queue_at, is_number}
+use Rattle.clk_sched.specs.Tree.{Tree, root, leaves, queue_at}
 use Rattle.clk_sched.proofs.Callers.Due.{could-same}
 use Rattle.clk_sched.proofs.Callers.Lists.{to-all}
 use Rattle.clk_router.specs.declared.devices.RouterDevice.{RouterDevice}
 use Rattle.clk_router.specs.declared.parts.Parts.{Parts}
 use Rattle.clk_router.specs.Course.{Course, events_of, moment_at}
 use Rattle.clk_router.specs.Due.{is_backlogged, IsDeviceDue, EmitsNoneBefore}
-use Rattle.clk_router.specs.Events.{Room, Setup, Event, pulled, is_at, events_at, moment_in, log_of, pull_in, answers_in, at_queue, history, RunsTree, CanHappen}
+use Rattle.clk_router.specs.Events.{Room, Setup, Event, pulled, events_at, moment_in, log_of, pull_in, answers_in, at_queue, history, RunsTree, CanHappen}
 use Rattle.clk_router.specs.InsideQueues.{given_by}
-use Rattle.clk_router.specs.inside.Closable.{IsClosable}
+use Rattle.clk_router.specs.inside.Closable.{IsClosable, is_at}
 use Rattle.clk_router.specs.inside.Parts.{AreQueuesAt, Stand, IsSessionDue}
 use Rattle.clk_router.specs.inside.Queues.{packets_in, packets_at}
 use Rattle.clk_router.proofs.AskLemmas.{moment-is}
@@ -37,6 +37,7 @@ use Rattle.clk_router.proofs.Callers.Plans.{queue-stands}
 use Rattle.clk_router.proofs.PartsLemmas.{member-at, IsHere, device-here}
 use Rattle.clk_router.proofs.RouterLemmas.{course}
 use Rattle.clk_router.proofs.Settled.QueuePackets.{history-in_order, held-before}
+use Rattle.clk_sched.proofs.Callers.Lists.{is_number}
 
 -- a queue of a device holds what its history says
 held-there : (setup : Setup) (d q : ℕ) (events : List Event) (room : Option Room) (ring : Option Queue) → is_at d room ≡ true → AreQueuesAt (history setup q events) room ring

@@ -19,8 +19,8 @@ use Rattle.clk_tree.specs.Shares.{AreTreesOf, AreSharedOut}
 use Rattle.clk_router.specs.declared.devices.RouterDevice.{RouterDevice}
 use Rattle.clk_router.specs.declared.queues.Queues.{Queues}
 use Rattle.clk_router.specs.declared.parts.Parts.{Parts}
-use Rattle.clk_router.specs.Events.{Room, Setup, Event, is_at, events_at, log_of, history, plan_setup}
-use Rattle.clk_router.specs.inside.Closable.{AreQueuesOf, IsClosable}
+use Rattle.clk_router.specs.Events.{Room, Setup, Event, events_at, log_of, history, plan_setup}
+use Rattle.clk_router.specs.inside.Closable.{AreQueuesOf, IsClosable, is_at}
 use Rattle.clk_router.specs.inside.Parts.{CanStand, AreQueuesAt, IsAt}
 use Rattle.clk_router.specs.inside.Queues.{packets_in, packets_at, GivesAt}
 use Rattle.clk_router.proofs.Callers.Plans.{plan-apart, leaves-at}

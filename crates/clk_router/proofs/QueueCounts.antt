@@ -18,9 +18,9 @@ use Rattle.clk_sched.specs.Conservation.{given_in_all}
 use Rattle.clk_sched.specs.Closing.{held_in_all, left_in}
 use Rattle.clk_tree.specs.declared.plan.parts.SenderSpec.{SenderSpec}
 use Rattle.clk_tree.specs.PlanParts.{number_of}
-use Rattle.clk_router.specs.Events.{Room, Setup, Event, offered, pulled, is_at, is_of_device, happens_at, log_of, accepted_in, evicted_in, sends_to, answers_in, at_queue, history}
+use Rattle.clk_router.specs.Events.{Room, Setup, Event, offered, pulled, is_of_device, happens_at, log_of, accepted_in, evicted_in, sends_to, answers_in, at_queue, history}
 use Rattle.clk_router.specs.InsideQueues.{given_by}
-use Rattle.clk_router.specs.inside.Closable.{AreQueuesOf}
+use Rattle.clk_router.specs.inside.Closable.{AreQueuesOf, is_at}
 use Rattle.clk_router.proofs.Callers.Apart.{none-later}
 
 -- how many events of a queue, weighed one by one

@@ -1,5 +1,6 @@
 -- What happens to a router, and which events can happen one after another.
 use Rattle.std.specs.Prelude.{◌≡◌, ℕ, ◌+◌, ◌<◌, List, [], ◌∷◌, length, map, filter, fold, max, ◌==◌, ◌&&◌, Bool, true, false, if◌then◌else◌, Option, Some, None, MatchOption, ⊤, slice_get}
+use Rattle.std.specs.Option.{option_map_or}
 use Rattle.std.specs.List.{flat_map, filter_map, range_with_len, list_any, AllByRecursion}
 use Rattle.clk_packet.specs.declared.packet.Packet.{Packet}
 use Rattle.clk_packet.specs.declared.packet.Kind.{Kind}
@@ -53,14 +54,9 @@ pub data Event : Type 0 where
   offered : Packet → Offered → Event
   pulled : ℕ → ℕ → List Visit → Event
 
--- whether a queue exists, and its packets go to this device
-abbrev pub is_at : ℕ → Option Room → Bool
-is_at d None = false
-is_at d (Some room) = room.device == d
-
 -- whether a sender sends to a queue of this device
 abbrev pub is_of_device : List Room → ℕ → SenderSpec → Bool
-is_of_device queues d s = is_at d (slice_get queues s.queue)
+is_of_device queues d s = option_map_or (λ (room : Room). room.device == d) (slice_get queues s.queue) false
 
 -- whether an event happens at a device: it is a pull of the device, or an offer of one of its senders
 abbrev pub happens_at : Setup → ℕ → Event → Bool
@@ -135,8 +131,7 @@ sends_to senders sender q = list_any (λ (s : SenderSpec). (s.number == sender) 
 
 -- the visits of a device's pull, as events of a queue: only visits that asked the queue count
 abbrev pub answers_in : Option Tree → ℕ → List Visit → List QueueEvent
-answers_in None q visits = []
-answers_in (Some tree) q visits = flat_map (λ (v : Visit). if asks_queue tree q v then pull_event v.got ∷ [] else []) visits
+answers_in o q visits = option_map_or (λ tree. flat_map (λ (v : Visit). if asks_queue tree q v then pull_event v.got ∷ [] else []) visits) o []
 
 -- an event of a router, as events of a queue
 abbrev pub at_queue : Setup → ℕ → Event → List QueueEvent

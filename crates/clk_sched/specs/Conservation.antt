@@ -1,16 +1,17 @@
 -- That a tree loses nothing, and makes nothing.
-use Rattle.std.specs.Prelude.{◌≡◌, ℕ, ◌+◌, true, List, [], ◌∷◌, ◌++◌, length, Some, None, MatchOption, if◌then◌else◌}
+use Rattle.std.specs.Prelude.{◌≡◌, ℕ, ◌+◌, true, List, [], ◌∷◌, ◌++◌, length, Some, None, MatchOption, if◌then◌else◌, ◌==◌, false}
+use Rattle.std.specs.Option.{option_map_or}
 use Rattle.std.specs.List.{filter_map, AllByRecursion}
 use Rattle.clk_packet.specs.Lists.{In, stands_in}
 use Rattle.clk_packet.specs.declared.packet.Packet.{Packet}
 use Rattle.clk_sched.specs.declared.visit.Visit.{Visit}
-use Rattle.clk_sched.specs.Tree.{Row, Tree, root, leaves, is_number}
+use Rattle.clk_sched.specs.Tree.{Row, Tree, root, leaves}
 use Rattle.clk_sched.specs.Run.{IsRun}
 use Rattle.clk_sched.specs.Results.{Traced, leaf_packets, traced_emitted, traced_heads, emitted, heads}
 
 -- the packets that came from a queue
 abbrev pub from_queue : ℕ → List Traced → List Packet
-from_queue q traced = filter_map (λ (t : Traced). if is_number q t.1 then Some t.0 else None) traced
+from_queue q traced = filter_map (λ (t : Traced). if option_map_or (λ other. other == q) t.1 false then Some t.0 else None) traced
 
 -- What a queue gave is what was emitted of it, in order, and then what is held of it, the nearest to the device first.
 abbrev pub IsConserved : Tree → List Visit → ℕ → Type 0

@@ -2,9 +2,9 @@
 -- which packets may pass, are those of Shreedhar and Varghese (1995). The order is not: there an input that gets packets goes to the end of
 -- a list, and here inputs have their turns by index, those without packets too.
 use Rattle.std.specs.Prelude.{◌≡◌, ℕ, ◌+◌, ◌-◌, ◌%◌, ◌==◌, Bool, true, false, nat_le, List, [], ◌∷◌, ◌++◌, reverse, Option, Some, None, if◌then◌else◌}
+use Rattle.std.specs.Option.{option_map_or}
 use Rattle.clk_packet.specs.declared.packet.Packet.{Packet}
 use Rattle.clk_sched.specs.declared.visit.Visit.{Visit}
-use Rattle.clk_sched.specs.Heads.{is_covered}
 use Rattle.clk_sched.specs.Laws.Deficit.{quantum_at}
 use Rattle.clk_sched.specs.Turns.{Turn, all_visits}
 
@@ -45,7 +45,7 @@ round_of quanta inputs (v ∷ earlier) = round_after quanta inputs (round_of qua
 -- A visit goes to the input whose turn it is, and passes a packet exactly if it is no longer than what may pass.
 pub record KeepsToRound (quanta : List ℕ) (r : Round) (v : Visit) : Type 0 where
   pub in_turn : v.input ≡ r.input
-  pub passes : v.passed ≡ is_covered (λ (p : Packet). nat_le p.length (may_pass quanta r)) v.got
+  pub passes : v.passed ≡ option_map_or (λ (p : Packet). nat_le p.length (may_pass quanta r)) v.got false
 
 -- A DRRSched with these quanta goes by deficit round robin in all its turns.
 abbrev pub GoesByRounds : List ℕ → ℕ → List Turn → Type 0

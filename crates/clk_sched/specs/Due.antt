@@ -1,5 +1,5 @@
 -- From which moment on a pull could emit a packet, as things stand (this project's own definitions).
-use Rattle.std.specs.Prelude.{◌≡◌, ℕ, suc, ◌+◌, ◌≤◌, nat_le, ◌&&◌, ◌||◌, Bool, true, false, List, map, reverse, Option, Some, None, is_some, IfSome, MatchOption, ⊤}
+use Rattle.std.specs.Prelude.{◌≡◌, ℕ, suc, ◌+◌, ◌≤◌, nat_le, ◌&&◌, ◌||◌, Bool, true, false, List, [], map, reverse, Option, Some, None, is_some, IfSome, MatchOption, ⊤}
 use Rattle.std.specs.List.{AllByRecursion, list_any, range_with_len}
 use Rattle.clk_sched.specs.declared.visit.Visit.{Visit}
 use Rattle.clk_packet.specs.Scheduler.{Scheduler, shaper}
@@ -7,7 +7,7 @@ use Rattle.clk_sched.specs.Tree.{Row, end, leaf, node, Tree, root, nodes, width}
 use Rattle.clk_sched.specs.Turns.{Turn, visits_before}
 use Rattle.clk_sched.specs.Heads.{head_at}
 use Rattle.clk_sched.specs.Laws.{Manner, in_order, with_heads, manner}
-use Rattle.clk_sched.specs.Laws.Shaper.{has_room}
+use Rattle.clk_sched.specs.Laws.Shaper.{keeps_since_each}
 use Rattle.clk_sched.specs.Log.{pulls, turn, moment_of, visits_of, result_of}
 use Rattle.clk_sched.specs.Answers.{tree_queue}
 use Rattle.clk_sched.specs.Step.{IsOnePullMore}
@@ -18,7 +18,7 @@ turns_in log x = map (turn x) (reverse (pulls log))
 
 -- Whether a scheduler, after some turns, lets a packet through at a moment: a Shaper if it has room, and any other always.
 abbrev pub lets_through : Scheduler → List Turn → ℕ → Bool
-lets_through (shaper rate burst) turns moment = has_room rate burst moment turns
+lets_through (shaper rate burst) turns moment = keeps_since_each rate burst moment [] turns
 lets_through class turns moment = true
 
 -- whether a scheduler over so many inputs holds a head after some turns

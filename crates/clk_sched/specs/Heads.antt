@@ -1,6 +1,7 @@
 -- How a scheduler that holds packets back as heads of its inputs treats these. It is told by the visits across all its pulls, earlier ones
 -- with the latest first.
 use Rattle.std.specs.Prelude.{◌≡◌, ℕ, zero, suc, ◌==◌, Bool, false, not, List, [], ◌∷◌, is_some, Option, Some, None, MatchOption, MatchBool, ⊤, if◌then◌else◌}
+use Rattle.std.specs.Option.{option_map_or}
 use Rattle.clk_packet.specs.declared.packet.Packet.{Packet}
 use Rattle.clk_sched.specs.declared.visit.Visit.{Visit}
 
@@ -9,18 +10,13 @@ abbrev pub head_at : ℕ → List Visit → Option Packet
 head_at input [] = None
 head_at input (v ∷ earlier) = if v.input == input then (if v.passed then None else v.got) else head_at input earlier
 
--- whether there is a packet and `covers` holds of it
-abbrev pub is_covered : (Packet → Bool) → Option Packet → Bool
-is_covered covers None = false
-is_covered covers (Some p) = covers p
-
 -- A visit goes to the input whose turn it is, and looks at the head held there, or asks if there is none. It passes the packet exactly if
 -- that is covered.
 pub record LooksAtHeads (turn_of : List Visit → ℕ) (covers : List Visit → ℕ → Packet → Bool) (earlier : List Visit) (v : Visit) : Type 0 where
   pub in_turn : v.input ≡ turn_of earlier
   pub fresh : v.fresh ≡ not (is_some (head_at v.input earlier))
   pub looks : MatchOption (head_at v.input earlier) ⊤ (λ p. v.got ≡ Some p)
-  pub passes : v.passed ≡ is_covered (covers earlier v.input) v.got
+  pub passes : v.passed ≡ option_map_or (covers earlier v.input) v.got false
 
 -- A scheduler's visits in one pull end with the first that passes a packet; if none does, there are as many as it has inputs.
 abbrev pub EndAtPass : ℕ → List Visit → Type 0

@@ -2,6 +2,7 @@
 pub mod Tree
 pub mod Stored
 pub mod Built
+pub mod Sorting
 pub mod Turns
 pub mod Heads
 pub mod Log

@@ -1,9 +1,10 @@
 -- What a log tells: packets that queues gave, packets emitted, heads held, and which queue each packet came from.
-use Rattle.std.specs.Prelude.{Bool, ℕ, zero, suc, ◌+◌, nat_le, List, [], ◌∷◌, map, filter, reverse, Option, Some, None, option_and_then, if◌then◌else◌}
+use Rattle.std.specs.Prelude.{Bool, ℕ, zero, suc, ◌+◌, nat_le, List, [], ◌∷◌, map, filter, reverse, Option, Some, None, option_and_then, if◌then◌else◌, ◌==◌, false}
+use Rattle.std.specs.Option.{option_map_or}
 use Rattle.std.specs.List.{filter_map, flat_map, range_with_len}
 use Rattle.clk_packet.specs.declared.packet.Packet.{Packet}
 use Rattle.clk_sched.specs.declared.visit.Visit.{Visit}
-use Rattle.clk_sched.specs.Tree.{Row, end, leaf, node, Tree, PlacedScheduler, schedulers_of, root, width, nodes, is_number}
+use Rattle.clk_sched.specs.Tree.{Row, end, leaf, node, Tree, PlacedScheduler, schedulers_of, root, width, nodes}
 use Rattle.clk_sched.specs.Log.{visits_of, in_pull, asks}
 use Rattle.clk_sched.specs.Answers.{tree_queue}
 use Rattle.clk_sched.specs.Heads.{head_at}
@@ -15,7 +16,7 @@ emitted log = filter_map (λ (v : Visit). if v.passed then v.got else None) (vis
 
 -- whether a visit asked this queue
 abbrev pub asks_queue : Tree → ℕ → Visit → Bool
-asks_queue tree q v = is_number q (tree_queue tree v)
+asks_queue tree q v = option_map_or (λ other. other == q) (tree_queue tree v) false
 
 -- the packets that a queue gave, in order
 abbrev pub leaf_packets : Tree → ℕ → List Visit → List Packet

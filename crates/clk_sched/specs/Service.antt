@@ -1,16 +1,18 @@
 -- The shares that a DRRSched and a StrideSched give, and the rate that a Shaper keeps to, as laws over whole histories of a node, and over
 -- runs of a tree.
-use Rattle.std.specs.Prelude.{◌≡◌, ℕ, ◌+◌, ◌-◌, ◌*◌, ◌<◌, ◌≤◌, ◌==◌, ◌&&◌, List, [], ◌∷◌, ◌++◌, length, reverse, max, ⊤, IsSome, if◌then◌else◌}
+use Rattle.std.specs.Prelude.{◌≡◌, ℕ, ◌+◌, ◌-◌, ◌*◌, ◌<◌, ◌≤◌, ◌==◌, ◌&&◌, List, [], ◌∷◌, ◌++◌, length, reverse, max, ⊤, IsSome, if◌then◌else◌, false}
+use Rattle.std.specs.Option.{option_map_or}
 use Rattle.std.specs.List.{AllByRecursion}
+use Rattle.clk_packet.specs.declared.packet.Packet.{Packet}
 use Rattle.clk_packet.specs.declared.limits.TheConstants.{MAX_LENGTH}
 use Rattle.clk_sched.specs.declared.visit.Visit.{Visit}
 use Rattle.clk_packet.specs.Scheduler.{Scheduler, drr, stride, shaper}
-use Rattle.clk_sched.specs.Tree.{Tree, PlacedScheduler, schedulers_of, width, is_number}
+use Rattle.clk_sched.specs.Tree.{Tree, PlacedScheduler, schedulers_of, width}
 use Rattle.clk_sched.specs.Log.{pulls}
 use Rattle.clk_sched.specs.Run.{IsRun, own_turns}
 use Rattle.clk_sched.specs.Turns.{Turn, giver, all_visits}
 use Rattle.clk_sched.specs.DeficitRounds.{GoesByRounds}
-use Rattle.clk_sched.specs.Laws.Deficit.{IsDeficit, arrives, bytes_of, quantum_at}
+use Rattle.clk_sched.specs.Laws.Deficit.{IsDeficit, arrives, quantum_at}
 use Rattle.clk_sched.specs.Laws.Shaper.{packets_passed}
 use Rattle.clk_sched.specs.Laws.Stride.{stride_of, stride_at, pass_in, passes_of}
 
@@ -22,7 +24,7 @@ arrivals_in input earlier (v ∷ range) = (if v.input == input then arrives earl
 -- the bytes passed from an input in a range of visits
 abbrev pub bytes_in : ℕ → List Visit → ℕ
 bytes_in input [] = 0
-bytes_in input (v ∷ range) = (if (v.input == input) && v.passed then bytes_of v.got else 0) + bytes_in input range
+bytes_in input (v ∷ range) = (if (v.input == input) && v.passed then option_map_or (λ (p : Packet). p.length) v.got 0 else 0) + bytes_in input range
 
 -- each visit of the range to this input got a packet
 abbrev pub AlwaysGets : ℕ → List Visit → Type 0
@@ -51,7 +53,7 @@ largest_stride (t ∷ tickets) = max (stride_of t) (largest_stride tickets)
 -- how many packets an input gave in a range of pulls
 abbrev pub packets_given : ℕ → List Turn → ℕ
 packets_given input [] = 0
-packets_given input (t ∷ range) = (if is_number input (giver t.visits) then 1 else 0) + packets_given input range
+packets_given input (t ∷ range) = (if option_map_or (λ other. other == input) (giver t.visits) false then 1 else 0) + packets_given input range
 
 -- the pass of an input after these turns, the latest first
 abbrev pub pass_at : List ℕ → List Turn → ℕ → ℕ

@@ -1,5 +1,5 @@
 -- Trees of schedulers over queues, below a device that has one input.
-use Rattle.std.specs.Prelude.{ℕ, ◌+◌, ◌≤◌, ◌==◌, ◌&&◌, ◌++◌, Bool, false, List, [], ◌∷◌, ⊤, Option, Some, None, suc, max, if◌then◌else◌}
+use Rattle.std.specs.Prelude.{ℕ, ◌+◌, ◌≤◌, ◌==◌, ◌&&◌, ◌++◌, Bool, List, [], ◌∷◌, ⊤, Option, Some, None, suc, max, if◌then◌else◌}
 use Rattle.std.specs.Option.{option_or}
 use Rattle.clk_packet.specs.Lists.{are_distinct}
 use Rattle.clk_packet.specs.Scheduler.{Scheduler, HasArguments}
@@ -72,11 +72,6 @@ abbrev pub leaves : Row → List ℕ
 leaves end = []
 leaves (leaf q row) = q ∷ leaves row
 leaves (node class inputs row) = leaves inputs ++ leaves row
-
--- whether there is a number and it is this one
-abbrev pub is_number : ℕ → Option ℕ → Bool
-is_number n None = false
-is_number n (Some other) = other == n
 
 -- no queue stands twice in a tree
 abbrev pub leaves_distinct : Tree → Bool

@@ -1,5 +1,5 @@
 -- The turns of a scheduler, of which each law speaks: what it did in each pull in which it was pulled.
-use Rattle.std.specs.Prelude.{◌≡◌, ℕ, true, List, [], ◌∷◌, ◌++◌, reverse, is_some, Option, Some, None, MatchOption, ⊤, if◌then◌else◌}
+use Rattle.std.specs.Prelude.{◌≡◌, ℕ, true, List, [], ◌∷◌, reverse, is_some, Option, Some, None, MatchOption, ⊤, if◌then◌else◌}
 use Rattle.std.specs.List.{flat_map, AllByRecursion}
 use Rattle.clk_sched.specs.declared.visit.Visit.{Visit}
 
@@ -14,8 +14,7 @@ all_visits turns = flat_map (λ (t : Turn). t.visits) turns
 
 -- the visits of a node in its earlier turns, the latest first
 abbrev pub visits_before : List Turn → List Visit
-visits_before [] = []
-visits_before (t ∷ earlier) = reverse t.visits ++ visits_before earlier
+visits_before earlier = flat_map (λ (t : Turn). reverse t.visits) earlier
 
 -- the visits go to these inputs in this order, and end with the first that got a packet, or else with the last input
 abbrev pub UpToFirst : List ℕ → List Visit → Type 0

@@ -17,6 +17,7 @@ pub mod Ranks
 pub mod Quanta
 pub mod QueuesFrom
 pub mod Resting
+pub mod Rising
 pub mod Session
 pub mod Tokens
 pub mod Turning

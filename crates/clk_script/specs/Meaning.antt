@@ -1,5 +1,6 @@
 -- What the answer to a script is.
 use Rattle.std.specs.Prelude.{◌≡◌, ℕ, List, [], ◌++◌, length, map, zero, suc, nat_lt, Bool, if◌then◌else◌, Option, Some, None, IfSome, ⊤, codes, decimal}
+use Rattle.std.specs.Option.{option_map_or}
 use Rattle.std.specs.List.{flat_map}
 use Rattle.clk_packet.specs.declared.packet.Packet.{Packet}
 use Rattle.clk_packet.specs.declared.packet.Offered.{Offered}
@@ -45,8 +46,7 @@ outcome_text (Evicted front) = codes " accepted evicted " ++ name_text front
 
 -- `S#n L`, or `none`
 abbrev pub result_text : Option Packet → List ℕ
-result_text None = codes "none"
-result_text (Some p) = packet_text p
+result_text got = option_map_or packet_text got (codes "none")
 
 -- the number of the device in a pull's line, if there are several devices
 abbrev pub device_text : Bool → ℕ → List ℕ
@@ -72,8 +72,7 @@ event_text several (pulled device moment visits) = pull_text several device mome
 
 -- the line of a pull of a drain with this result; no line if it gave no packet
 abbrev pub given_text : Bool → ℕ → ℕ → Option Packet → List ℕ
-given_text several device moment None = []
-given_text several device moment (Some p) = pull_text several device moment (Some p)
+given_text several device moment got = option_map_or (λ p. pull_text several device moment (Some p)) got []
 
 -- the line of a pull of a drain; no line if it gave no packet
 abbrev pub closing_text : Bool → Event → List ℕ

@@ -1,6 +1,6 @@
 -- The lines of a script, and which fault it has (this project's own format).
 use Rattle.std.specs.Prelude.{ℕ, ◌+◌, List, [], ◌∷◌, length, map, filter, Bool, true, false, ◌==◌, ◌||◌, nat_lt, if◌then◌else◌, Option, Some, None, codes, slice_get}
-use Rattle.std.specs.Option.{option_or}
+use Rattle.std.specs.Option.{option_or, option_map_or}
 use Rattle.std.specs.List.{slice_split, filter_map, list_any}
 use Rattle.std.specs.Str.{bytes_eq}
 use Rattle.std.specs.Str.Lines.{lines}
@@ -22,32 +22,19 @@ is_blank byte = (byte == 32) || (byte == 9)
 abbrev pub fields : List ℕ → List (List ℕ)
 fields text = filter has_bytes (slice_split is_blank text)
 
--- a `send` of this sender and length, if both are in range
-abbrev pub send_of : Option ℕ → Option ℕ → ScriptLine
-send_of None length = line.Malformed
-send_of (Some sender) None = line.Malformed
-send_of (Some sender) (Some length) = line.Command (Send sender length)
-
--- a `pull` of this moment and device, if both are in range
-abbrev pub pull_of : Option ℕ → Option ℕ → ScriptLine
-pull_of None device = line.Malformed
-pull_of (Some moment) None = line.Malformed
-pull_of (Some moment) (Some device) = line.Command (Pull device moment)
-
--- a `drain` from this moment, if it is in range
-abbrev pub drain_of : Option ℕ → ScriptLine
-drain_of None = line.Malformed
-drain_of (Some moment) = line.Drain moment
+-- the line of a command with two numbers, if both are there
+abbrev pub line_with : (ℕ → ℕ → Command) → Option ℕ → Option ℕ → ScriptLine
+line_with command first second = option_map_or (λ m. option_map_or (λ n. line.Command (command m n)) second line.Malformed) first line.Malformed
 
 -- the line of the word `send` and these fields: a sender and a length
 abbrev pub sender_and_length : List (List ℕ) → ScriptLine
-sender_and_length (sender ∷ length ∷ []) = send_of (number_in 0 MAX_SENDER sender) (number_in 1 MAX_LENGTH length)
+sender_and_length (sender ∷ length ∷ []) = line_with Send (number_in 0 MAX_SENDER sender) (number_in 1 MAX_LENGTH length)
 sender_and_length arguments = line.Malformed
 
 -- the line of the word `pull` and these fields: a moment, and a device, which is device 0 if none is named
 abbrev pub moment_and_device : List (List ℕ) → ScriptLine
-moment_and_device (moment ∷ []) = pull_of (number_in 0 MAX_MOMENT moment) (Some 0)
-moment_and_device (moment ∷ device ∷ []) = pull_of (number_in 0 MAX_MOMENT moment) (number_in 0 MAX_DEVICE device)
+moment_and_device (moment ∷ []) = line_with (λ m d. Pull d m) (number_in 0 MAX_MOMENT moment) (Some 0)
+moment_and_device (moment ∷ device ∷ []) = line_with (λ m d. Pull d m) (number_in 0 MAX_MOMENT moment) (number_in 0 MAX_DEVICE device)
 moment_and_device arguments = line.Malformed
 
 -- the moment of the word `drain` and these fields, if they are one moment
@@ -61,7 +48,7 @@ line_of_fields [] = line.Blank
 line_of_fields (word ∷ arguments) =
     if bytes_eq word (codes "send") then sender_and_length arguments
     else if bytes_eq word (codes "pull") then moment_and_device arguments
-    else if bytes_eq word (codes "drain") then drain_of (only_moment arguments)
+    else if bytes_eq word (codes "drain") then option_map_or line.Drain (only_moment arguments) line.Malformed
     else line.Malformed
 
 -- the line of a text

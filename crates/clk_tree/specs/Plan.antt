@@ -1,8 +1,7 @@
 -- The plan that a text denotes (this project's own choice; Click's connections).
-use Rattle.std.specs.Prelude.{◌≡◌, ℕ, ◌+◌, List, [], ◌∷◌, length, map, filter, ◌==◌, ◌&&◌, Bool, if◌then◌else◌, Option}
-use Rattle.std.specs.Option.{option_map}
+use Rattle.std.specs.Prelude.{◌≡◌, ℕ, ◌+◌, List, [], ◌∷◌, length, map, filter, ◌==◌, ◌&&◌, Bool, if◌then◌else◌, Option, false}
+use Rattle.std.specs.Option.{option_map, option_map_or}
 use Rattle.std.specs.List.{filter_map, range_with_len}
-use Rattle.clk_sched.specs.Tree.{is_number}
 use Rattle.clk_syntax.specs.declared.naming.class.Role.{Role}
 use Rattle.clk_syntax.specs.declared.naming.class.Role.TheVariants as role
 use Rattle.clk_syntax.specs.declared.node.Link.{Link}
@@ -27,7 +26,7 @@ source_at (c ∷ more) i input = if (c.to == i) && (c.input == input) then c.fro
 
 -- whether the second of two elements is connected to the first
 abbrev pub is_connected : List Link → ℕ → ℕ → Bool
-is_connected links i j = is_number i (target j links)
+is_connected links i j = option_map_or (λ other. other == i) (target j links) false
 
 -- the places of the elements connected to an element, of which there are so many in all
 abbrev pub sources_of : ℕ → List Link → ℕ → Role → List ℕ

@@ -1,9 +1,11 @@
 -- The senders and the queues of a plan (their numbers as this project chose them).
 use Rattle.std.specs.Prelude.{◌≡◌, ℕ, ◌+◌, ◌<◌, ◌≤◌, List, [], ◌∷◌, map, take, filter, nat_lt, ◌==◌, Bool, false, if◌then◌else◌, Option, Some, None}
+use Rattle.std.specs.Option.{option_map}
 use Rattle.std.specs.List.{filter_map, enumerate_from}
 use Rattle.clk_packet.specs.declared.limits.TheConstants.{MAX_SENDER, MAX_CAPACITY}
 use Rattle.clk_packet.specs.declared.packet.Kind.{Kind}
 use Rattle.clk_packet.specs.Lists.{stands_in}
+use Rattle.clk_sched.specs.Sorting.{sorted}
 use Rattle.clk_syntax.specs.Classes.{Class, sender, queue}
 use Rattle.clk_tree.specs.declared.plan.parts.QueueSpec.{QueueSpec}
 use Rattle.clk_tree.specs.declared.plan.parts.SenderSpec.{SenderSpec}
@@ -22,19 +24,10 @@ abbrev pub sender_of : List Planned → ℕ → Class → Option SenderSpec
 sender_of plan i (sender n) = Some (record { number = n; queue = queue_fed plan i })
 sender_of plan i class = None
 
--- a sender put into a list before the first of a greater number
-abbrev pub placed : SenderSpec → List SenderSpec → List SenderSpec
-placed s [] = s ∷ []
-placed s (t ∷ more) = if nat_lt s.number t.number then s ∷ t ∷ more else t ∷ placed s more
-
--- senders by rising number
-abbrev pub by_number : List SenderSpec → List SenderSpec
-by_number [] = []
-by_number (s ∷ more) = placed s (by_number more)
-
 -- the senders of a plan, by rising number
 abbrev pub senders_of : List Planned → List SenderSpec
-senders_of plan = by_number (filter_map (λ (e : ℕ × Planned). sender_of plan e.0 e.1.class) (enumerate_from 0 plan))
+senders_of plan =
+    sorted (λ (s t : SenderSpec). nat_lt s.number t.number) (filter_map (λ (e : ℕ × Planned). sender_of plan e.0 e.1.class) (enumerate_from 0 plan))
 
 -- the number of a sender
 abbrev pub number_of : SenderSpec → ℕ
@@ -54,8 +47,28 @@ name_of_sender n (e ∷ more) = if is_sender n e.class then e.name else name_of_
 abbrev pub sender_names : List Planned → List (List ℕ)
 sender_names plan = map (λ (s : SenderSpec). name_of_sender s.number plan) (senders_of plan)
 
--- a queue of a plan: its kind, how many packets it holds at most, the numbers of its senders, and the number of the device at the end of
--- its path
+-- a queue that senders share: its number, by which it is a leaf of a tree, its kind, how many packets it holds at most, and who sends to it
+pub record SharedQueue : Type 0 where
+  pub leaf : ℕ
+  pub kind : Kind
+  pub capacity : ℕ
+  pub senders : List ℕ
+
+-- the queue that stands at a place, if the element there is one
+abbrev pub shared_queue : List Planned → ℕ → Class → Option SharedQueue
+shared_queue plan i (queue kind capacity) = Some (record {
+  leaf = queue_count (take i plan);
+  kind = kind;
+  capacity = capacity;
+  senders = map number_of (filter (λ (s : SenderSpec). s.queue == queue_count (take i plan)) (senders_of plan));
+})
+shared_queue plan i class = None
+
+-- the queues of a plan, by their numbers: in order of declaration
+abbrev pub shared_queues : List Planned → List SharedQueue
+shared_queues plan = filter_map (λ (e : ℕ × Planned). shared_queue plan e.0 e.1.class) (enumerate_from 0 plan)
+
+-- a queue of a plan with the number of the device at the end of its path: its place among all queues is its number
 pub record Queued : Type 0 where
   pub kind : Kind
   pub capacity : ℕ
@@ -65,21 +78,16 @@ pub record Queued : Type 0 where
 abbrev pub queued : QueueSpec → Queued
 queued q = record { kind = q.kind; capacity = q.capacity; senders = q.senders.items; device = q.device }
 
--- the senders among these that send to the queue of this number
-abbrev pub senders_to : List SenderSpec → ℕ → List ℕ
-senders_to senders q = map number_of (filter (λ (s : SenderSpec). s.queue == q) senders)
-
--- the queue that stands at a place, if the element there is one
+-- the queue that stands at a place, if the element there is one, with its device
 abbrev pub queue_of : List Planned → ℕ → Class → Option Queued
-queue_of plan i (queue kind capacity) = Some (record {
-  kind = kind;
-  capacity = capacity;
-  senders = senders_to (senders_of plan) (queue_count (take i plan));
-  device = device_of plan i;
-})
-queue_of plan i class = None
+queue_of plan i class =
+    option_map (λ (q : SharedQueue). record { kind = q.kind; capacity = q.capacity; senders = q.senders; device = device_of plan i }) (shared_queue plan i class)
 
--- the queues of a plan, by their numbers: in order of declaration
+-- such a queue without its device, and with its number
+abbrev pub shared_at : ℕ → Queued → SharedQueue
+shared_at leaf q = record { leaf = leaf; kind = q.kind; capacity = q.capacity; senders = q.senders }
+
+-- the queues of a plan, each with its device
 abbrev pub queues_of : List Planned → List Queued
 queues_of plan = filter_map (λ (e : ℕ × Planned). queue_of plan e.0 e.1.class) (enumerate_from 0 plan)
 

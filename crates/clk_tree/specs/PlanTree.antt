@@ -1,5 +1,6 @@
 -- The trees of a plan, one for each device (node and leaf numbers as this project chose them).
 use Rattle.std.specs.Prelude.{◌≡◌, ℕ, ◌+◌, List, [], ◌∷◌, length, take, Bool, true, false, if◌then◌else◌, Option, Some, None, option_and_then, ⊤, slice_get, get_or}
+use Rattle.std.specs.Option.{option_map_or}
 use Rattle.clk_sched.specs.Tree.{Row, end, leaf, node, Tree, root}
 use Rattle.clk_packet.specs.Scheduler.{Scheduler, over_inputs}
 use Rattle.clk_syntax.specs.Classes.{Class, queue, scheduler, device}
@@ -34,17 +35,12 @@ abbrev pub IsNode : Scheduler → Option Planned → Type 0
 IsNode class None = ⊥
 IsNode class (Some e) = scheduler_over e.class (length e.sources) ≡ Some class
 
--- what is connected to an element, if there is one
-abbrev pub sources_at : Option Planned → List ℕ
-sources_at None = []
-sources_at (Some e) = e.sources
-
 -- What stands at inputs to which these elements are connected: at each a queue, by its number, or a scheduler over its own inputs.
 abbrev pub IsRowOf : List Planned → List ℕ → Row → Type 0
 IsRowOf plan [] end = ⊤
 IsRowOf plan (s ∷ more) (leaf q row) = (queue_number plan s ≡ Some q) × IsRowOf plan more row
 IsRowOf plan (s ∷ more) (node class inputs row) =
-    IsNode class (slice_get plan s) × IsRowOf plan (sources_at (slice_get plan s)) inputs × IsRowOf plan more row
+    IsNode class (slice_get plan s) × IsRowOf plan (option_map_or (λ e. e.sources) (slice_get plan s) []) inputs × IsRowOf plan more row
 IsRowOf plan sources row = ⊥
 
 -- what is connected to each device: devices are numbered from 0 in order of declaration
@@ -56,10 +52,6 @@ device_sources (e ∷ more) = if is_device e.class then e.sources ∷ device_sou
 abbrev pub device_count : List Planned → ℕ
 device_count plan = length (device_sources plan)
 
--- what is connected to the device of this number
-abbrev pub sources_of_device : List Planned → ℕ → List ℕ
-sources_of_device plan d = get_or (device_sources plan) d []
-
 -- the tree of the device of this number in a plan: it stands at the device's input
 abbrev pub IsTreeOf : List Planned → ℕ → Tree → Type 0
-IsTreeOf plan d t = IsRowOf plan (sources_of_device plan d) (root t)
+IsTreeOf plan d t = IsRowOf plan (get_or (device_sources plan) d []) (root t)

@@ -1,4 +1,5 @@
 -- What the code's own parts say to one another: no contract of a public call stands on it.
+pub mod ByNumber
 pub mod FromPlace
 pub mod Kept
 pub mod PlanTree

@@ -16,13 +16,14 @@ use Rattle.clk_sched.specs.Results.{emitted, leaf_packets}
 use Rattle.clk_sched.specs.Run.{IsRun}
 use Rattle.clk_sched.specs.Session.{Progress}
 use Rattle.clk_drain.specs.Line.{LineLists, seats_of, seats_in, senders_at, AreLinesOf, HaveOwnSenders}
-use Rattle.clk_drain.specs.Outcome.{SharedQueue, Device, senders_to, IsTallied, tally_for, IsQueueSettled, IsSettledOutcome}
+use Rattle.clk_drain.specs.Outcome.{Device, senders_to, tally_for, IsQueueSettled, IsSettledOutcome}
+use Rattle.clk_tree.specs.PlanParts.{SharedQueue}
 use Rattle.clk_drain.specs.Closing.{queue_of_line, tallies_in, AreInOrder, AreOffered, HasSent}
 use Rattle.clk_drain.specs.Parts.{HasAllTaken}
 use Rattle.clk_drain.specs.inside.Parts.{IsSettledLine}
 use Rattle.clk_drain.proofs.Plans.Apart.{apart-parts}
 use Rattle.clk_drain.proofs.Leaves.Seated.{joined}
-use Rattle.clk_drain.proofs.Drains.Tallies.{tellers, in-order-rise, in-order-found, in-order-all, tellers-in, AreFound, each-found, none-filtered, no-evicted, accepted-same, lost-some}
+use Rattle.clk_drain.proofs.Drains.Tallies.{IsTallied, tellers, in-order-rise, in-order-found, in-order-all, tellers-in, AreFound, each-found, none-filtered, no-evicted, accepted-same, lost-some}
 use Rattle.clk_sched.proofs.Callers.Lists.{all-split, all-weaker}
 use Rattle.clk_drain.proofs.Lists.{all-named}
 

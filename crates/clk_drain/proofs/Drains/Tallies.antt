@@ -11,15 +11,21 @@ use Rattle.std.proofs.lemmas.List.Sorted.{All-permutation, IsPermutation-sym, su
 use Rattle.std.proofs.lemmas.List.Sums.{sum_by-cons}
 use Rattle.clk_packet.specs.declared.packet.Packet.{Packet}
 use Rattle.clk_packet.specs.declared.tally.Tally.{Tally}
-use Rattle.clk_packet.specs.Lists.{stands_in, are_distinct, AreRising}
+use Rattle.clk_packet.specs.Lists.{stands_in, are_distinct, of_sender, AreRising}
+use Rattle.clk_packet.specs.Dealt.{IsTallyOf}
+use Rattle.clk_tree.specs.PlanParts.{SharedQueue}
 use Rattle.clk_ruled.specs.PacketLists.{has_packet}
 use Rattle.clk_ruled.specs.Queue.{SeatLists}
 use Rattle.clk_ruled.specs.Settle.{all_evicted, accepted_count, lost_count, tally_of}
 use Rattle.clk_drain.specs.Line.{LineLists, seats_of, seats_in, senders_at}
-use Rattle.clk_drain.specs.Outcome.{tally_for, in_all}
+use Rattle.clk_drain.specs.Outcome.{Device, tally_for, in_all}
 use Rattle.clk_drain.specs.Closing.{tallies_of, tallies_in, AreInOrder}
 use Rattle.clk_sched.proofs.Callers.Lists.{all-split, all-weaker}
 use Rattle.clk_drain.proofs.Lists.{all-unmap}
+
+-- This tally accounts for all packets that its sender sent to a queue of a device.
+abbrev pub IsTallied : (ℕ → List Packet) → Device → SharedQueue → Tally → Type 0
+IsTallied sent d q t = IsTallyOf (sent t.sender) (of_sender t.sender d.emitted) q.kind t
 
 -- the senders of tallies
 abbrev pub tellers : List Tally → List ℕ

@@ -1,5 +1,5 @@
 -- What the lists of a run that failed with fault 21 come to, in counts.
-use Rattle.std.proofs.Common.{◌≡◌, ℕ, zero, suc, ◌+◌, ◌<◌, ◌==◌, Bool, true, false, List, [], ◌∷◌, ◌++◌, length, map, sum_by, Option, Some, None, MatchOption, slice_get, refl, sym, ap, ◌∙◌, subst, inl, arith, if◌then◌else◌, rules}
+use Rattle.std.proofs.Common.{◌≡◌, ℕ, zero, suc, ◌+◌, ◌<◌, ◌==◌, Bool, true, false, List, [], ◌∷◌, ◌++◌, length, map, sum_by, Option, Some, None, MatchOption, option_map, slice_get, refl, sym, ap, ◌∙◌, subst, inl, arith, if◌then◌else◌, rules}
 use Rattle.std.proofs.lemmas.List.{map-append}
 use Rattle.std.proofs.lemmas.List.Sums.{sum_by-cons}
 use Rattle.std.specs.List.{flat_map, range_with_len, AllByRecursion}
@@ -13,15 +13,15 @@ use Rattle.clk_ruled.specs.Queue.{SeatLists, IsSharedOut}
 use Rattle.clk_ruled.specs.Settle.{accepted_of, evicted_of, accepted_count, lost_count}
 use Rattle.clk_tree.specs.Plan.{Planned}
 use Rattle.clk_tree.specs.PlanTree.{device_count}
-use Rattle.clk_tree.specs.PlanParts.{Queued, queues_of}
-use Rattle.clk_gate.specs.Known.{senders_in, AreKnown}
+use Rattle.clk_tree.specs.PlanParts.{Queued, queues_of, SharedQueue, shared_at}
+use Rattle.clk_tree.proofs.Callers.SharedQueues.{numbered-at}
+use Rattle.clk_gate.specs.Known.{senders_in, first_unknown}
 use Rattle.clk_drain.specs.Closing.{HasSent}
 use Rattle.clk_drain.specs.Laws.{HasOffered, IsUnsettledRun}
 use Rattle.clk_drain.specs.Line.{senders_at}
 use Rattle.clk_drain.specs.Lost.{SeatedQueue}
-use Rattle.clk_drain.specs.Opening.{shared_at}
-use Rattle.clk_drain.specs.Outcome.{SharedQueue}
-use Rattle.clk_drain.specs.Run.{queues_at, HasLostEarly, IsFaultOfRun}
+use Rattle.clk_drain.specs.Run.{HasLostEarly, IsFaultOfRun}
+use Rattle.clk_drain.specs.Opening.{queues_at}
 use Rattle.clk_drain.proofs.Plans.Apart.{apart-parts}
 use Rattle.clk_drain.proofs.Drains.Settling.{own-list}
 use Rattle.clk_packet.proofs.Callers.Lists.{all-append, all-both}
@@ -99,8 +99,8 @@ some-accepted (l ∷ seats) s p among = by_test (some-accepted seats s p) (l.sen
     by_test later false h = let rest = later h in omega (arith, rest)
 
 -- Where lists of what the queues did agree with fault 21, its counts are those of a queue that lost packets early.
-pub lost-early : (plan : List Planned) (traces : List (List Packet)) (fault : Fault) → are_distinct (flat_map (λ (k : Queued). k.senders) (queues_of plan)) ≡ true → AreKnown (senders_in plan) traces → IsUnsettledRun plan traces fault → IsFaultOfRun plan traces fault
-lost-early plan traces fault apart known u = subst (IsFaultOfRun plan traces) (sym u.names.fault_is) (known, by_queue (slice_get (queues_of plan) queue.leaf) refl (named plan traces fault u))
+pub lost-early : (plan : List Planned) (traces : List (List Packet)) (fault : Fault) → are_distinct (flat_map (λ (k : Queued). k.senders) (queues_of plan)) ≡ true → first_unknown (senders_in plan) traces ≡ None → IsUnsettledRun plan traces fault → IsFaultOfRun plan traces fault
+lost-early plan traces fault apart known u = subst (IsFaultOfRun plan traces) (sym u.names.fault_is) (known, subst (λ o. MatchOption o ⊥ (λ q. HasLostEarly q (sum_by (λ s. length (sent_by traces s)) q.senders) (accepted_count seats) queue.capacity)) (sym (numbered-at plan queue.leaf)) (by_queue (slice_get (queues_of plan) queue.leaf) refl (named plan traces fault u)))
   where
     queue : SharedQueue
     queue = u.names.first.queue
@@ -112,7 +112,7 @@ lost-early plan traces fault apart known u = subst (IsFaultOfRun plan traces) (s
     offered = (all-split (HasOffered traces) u.names.earlier (u.names.first ∷ u.names.later) (subst (AllByRecursion (HasOffered traces)) u.names.all u.offered)).1.0
 
     -- the counts of the queue, once it is known which of the plan's it is
-    counts : (k : Queued) → are_distinct k.senders ≡ true → shared_at queue.leaf k ≡ queue → HasLostEarly k (sent_in_all (sent_by traces) k.senders) (accepted_count seats) queue.capacity
+    counts : (k : Queued) → are_distinct k.senders ≡ true → shared_at queue.leaf k ≡ queue → HasLostEarly (shared_at queue.leaf k) (sent_in_all (sent_by traces) k.senders) (accepted_count seats) queue.capacity
     counts k alone is = record { capacity_is = sym (ap (λ (q : SharedQueue). q.capacity) is); below = u.names.below.below; refused = refuses; evicted = evicts }
       where
         senders : senders_at seats ≡ k.senders
@@ -138,7 +138,8 @@ lost-early plan traces fault apart known u = subst (IsFaultOfRun plan traces) (s
               subst (λ ns. accepted_count seats ≡ sent_in_all (sent_by traces) ns) senders (counts-front (sent_by traces) seats offered.sent none),
             )
 
-    by_queue : (o : Option Queued) → slice_get (queues_of plan) queue.leaf ≡ o → MatchOption o ⊥ (λ k. shared_at queue.leaf k ≡ queue) → MatchOption o ⊥ (λ k. HasLostEarly k (sum_by (λ s. length (sent_by traces s)) k.senders) (accepted_count seats) queue.capacity)
+    by_queue : (o : Option Queued) → slice_get (queues_of plan) queue.leaf ≡ o → MatchOption o ⊥ (λ k. shared_at queue.leaf k ≡ queue)
+        → MatchOption (option_map (shared_at queue.leaf) o) ⊥ (λ q. HasLostEarly q (sum_by (λ s. length (sent_by traces s)) q.senders) (accepted_count seats) queue.capacity)
     by_queue None at none = none
     by_queue (Some k) at is =
-        subst (λ n. HasLostEarly k n (accepted_count seats) queue.capacity) (sym (sent-sum (sent_by traces) k.senders)) (counts k (one-apart (queues_of plan) queue.leaf k apart at) is)
+        subst (λ n. HasLostEarly (shared_at queue.leaf k) n (accepted_count seats) queue.capacity) (sym (sent-sum (sent_by traces) k.senders)) (counts k (one-apart (queues_of plan) queue.leaf k apart at) is)

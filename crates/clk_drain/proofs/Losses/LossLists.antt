@@ -1,5 +1,5 @@
 -- Lists of what the queues of a plan did that agree with the counts of a fault 21.
-use Rattle.std.proofs.Common.{◌≡◌, ℕ, zero, suc, ◌+◌, ◌-◌, ◌<◌, ◌≤◌, ◌==◌, inl, inr, ◌⊎◌, ⊎_elim, Bool, true, false, List, [], ◌∷◌, ◌++◌, length, map, sum_by, take, drop, Option, Some, None, MatchOption, slice_get, refl, sym, ap, ◌∙◌, subst, arith, if◌then◌else◌, rules}
+use Rattle.std.proofs.Common.{◌≡◌, ℕ, zero, suc, ◌+◌, ◌-◌, ◌<◌, ◌≤◌, ◌==◌, inl, inr, ◌⊎◌, ⊎_elim, Bool, true, false, List, [], ◌∷◌, ◌++◌, length, map, sum_by, take, drop, Option, Some, None, MatchOption, slice_get, refl, sym, ap, ◌∙◌, subst, arith, if◌then◌else◌, rules, option_map}
 use Rattle.std.proofs.lemmas.List.{map-append, length-take}
 use Rattle.std.specs.List.{flat_map, range_with_len, AllByRecursion}
 use Rattle.atomic_table.specs.Seated.{TableId}
@@ -15,18 +15,18 @@ use Rattle.clk_ruled.specs.Queue.{SeatLists, AreNumbered, IsSharedOut, setup_of}
 use Rattle.clk_ruled.specs.Settle.{accepted_of, evicted_of, accepted_count, lost_count, HasLostBelow}
 use Rattle.clk_tree.specs.Plan.{Planned}
 use Rattle.clk_tree.specs.PlanTree.{device_count}
-use Rattle.clk_tree.specs.PlanParts.{Queued, queues_of}
+use Rattle.clk_tree.specs.PlanParts.{Queued, queues_of, SharedQueue, shared_at}
 use Rattle.clk_drain.specs.Closing.{HasSent}
 use Rattle.clk_drain.specs.Laws.{queues_in_order, HasOffered, IsUnsettledRun, LossesHaveLists}
 use Rattle.clk_drain.specs.Line.{senders_at}
 use Rattle.clk_drain.specs.Lost.{SeatedQueue, HasReached}
-use Rattle.clk_drain.specs.Opening.{shared_at}
-use Rattle.clk_drain.specs.Outcome.{SharedQueue}
-use Rattle.clk_drain.specs.Run.{queues_at, HasLostEarly}
+use Rattle.clk_drain.specs.Run.{HasLostEarly}
+use Rattle.clk_drain.specs.Opening.{queues_at}
 use Rattle.clk_drain.proofs.Losses.LossCounts.{queue_in, one-apart, sent_in_all, sent-sum, counts-tail, counts-front}
 use Rattle.clk_drain.proofs.Losses.LossAccounts.{all_accepted, AreOwn, AreAllOut, numbered-take, dealt-at, accepted-all, tail-account, front-account}
 use Rattle.clk_packet.proofs.Callers.Lists.{all-append}
 use Rattle.clk_drain.proofs.Lists.{all-there, in-left, in-right}
+use Rattle.clk_tree.proofs.Callers.SharedQueues.{numbered-at}
 
 -- the seat of a sender, of whose packets these were accepted, refused and evicted
 abbrev seat_with : TableId → QueueSetup → List Packet → ℕ → List Packet → List Packet → List Packet → SeatLists
@@ -237,12 +237,13 @@ split x (y ∷ xs) (inr later) = let rest = split x xs later in record { earlier
 
 -- Whatever counts fault 21 has, there are lists.
 pub losses-have-lists : (plan : List Planned) (traces : List (List Packet)) → ((s : ℕ) → AreNumbered s 0 (sent_by traces s)) → are_distinct (flat_map (λ (k : Queued). k.senders) (queues_of plan)) ≡ true → AllByRecursion (λ (k : Queued). k.device < device_count plan) (queues_of plan) → LossesHaveLists plan traces
-losses-have-lists plan traces numbered apart within leaf accepted capacity fault id = by_queue (slice_get (queues_of plan) leaf) refl fault.1
+losses-have-lists plan traces numbered apart within leaf accepted capacity fault id =
+    by_queue (slice_get (queues_of plan) leaf) refl (subst (λ o. MatchOption o ⊥ (λ q. HasLostEarly q (sum_by (λ s. length (sent_by traces s)) q.senders) accepted capacity)) (numbered-at plan leaf) fault.1)
   where
-    by_queue : (o : Option Queued) → slice_get (queues_of plan) leaf ≡ o → MatchOption o ⊥ (λ k. HasLostEarly k (sum_by (λ s. length (sent_by traces s)) k.senders) accepted capacity) → IsUnsettledRun plan traces (Unsettled leaf accepted capacity)
+    by_queue : (o : Option Queued) → slice_get (queues_of plan) leaf ≡ o → MatchOption (option_map (shared_at leaf) o) ⊥ (λ q. HasLostEarly q (sum_by (λ s. length (sent_by traces s)) q.senders) accepted capacity) → IsUnsettledRun plan traces (Unsettled leaf accepted capacity)
     by_queue None at h = absurd h
     by_queue (Some k) at early_by_sum =
-        let h = subst (λ n. HasLostEarly k n accepted capacity) (sent-sum (sent_by traces) k.senders) early_by_sum in
+        let h = subst (λ n. HasLostEarly (shared_at leaf k) n accepted capacity) (sent-sum (sent_by traces) k.senders) early_by_sum in
         let queue : SharedQueue = shared_at leaf k in
         let among = in-range (λ device. queues_at device 0 (queues_of plan)) queue 0 (device_count plan) k.device (subst (λ n. In (shared_at n k) (queues_at k.device 0 (queues_of plan))) (omega arith) (in-device k.device 0 leaf (queues_of plan) k at refl)) (omega arith) (let lt = all-there (λ (q : Queued). q.device < device_count plan) (queues_of plan) leaf k within at in omega (arith, lt)) in
         let parts = split queue (queues_in_order plan) among in

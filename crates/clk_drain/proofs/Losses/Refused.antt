@@ -1,5 +1,5 @@
 -- Why a run fails.
-use Rattle.std.proofs.Common.{◌≡◌, ℕ, ◌+◌, true, ⊎_elim, List, [], ◌∷◌, ◌++◌, length, map, suc, refl, sym, ap, ◌∙◌, subst, arith, Vec, rules}
+use Rattle.std.proofs.Common.{◌≡◌, ℕ, ◌+◌, true, ⊎_elim, List, [], ◌∷◌, ◌++◌, length, map, suc, refl, sym, ap, ◌∙◌, subst, arith, Vec, rules, None}
 use Rattle.std.proofs.lemmas.Grind.{common_steps}
 use Rattle.std.proofs.lemmas.Bool.Decides.{nat_tests}
 use Rattle.std.specs.declared.alloc.Global.{Global}
@@ -12,16 +12,15 @@ use Rattle.clk_packet.specs.Trace.{sent_by}
 use Rattle.clk_ruled.specs.Queue.{SeatLists}
 use Rattle.clk_tree.specs.Plan.{Planned}
 use Rattle.clk_tree.specs.PlanTree.{device_count}
-use Rattle.clk_tree.specs.PlanParts.{Queued, queues_of}
+use Rattle.clk_tree.specs.PlanParts.{Queued, queues_of, SharedQueue}
 use Rattle.clk_drain.specs.declared.running.opening.LeafQueue.{LeafQueue}
 use Rattle.clk_drain.specs.Line.{LineLists, seats_of, seats_in}
-use Rattle.clk_drain.specs.Outcome.{SharedQueue}
 use Rattle.clk_drain.specs.Closing.{HasSent, queue_of_line, seated}
 use Rattle.clk_drain.specs.Lost.{SeatedQueue}
 use Rattle.clk_drain.specs.inside.Threads.{Terms, EndLists, Feed}
 use Rattle.clk_drain.specs.inside.Handed.{seated_in, IsFaultOfClosing}
 use Rattle.clk_drain.specs.inside.Devices.{AreOpenFrom}
-use Rattle.clk_gate.specs.Known.{senders_in, AreKnown}
+use Rattle.clk_gate.specs.Known.{senders_in, first_unknown}
 use Rattle.clk_drain.specs.Laws.{queues_in_order, HasOffered}
 use Rattle.clk_drain.specs.Run.{IsFaultOfRun}
 use Rattle.clk_drain.proofs.Threads.Joining.{AreJoinedFeeds}
@@ -69,7 +68,7 @@ feeds-offered terms (shared ∷ all) (e ∷ ends) (f ∷ feeds) h = search (rule
 feeds-offered terms all ends feeds h = absurd h
 
 -- A device that isn't closed.
-pub unclosed : (plan : List Planned) (terms : Terms) (queues : List (Vec LeafQueue Global)) (seats : List (Vec (Vec SeatLists Global) Global)) (ends : List EndLists) (feeds : List Feed) (fault : Fault) → AreKnown (senders_in plan) terms.traces
+pub unclosed : (plan : List Planned) (terms : Terms) (queues : List (Vec LeafQueue Global)) (seats : List (Vec (Vec SeatLists Global) Global)) (ends : List EndLists) (feeds : List Feed) (fault : Fault) → first_unknown (senders_in plan) terms.traces ≡ None
     → are_distinct (flat_map (λ (q : Queued). q.senders) (queues_of plan)) ≡ true → AreOpenFrom plan terms.traces 0 (device_count plan) queues seats ends
     → AreJoinedFeeds terms (queues_by_device (queues_of plan) 0 (length ends)) ends feeds → IsFaultOfClosing feeds fault → IsFaultOfRun plan terms.traces fault
 unclosed plan terms queues seats ends feeds fault known apart opened joined o =

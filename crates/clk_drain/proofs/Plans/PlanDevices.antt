@@ -1,23 +1,25 @@
 -- The devices of a plan by number: what was opened for each, what each came to, and that no sender sends to two.
-use Rattle.std.proofs.Common.{◌≡◌, ℕ, zero, suc, ◌+◌, ◌==◌, true, List, [], ◌∷◌, ◌++◌, length, map, filter, refl, sym, ◌∙◌, subst, Vec, rules, arith}
+use Rattle.std.proofs.Common.{◌≡◌, ℕ, zero, suc, ◌+◌, ◌==◌, true, List, [], ◌∷◌, ◌++◌, length, map, filter, refl, sym, ap, ◌∙◌, subst, Vec, rules, arith}
 use Rattle.std.specs.declared.alloc.Global.{Global}
 use Rattle.std.specs.List.{flat_map, range_with_len, AllByRecursion}
 use Rattle.clk_packet.specs.declared.packet.Packet.{Packet}
-use Rattle.clk_packet.specs.Lists.{are_distinct}
+use Rattle.clk_packet.specs.Lists.{are_distinct, stands_in}
 use Rattle.clk_ruled.specs.Queue.{SeatLists}
+use Rattle.clk_sched.specs.Tree.{Tree, root, leaves}
 use Rattle.clk_tree.specs.Plan.{Planned}
 use Rattle.clk_tree.specs.PlanTree.{device_count, IsTreeOf}
-use Rattle.clk_tree.specs.PlanParts.{Queued, queues_of}
+use Rattle.clk_tree.specs.PlanParts.{Queued, queues_of, SharedQueue}
 use Rattle.clk_drain.specs.declared.running.opening.LeafQueue.{LeafQueue}
-use Rattle.clk_drain.specs.Outcome.{SharedQueue, Device}
+use Rattle.clk_drain.specs.Outcome.{Device}
 use Rattle.clk_drain.specs.Moments.{HasMoments}
 use Rattle.clk_drain.specs.inside.Threads.{Terms, EndLists, Feed}
 use Rattle.clk_drain.specs.inside.Handed.{AreClosedDevices}
-use Rattle.clk_drain.specs.Run.{queues_at, AreDevicesFrom}
+use Rattle.clk_drain.proofs.Plans.Numbered.{AreDevicesFrom}
+use Rattle.clk_drain.specs.Opening.{queues_at}
 use Rattle.clk_drain.specs.inside.Devices.{AreOpenFrom}
 use Rattle.clk_drain.proofs.Threads.Joining.{AreAllOpenAs, AreJoinedFeeds, senders_over}
 use Rattle.clk_drain.proofs.Plans.PlanSenders.{apart-by-kind}
-use Rattle.clk_drain.proofs.Plans.QueuesAt.{senders-at}
+use Rattle.clk_drain.proofs.Plans.QueuesAt.{stands-at, senders-at, by-leaves}
 
 -- the queues of each of so many devices, from a number on
 abbrev pub queues_by_device : List Queued → ℕ → ℕ → List (List SharedQueue)
@@ -50,7 +52,8 @@ devices-from plan terms device (q ∷ queues) (s ∷ seats) (e ∷ ends) (f ∷ 
 devices-from plan terms device (q ∷ queues) (s ∷ seats) (e ∷ ends) (f ∷ feeds) (d ∷ devices) h joined closed = (
   record {
     tree = subst (IsTreeOf plan device) (sym (closed.0.tree ∙ joined.0.tree_is)) h.0.tree;
-    queues = closed.0.queues ∙ joined.0.queues_are;
+    queues = closed.0.queues ∙ joined.0.queues_are
+        ∙ sym (by-leaves plan device d.tree (λ q. ap (λ (t : Tree). stands_in q (leaves (root t))) (closed.0.tree ∙ joined.0.tree_is) ∙ h.0.leaves_are q ∙ stands-at device q (queues_of plan)));
   },
   devices-from plan terms (suc device) queues seats ends feeds devices h.1
       (let next : device + 1 ≡ suc device = omega arith in subst (λ n. AreJoinedFeeds terms (queues_by_device (queues_of plan) n (length ends)) ends feeds) next joined.1)

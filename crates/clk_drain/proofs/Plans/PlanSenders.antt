@@ -8,8 +8,8 @@ use Rattle.clk_packet.specs.Lists.{stands_in, are_distinct, AreRising}
 use Rattle.clk_tree.specs.declared.plan.parts.SenderSpec.{SenderSpec}
 use Rattle.clk_tree.specs.Plan.{Planned}
 use Rattle.clk_tree.specs.PlanTree.{is_queue, queue_count}
-use Rattle.clk_tree.specs.PlanParts.{Queued, number_of, senders_of, senders_to, queues_of}
-use Rattle.clk_tree.specs.inside.FromPlace.{queues_from}
+use Rattle.clk_tree.specs.PlanParts.{Queued, number_of, senders_of, queues_of}
+use Rattle.clk_tree.proofs.Callers.SharedQueues.{queues_from, senders_to}
 use Rattle.clk_packet.proofs.Callers.Lists.{stands-left, stands-right, stands-either, rising-distinct}
 use Rattle.clk_drain.proofs.Plans.Apart.{not-both, apart-parts, apart-joined}
 

@@ -1,5 +1,5 @@
 -- After a run, the tallies account for what all devices emitted.
-use Rattle.std.proofs.Common.{◌≡◌, ℕ, suc, ◌+◌, ◌==◌, ◌||◌, ⊎_elim, Bool, true, false, true≢false, List, [], ◌∷◌, ◌++◌, length, map, Some, MatchOption, refl, sym, ap, ◌∙◌, subst, arith, append-nil, if◌then◌else◌}
+use Rattle.std.proofs.Common.{◌≡◌, ℕ, suc, ◌+◌, ◌<◌, ◌==◌, ◌||◌, ⊎_elim, Bool, true, false, true≢false, List, [], ◌∷◌, ◌++◌, length, map, Some, MatchOption, slice_get, refl, sym, ap, ◌∙◌, subst, arith, append-nil, if◌then◌else◌}
 use Rattle.std.proofs.lemmas.Bool.{eqb-true, false_from_ne_true}
 use Rattle.std.proofs.lemmas.List.Elements.{filter-append}
 use Rattle.std.specs.List.{flat_map, AllByRecursion}
@@ -9,15 +9,19 @@ use Rattle.clk_packet.specs.Dealt.{IsDealt}
 use Rattle.clk_packet.specs.Lists.{of_sender, stands_in, are_distinct}
 use Rattle.clk_packet.specs.Trace.{sent_by}
 use Rattle.clk_packet.proofs.Callers.Lists.{stands-right, stands-either, all-both}
+use Rattle.clk_sched.specs.Tree.{Tree}
 use Rattle.clk_tree.specs.Plan.{Planned}
-use Rattle.clk_tree.specs.PlanParts.{Queued, queues_of}
+use Rattle.clk_tree.specs.PlanTree.{device_count}
+use Rattle.clk_tree.specs.Shares.{AreTreesOf, AreSharedOut}
+use Rattle.clk_tree.specs.PlanParts.{Queued, queues_of, SharedQueue}
 use Rattle.clk_drain.specs.Laws.{RunsAccountForEmitted}
-use Rattle.clk_drain.specs.Outcome.{SharedQueue, Device, senders_to, IsTallied, tally_for, IsQueueSettled, IsDeviceSettled}
-use Rattle.clk_drain.specs.Run.{AreDevicesFrom}
+use Rattle.clk_drain.specs.Outcome.{Device, senders_to, tally_for, IsQueueSettled, IsDeviceSettled}
+use Rattle.clk_drain.proofs.Plans.Numbered.{AreDevicesFrom, devices-of}
 use Rattle.clk_drain.proofs.Plans.Apart.{not-both, apart-parts, none-left}
 use Rattle.clk_drain.proofs.Threads.Joining.{senders_over}
 use Rattle.clk_drain.proofs.Plans.PlanDevices.{queues_by_device, apart-by-device}
-use Rattle.clk_drain.proofs.Drains.Tallies.{found-rising}
+use Rattle.clk_drain.proofs.Drains.Tallies.{IsTallied, found-rising}
+use Rattle.clk_drain.proofs.Runs.Leads.{trees_of, HasTrees, has-trees, its-queues}
 
 -- What holds of all numbers holds of one that stands among them.
 of-standing : (P : ℕ → Type 0) (numbers : List ℕ) (s : ℕ) → AllByRecursion P numbers → stands_in s numbers ≡ true → P s
@@ -83,18 +87,23 @@ module _ (sent : ℕ → List Packet) (tallies : List Tally) where
           (rest (⊎_elim (λ here. absurd (true≢false (sym here ∙ there))) (λ later. later) (stands-either t.sender (senders_to d) (flat_map senders_to devices) has)))
 
 -- The senders to the devices of a plan.
-plan-senders : (plan : List Planned) (first : ℕ) (devices : List Device) → AreDevicesFrom plan first devices → flat_map senders_to devices ≡ flat_map senders_over (queues_by_device (queues_of plan) first (length devices))
-plan-senders plan first [] h = refl
-plan-senders plan first (d ∷ devices) h =
-    λ i. senders_over (h.0.queues i) ++ (plan-senders plan (suc first) devices h.1 ∙ ap (λ n. flat_map senders_over (queues_by_device (queues_of plan) n (length devices))) (let e : suc first ≡ first + 1 = omega arith in e)) i
+plan-senders : (plan : List Planned) (trees : List Tree) → HasTrees plan trees → (first : ℕ) (devices : List Device) → AreDevicesFrom plan first devices → ((n : ℕ) → slice_get trees (first + n) ≡ slice_get (trees_of devices) n)
+    → flat_map senders_to devices ≡ flat_map senders_over (queues_by_device (queues_of plan) first (length devices))
+plan-senders plan trees known first [] h at = refl
+plan-senders plan trees known first (d ∷ devices) h at =
+    let here : slice_get trees first ≡ Some d.tree = subst (λ n. slice_get trees n ≡ Some d.tree) (omega arith) (at 0) in
+    let rest = plan-senders plan trees known (suc first) devices h.1 (λ n. subst (λ m. slice_get trees m ≡ slice_get (trees_of devices) n) (omega arith) (at (suc n))) in
+    λ i. senders_over (its-queues plan trees first d known here h.0 i) ++ (rest ∙ ap (λ n. flat_map senders_over (queues_by_device (queues_of plan) n (length devices))) (let e : suc first ≡ first + 1 = omega arith in e)) i
 
 joined-out : (devices : List Device) → flat_map (λ (d : Device). d.emitted) devices ≡ flat_map (λ (emitted : List Packet). emitted) (map (λ (d : Device). d.emitted) devices)
 joined-out [] = refl
 joined-out (d ∷ devices) = ap (λ rest. d.emitted ++ rest) (joined-out devices)
 
-pub runs-account : (plan : List Planned) → are_distinct (flat_map (λ (k : Queued). k.senders) (queues_of plan)) ≡ true → RunsAccountForEmitted plan
-runs-account plan apart traces step limit logs packets tallies run =
-    let apart_devices = subst (λ senders. are_distinct senders ≡ true) (sym (plan-senders plan 0 run.devices run.each)) (apart-by-device (queues_of plan) 0 (length run.devices) apart) in
+pub runs-account : (plan : List Planned) → ((trees : List Tree) → AreTreesOf plan trees → AreSharedOut (queues_of plan) trees) → AllByRecursion (λ (k : Queued). k.device < device_count plan) (queues_of plan)
+    → are_distinct (flat_map (λ (k : Queued). k.senders) (queues_of plan)) ≡ true → RunsAccountForEmitted plan
+runs-account plan shared within apart traces step limit logs packets tallies run =
+    let each = devices-of plan run.devices run.each in
+    let apart_devices = subst (λ senders. are_distinct senders ≡ true) (sym (plan-senders plan (trees_of run.devices) (has-trees plan shared within apart run.devices each) 0 run.devices each (λ n. ap (slice_get (trees_of run.devices)) (omega arith)))) (apart-by-device (queues_of plan) 0 (length run.devices) apart) in
     all-both (λ (t : Tally). stands_in t.sender (flat_map senders_to run.devices) ≡ true) (λ (t : Tally). tally_for tallies t.sender ≡ Some t)
     (λ (t : Tally). IsDealt t.accepted t.evicted (of_sender t.sender (flat_map (λ (emitted : List Packet). emitted) packets))) tallies
     (λ t known found.

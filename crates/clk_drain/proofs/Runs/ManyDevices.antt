@@ -7,7 +7,8 @@ use Rattle.std.proofs.lemmas.List.{append-nil, map-append}
 use Rattle.clk_packet.specs.declared.packet.Packet.{Packet}
 use Rattle.clk_packet.specs.declared.tally.Tally.{Tally}
 use Rattle.clk_packet.specs.Lists.{stands_in, are_distinct}
-use Rattle.clk_drain.specs.Outcome.{SharedQueue, Device, senders_to, tally_for, in_all, IsQueueSettled, IsDeviceSettled, IsSettledOutcome}
+use Rattle.clk_drain.specs.Outcome.{Device, senders_to, tally_for, in_all, IsQueueSettled, IsDeviceSettled, IsSettledOutcome}
+use Rattle.clk_tree.specs.PlanParts.{SharedQueue}
 use Rattle.clk_drain.specs.Closing.{AreInOrder}
 use Rattle.clk_packet.proofs.Callers.Lists.{all-append, stands-left, stands-right, rising-distinct, all-both}
 use Rattle.clk_drain.proofs.Plans.Apart.{not-both, apart-parts, apart-joined}

@@ -1,5 +1,5 @@
 -- What a run comes to, from what each of its parts says.
-use Rattle.std.proofs.Common.{◌≡◌, ◌≤◌, Bool, true, List, [], ◌∷◌, length, map, Result, IfOk, IfErr, refl, ap, ◌∙◌, Vec, rules}
+use Rattle.std.proofs.Common.{◌≡◌, ◌≤◌, Bool, true, List, [], ◌∷◌, length, map, Result, IfOk, IfErr, refl, ap, ◌∙◌, Vec, rules, None}
 use Rattle.std.specs.List.{AllByRecursion, AllZip}
 use Rattle.std.specs.declared.alloc.Global.{Global}
 use Rattle.clk_packet.specs.Trace.{packets_in}
@@ -10,7 +10,7 @@ use Rattle.clk_sched.specs.Keeps.{keeps_emitted, keeps_visits}
 use Rattle.clk_sched.specs.declared.limits.TheConstants.{MAX_LEFT}
 use Rattle.clk_tree.specs.Plan.{Planned}
 use Rattle.clk_tree.specs.PlanTree.{device_count}
-use Rattle.clk_tree.specs.PlanParts.{queues_of, senders_of, number_of}
+use Rattle.clk_tree.specs.PlanParts.{queues_of, senders_of, number_of, SharedQueue}
 use Rattle.clk_packet.specs.Lists.{AreRising}
 use Rattle.clk_sched.specs.Packed.{logged}
 use Rattle.clk_drain.specs.declared.outcome.Outcome.{Outcome}
@@ -18,13 +18,14 @@ use Rattle.clk_sched.specs.declared.session.packed.PackedLog.{PackedLog}
 use Rattle.clk_drain.specs.declared.running.opening.LeafQueue.{LeafQueue}
 use Rattle.clk_drain.specs.inside.Threads.{Terms, EndLists, Feed}
 use Rattle.clk_drain.specs.inside.Handed.{HasDeviceSent, HavePulled, AreAllJoinable, IsReadyToClose, AreApartDevices, AreKept, AreSettledTogether, IsFaultOfClosing, joined_feeds}
-use Rattle.clk_gate.specs.Known.{senders_in, AreKnown}
+use Rattle.clk_gate.specs.Known.{senders_in, first_unknown}
 use Rattle.clk_drain.specs.Run.{IsKeptRun, IsFaultOfRun}
 use Rattle.clk_drain.specs.inside.Devices.{AreOpenFrom, KeepsSo}
-use Rattle.clk_drain.specs.Outcome.{SharedQueue, Device}
+use Rattle.clk_drain.specs.Outcome.{Device}
 use Rattle.clk_drain.proofs.Threads.Joining.{AreJoinedFeeds, all-joined, all-ready, all-apart, joined-kept}
 use Rattle.clk_drain.proofs.Plans.PlanSenders.{queues-apart}
 use Rattle.clk_drain.proofs.Losses.Refused.{unclosed}
+use Rattle.clk_drain.proofs.Plans.Numbered.{all-devices}
 use Rattle.clk_drain.proofs.Plans.PlanDevices.{queues_by_device, apart-by-device, opened-by-device, devices-from, moments-closed}
 
 -- what was opened of a plan, and what its threads gave back
@@ -68,7 +69,7 @@ run-settled keeps plan terms queues seats ends closed pulled outcome h settled =
       packets = map (λ (d : Device). d.emitted) settled.devices;
       kept = λ is. all-kept keeps_visits (λ (d : Device). d.log) keeps feeds (map logged outcome.logs.items) settled.devices is kept settled.logs;
       told = λ is. all-kept keeps_emitted (λ (d : Device). d.emitted) keeps feeds (map (λ packets. packets.items) outcome.emitted.items) settled.devices is kept settled.emitted;
-      is = search (rules, devices-from, moments-closed);
+      is = search (rules, all-devices, devices-from, moments-closed);
     }
 
 -- What closing the devices answers is what the run answers.
@@ -77,5 +78,5 @@ pub answered-ok : (keeps : Keeps) (plan : List Planned) (terms shared : Terms) (
 answered-ok keeps plan terms shared queues seats ends closed pulled feeds result same are h settled = search (rules, run-settled)
 
 pub answered-err : (keeps : Keeps) (plan : List Planned) (terms : Terms) (queues : List (Vec LeafQueue Global)) (seats : List (Vec (Vec SeatLists Global) Global)) (ends : List EndLists) (closed : List (Vec (Vec ClosedLists Global) Global)) (pulled : List EndLists) (feeds : List Feed) (result : Result (Outcome PackedLog) Fault) → feeds ≡ joined_feeds queues pulled closed
-    → HasEnded keeps plan terms queues seats ends closed pulled → AreKnown (senders_in plan) terms.traces → IfErr result (IsFaultOfClosing feeds) → IfErr result (IsFaultOfRun plan terms.traces)
+    → HasEnded keeps plan terms queues seats ends closed pulled → first_unknown (senders_in plan) terms.traces ≡ None → IfErr result (IsFaultOfClosing feeds) → IfErr result (IsFaultOfRun plan terms.traces)
 answered-err keeps plan terms queues seats ends closed pulled feeds result are h known o = search (rules, unclosed, (queues-apart plan h.rising), (run-joined keeps plan terms queues seats ends closed pulled h))

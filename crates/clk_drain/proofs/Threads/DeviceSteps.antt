@@ -12,14 +12,12 @@ use Rattle.clk_sched.specs.Tree.{Tree, root, leaves}
 use Rattle.clk_tree.specs.Plan.{Planned}
 use Rattle.clk_tree.specs.PlanTree.{IsTreeOf}
 use Rattle.clk_tree.specs.declared.plan.parts.QueueSpec.{QueueSpec}
-use Rattle.clk_tree.specs.PlanParts.{Queued, queued, queues_of, leads_to, HasCapacity}
+use Rattle.clk_tree.specs.PlanParts.{Queued, queued, queues_of, leads_to, HasCapacity, SharedQueue, shared_at}
 use Rattle.clk_drain.specs.declared.running.opening.LeafQueue.{LeafQueue}
 use Rattle.clk_drain.specs.declared.running.opening.OpenQueues.{OpenQueues}
-use Rattle.clk_drain.specs.Outcome.{SharedQueue}
 use Rattle.clk_drain.specs.inside.Threads.{EndLists}
-use Rattle.clk_drain.specs.Opening.{shared_at}
 use Rattle.clk_drain.specs.inside.Opening.{IsOpenAs, AreOpenAs, IsAdded}
-use Rattle.clk_drain.specs.Run.{queues_at}
+use Rattle.clk_drain.specs.Opening.{queues_at}
 use Rattle.clk_drain.specs.inside.Devices.{IsOpenOf, AreOpenFrom}
 use Rattle.clk_drain.proofs.Plans.QueuesAt.{stands-at}
 

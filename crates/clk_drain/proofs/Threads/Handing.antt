@@ -11,7 +11,7 @@ use Rattle.clk_sched.specs.Results.{leaf_packets}
 use Rattle.clk_sched.specs.declared.visit.Visit.{Visit}
 use Rattle.clk_drain.specs.declared.running.opening.LeafQueue.{LeafQueue}
 use Rattle.clk_drain.specs.Line.{LineLists, leaves_of}
-use Rattle.clk_drain.specs.Outcome.{SharedQueue}
+use Rattle.clk_tree.specs.PlanParts.{SharedQueue}
 use Rattle.clk_drain.specs.inside.Threads.{Terms, IsUnused, EndLists}
 use Rattle.clk_drain.specs.inside.Handed.{lines_from, AreTapsOf, FitPlaces, AreUnused, IsUnpulledOver}
 use Rattle.clk_drain.specs.inside.Opening.{rooms_for, AreOpenAs}

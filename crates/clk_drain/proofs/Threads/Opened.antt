@@ -8,7 +8,7 @@ use Rattle.clk_tree.specs.PlanParts.{queues_of}
 use Rattle.clk_drain.specs.declared.running.opening.LeafQueue.{LeafQueue}
 use Rattle.clk_drain.specs.inside.Threads.{Terms, EndLists}
 use Rattle.clk_drain.specs.inside.Handed.{FitPlaces, AreAllUnused, IsUnpulledOver}
-use Rattle.clk_drain.specs.Run.{queues_at}
+use Rattle.clk_drain.specs.Opening.{queues_at}
 use Rattle.clk_drain.specs.inside.Devices.{AreOpenFrom}
 use Rattle.clk_drain.proofs.Threads.Handing.{unused-open, unpulled-open}
 use Rattle.clk_drain.proofs.Plans.QueuesAt.{rise-at}

@@ -8,10 +8,9 @@ use Rattle.clk_sched.specs.declared.session.keeps.Keeps.{Keeps}
 use Rattle.clk_sched.specs.Tree.{root, leaves}
 use Rattle.clk_tree.specs.Plan.{Planned}
 use Rattle.clk_tree.specs.PlanTree.{IsTreeOf}
-use Rattle.clk_tree.specs.PlanParts.{queues_of}
+use Rattle.clk_tree.specs.PlanParts.{queues_of, SharedQueue}
 use Rattle.clk_drain.specs.declared.running.opening.LeafQueue.{LeafQueue}
-use Rattle.clk_drain.specs.Outcome.{SharedQueue}
-use Rattle.clk_drain.specs.Run.{queues_at}
+use Rattle.clk_drain.specs.Opening.{queues_at}
 use Rattle.clk_drain.specs.inside.Threads.{EndLists}
 use Rattle.clk_drain.specs.inside.Opening.{AreOpenAs}
 

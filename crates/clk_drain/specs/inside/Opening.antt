@@ -7,7 +7,7 @@ use Rattle.clk_ruled.specs.declared.view.QueueSetup.{QueueSetup}
 use Rattle.clk_ruled.specs.Queue.{SeatLists, TapLists, IsOpened, setup_of}
 use Rattle.clk_drain.specs.declared.running.opening.LeafQueue.{LeafQueue}
 use Rattle.clk_drain.specs.declared.running.opening.OpenQueues.{OpenQueues}
-use Rattle.clk_drain.specs.Outcome.{SharedQueue}
+use Rattle.clk_tree.specs.PlanParts.{SharedQueue}
 
 -- how many packets each of these senders may offer: all that it sends
 abbrev pub rooms_for : List (List Packet) → List ℕ → List (ℕ × ℕ)

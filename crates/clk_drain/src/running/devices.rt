@@ -5,7 +5,7 @@ ghost use Rattle.std.specs.List.{AllByRecursion};
 ghost use Rattle.clk_packet.specs.declared.fault.Fault.TheVariants.{Memory};
 ghost use Rattle.clk_tree.specs.PlanTree.{device_count};
 ghost use Rattle.clk_tree.specs.PlanParts.{queues_of};
-ghost use Rattle.clk_drain.specs.Run.{queues_at};
+ghost use Rattle.clk_drain.specs.Opening.{queues_at};
 ghost use Rattle.clk_drain.specs.inside.Opening.{AreOpenAs};
 ghost use Rattle.clk_drain.specs.inside.Devices.{IsOpenOf, AreOpenFrom, KeepsSo};
 

@@ -4,9 +4,8 @@ ghost use Rattle.std.specs.Prelude.{◌≡◌, ◌<◌, ◌≤◌, length, IfOk,
 ghost use Rattle.clk_packet.specs.declared.fault.Fault.TheVariants.{Memory};
 ghost use Rattle.clk_packet.specs.Trace.{packets_in};
 ghost use Rattle.clk_packet.specs.declared.limits.TheConstants.{MAX_RECORDS};
-ghost use Rattle.clk_tree.specs.PlanParts.{queued, HasCapacity};
+ghost use Rattle.clk_tree.specs.PlanParts.{queued, HasCapacity, shared_at};
 ghost use Rattle.clk_packet.specs.Lists.{AreRising};
-ghost use Rattle.clk_drain.specs.Opening.{shared_at};
 ghost use Rattle.clk_drain.specs.inside.Opening.{rooms_for, IsAdded};
 
 use crate::running::baton::Baton;

@@ -1,11 +1,12 @@
 //! A run of producers on threads.
 
 ghost use Rattle.std.specs.Prelude.{◌≡◌, List, map, IfOk, IfErr, MatchOption};
-ghost use Rattle.std.specs.List.{AllByRecursion};
+ghost use Rattle.std.specs.List.{AllByRecursion, AllZip, range_with_len};
 ghost use Rattle.clk_packet.specs.Lists.{of_sender};
 ghost use Rattle.clk_ruled.specs.Queue.{IsDealt};
+ghost use Rattle.clk_tree.specs.PlanTree.{device_count};
 ghost use Rattle.clk_drain.specs.Outcome.{Device, tally_for};
-ghost use Rattle.clk_drain.specs.Run.{AreDevicesFrom, IsFaultOfRun};
+ghost use Rattle.clk_drain.specs.Run.{IsDeviceOf, IsFaultOfRun};
 
 use clk_drain::{Free, Outcome, run};
 use clk_packet::{Fault, Traces};
@@ -23,7 +24,7 @@ pub fn run_each_tick<R: Threads + Wait, W: Wait + Sync>(
     plan: &Plan,
     traces: &Traces,
 ) -> Result<Outcome, Fault>
-    ensures emitted { IfOk result (λ outcome. (devices : List Device) × AreDevicesFrom plan.now 0 devices
+    ensures emitted { IfOk result (λ outcome. (devices : List Device) × AllZip (IsDeviceOf plan.now) (range_with_len 0 (device_count plan.now)) devices
         × (map (λ packets. packets.items) outcome.emitted.items ≡ map (λ d. d.emitted) devices)
         × AllByRecursion (λ d. AllByRecursion (λ q. AllByRecursion (λ s. MatchOption (tally_for outcome.tallies.items s) ⊥
         (λ t. IsDealt t.accepted t.evicted (of_sender t.sender d.emitted))) q.senders) d.queues) devices) }

@@ -11,7 +11,8 @@ use Rattle.clk_sched.specs.Run.{IsRun}
 use Rattle.clk_tree.specs.declared.plan.parts.SenderSpec.{SenderSpec}
 use Rattle.clk_packet.specs.Lists.{AreRising}
 use Rattle.clk_tree.specs.PlanParts.{number_of}
-use Rattle.clk_router.specs.Events.{Room, Setup, Event, offered, pulled, is_at, is_of_device, happens_at, events_at, number_from, numbers_of, sends_to, answers_in, at_queue, history, IsOfDevice, IsOfSender, NamesItsOffer, RunsTree, CanHappen}
+use Rattle.clk_router.specs.Events.{Room, Setup, Event, offered, pulled, is_of_device, happens_at, events_at, number_from, numbers_of, sends_to, answers_in, at_queue, history, IsOfDevice, IsOfSender, NamesItsOffer, RunsTree, CanHappen}
+use Rattle.clk_router.specs.inside.Closable.{is_at}
 use Rattle.clk_router.specs.Settled.{sends_at}
 use Rattle.clk_router.specs.Setups.{IsApart}
 

@@ -13,7 +13,8 @@ use Rattle.clk_tree.specs.Plan.{Planned}
 use Rattle.clk_tree.specs.PlanTree.{device_count}
 use Rattle.clk_tree.specs.PlanParts.{Queued, queues_of, senders_of, number_of, SendsWithin}
 use Rattle.clk_tree.specs.Shares.{AreTreesOf, AreSharedOut, all_leaves}
-use Rattle.clk_router.specs.Events.{Room, room_of, is_at, plan_setup}
+use Rattle.clk_router.specs.Events.{Room, room_of, plan_setup}
+pub use Rattle.clk_router.specs.inside.Closable.{is_at}
 use Rattle.clk_router.specs.Setups.{IsWired, IsApart}
 
 -- what is a leaf of a part is one of the whole

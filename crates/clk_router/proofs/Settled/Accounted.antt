@@ -22,10 +22,10 @@ use Rattle.clk_tree.specs.PlanParts.{SendsWithin}
 use Rattle.clk_packet.specs.Dealt.{IsDealt}
 use Rattle.clk_packet.proofs.Callers.Dealt.{dealt-kept}
 use Rattle.clk_packet.proofs.Callers.Lists.{all-both}
-use Rattle.clk_router.specs.Events.{Room, Setup, Event, offered, pulled, sender_numbers, is_at, happens_at, events_at, log_of, accepted_in, refused_in, evicted_in, sends_to, history, IsOfDevice, IsOfSender, RunsTree, CanHappen}
+use Rattle.clk_router.specs.Events.{Room, Setup, Event, offered, pulled, sender_numbers, happens_at, events_at, log_of, accepted_in, refused_in, evicted_in, sends_to, history, IsOfDevice, IsOfSender, RunsTree, CanHappen}
 use Rattle.clk_router.specs.Settled.{IsSenderAccounted, emitted_by, sends_at}
 use Rattle.clk_router.specs.InsideQueues.{given_by}
-use Rattle.clk_router.specs.inside.Closable.{IsClosable}
+use Rattle.clk_router.specs.inside.Closable.{IsClosable, is_at}
 use Rattle.clk_router.specs.inside.Parts.{IsWhole}
 use Rattle.clk_router.proofs.Callers.Apart.{sent-here, history-alone, one-queue}
 use Rattle.clk_router.proofs.QueueCounts.{gives-log}

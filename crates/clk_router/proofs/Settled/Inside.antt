@@ -6,7 +6,7 @@ use Rattle.std.proofs.lemmas.Bool.Decides.{nat_tests}
 use Rattle.std.proofs.lemmas.List.{drop_at}
 use Rattle.clk_packet.specs.declared.packet.Packet.{Packet}
 use Rattle.clk_packet.specs.Lists.{stands_in, AreRising}
-use Rattle.clk_sched.specs.Tree.{Row, Tree, root, leaves, leaves_distinct, is_number}
+use Rattle.clk_sched.specs.Tree.{Row, Tree, root, leaves, leaves_distinct}
 use Rattle.clk_sched.specs.Results.{Traced, traced_emitted, traced_heads}
 use Rattle.clk_ring.specs.QueueHistory.{held}
 use Rattle.clk_sched.specs.FewHeads.{drrs_above, HoldsFewHeads}
@@ -14,14 +14,15 @@ use Rattle.clk_sched.specs.Conservation.{from_queue, ConservesPackets, MakesNoth
 use Rattle.clk_sched.proofs.Callers.Traced.{CameOf, emitted-traced}
 use Rattle.clk_tree.specs.declared.plan.parts.SenderSpec.{SenderSpec}
 use Rattle.clk_tree.specs.PlanParts.{number_of}
-use Rattle.clk_router.specs.Events.{Room, Setup, Event, is_at, sends_to, events_at, log_of, history, CanHappen}
+use Rattle.clk_router.specs.Events.{Room, Setup, Event, sends_to, events_at, log_of, history, CanHappen}
 use Rattle.clk_router.specs.InsideQueues.{is_of_queue, given_of, emitted_of, heads_of, inside_of}
-use Rattle.clk_router.specs.inside.Closable.{IsClosable}
+use Rattle.clk_router.specs.inside.Closable.{IsClosable, is_at}
 use Rattle.clk_router.specs.inside.Parts.{IsWhole}
 use Rattle.clk_router.proofs.Callers.Apart.{one-queue}
 use Rattle.clk_router.proofs.Settled.OwnPackets.{SendsIn, none-from}
 use Rattle.clk_router.proofs.Settled.QueuePackets.{history-in_order}
 use Rattle.clk_router.proofs.Settled.Accounted.{has-history, its-run, leaf-gave, came, stands-there}
+use Rattle.clk_sched.proofs.Callers.Lists.{is_number}
 
 -- The packets of a queue's senders came from that queue.
 pub of-queue : (senders : List SenderSpec) (row : Row) (q : ℕ) → AreRising (map number_of senders) → (ts : List Traced) → AllByRecursion (CameOf (SendsIn senders row)) ts

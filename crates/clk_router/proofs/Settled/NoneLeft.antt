@@ -16,9 +16,9 @@ use Rattle.clk_sched.specs.Closing.{held_in_all, left_in}
 use Rattle.clk_sched.proofs.Callers.Lists.{all-weaker}
 use Rattle.clk_tree.specs.declared.plan.parts.SenderSpec.{SenderSpec}
 use Rattle.clk_tree.specs.PlanParts.{SendsWithin}
-use Rattle.clk_router.specs.Events.{Room, Setup, Event, is_at, events_at, log_of, accepted_in, evicted_in, sends_to, history, CanHappen}
+use Rattle.clk_router.specs.Events.{Room, Setup, Event, events_at, log_of, accepted_in, evicted_in, sends_to, history, CanHappen}
 use Rattle.clk_router.specs.Settled.{IsSenderAccounted, IsSenderSettled, IsTreeSettled, IsCourseAccounted, IsCourseSettled, IsOutOnce, IsAllOut, AreOutOnce, AreAllOut}
-use Rattle.clk_router.specs.inside.Closable.{IsClosable}
+use Rattle.clk_router.specs.inside.Closable.{IsClosable, is_at}
 use Rattle.clk_router.specs.inside.Parts.{IsWhole}
 use Rattle.clk_router.proofs.Callers.Apart.{alone, history-alone}
 use Rattle.clk_router.proofs.PartsLemmas.{all-there}

@@ -1,11 +1,16 @@
 -- A setup over which each drain comes to its end.
-use Rattle.std.specs.Prelude.{◌≡◌, ℕ, ◌<◌, ◌≤◌, ◌^◌, true, slice_get, Some}
+use Rattle.std.specs.Prelude.{◌≡◌, ℕ, ◌<◌, ◌≤◌, ◌^◌, ◌==◌, Bool, true, false, slice_get, Option, Some}
+use Rattle.std.specs.Option.{option_map_or}
 use Rattle.clk_packet.specs.Lists.{stands_in, are_distinct, AreRising}
 use Rattle.clk_sched.specs.Bound.{closing_bound}
 use Rattle.clk_sched.specs.declared.limits.TheConstants.{MAX_LEFT}
 use Rattle.clk_sched.specs.Tree.{Tree, root, leaves, IsSound}
-use Rattle.clk_router.specs.Events.{Setup, sender_numbers, is_at}
+use Rattle.clk_router.specs.Events.{Room, Setup, sender_numbers}
 use Rattle.clk_router.specs.Setups.{IsApart}
+
+-- whether a queue exists, and its packets go to this device
+abbrev pub is_at : ℕ → Option Room → Bool
+is_at d o = option_map_or (λ (room : Room). room.device == d) o false
 
 -- The queues of a device over a setup are the leaves of its tree, and none of them is there twice.
 pub record AreQueuesOf (setup : Setup) (d : ℕ) (tree : Tree) : Type 0 where

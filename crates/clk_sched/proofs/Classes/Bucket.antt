@@ -3,8 +3,8 @@ use Rattle.std.proofs.Common.{◌≡◌, ℕ, ◌+◌, ◌-◌, ◌*◌, ◌≤�
 use Rattle.std.proofs.lemmas.Bool.Decides.{nat_tests}
 use Rattle.clk_sched.specs.declared.session.shaper.Bucket.{Bucket}
 use Rattle.clk_sched.specs.Turns.{Turn, giver}
-use Rattle.clk_sched.specs.Laws.Shaper.{has_passed, packets_passed, keeps_since_each, has_room}
-use Rattle.clk_sched.specs.inside.Holds.Shaper.{AreBefore, tokens_at, HoldsBucket, IsTaken, Tells}
+use Rattle.clk_sched.specs.Laws.Shaper.{has_passed, packets_passed, keeps_since_each}
+use Rattle.clk_sched.specs.inside.Holds.Shaper.{AreBefore, tokens_at, HoldsBucket, IsTaken, Tells, has_room}
 
 -- whether there is room follows from how many packets passed later
 pub room-same : (rate burst moment : ℕ) (later other earlier : List Turn) → packets_passed later ≡ packets_passed other → keeps_since_each rate burst moment later earlier ≡ keeps_since_each rate burst moment other earlier

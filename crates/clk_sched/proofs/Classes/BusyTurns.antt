@@ -1,12 +1,12 @@
 -- No law takes notice of a turn without visits: what it allows after some turns follows from those that have visits.
-use Rattle.std.proofs.Common.{◌≡◌, ◌&&◌, ℕ, Bool, true, false, if◌then◌else◌, List, [], ◌∷◌, ◌++◌, map, filter, reverse, inl, inr, refl, sym, ap, ◌∙◌, rules}
+use Rattle.std.proofs.Common.{◌≡◌, ◌+◌, ◌*◌, ◌&&◌, nat_le, ℕ, Bool, true, false, if◌then◌else◌, List, [], ◌∷◌, ◌++◌, map, filter, reverse, inl, inr, refl, sym, ap, ◌∙◌, rules}
 use Rattle.std.specs.Bool.{⊤}
 use Rattle.clk_sched.specs.declared.visit.Visit.{Visit}
 use Rattle.clk_sched.specs.Turns.{Turn, visits_before}
 use Rattle.clk_sched.specs.Log.{visits_of, moment_of, turn}
 use Rattle.clk_sched.specs.Laws.{Manner, in_order, with_heads, Follows}
 use Rattle.clk_sched.specs.Laws.Stride.{passes_after, passes_of}
-use Rattle.clk_sched.specs.Laws.Shaper.{has_passed, keeps_since, keeps_since_each}
+use Rattle.clk_sched.specs.Laws.Shaper.{has_passed, packets_passed, keeps_since_each}
 use Rattle.clk_sched.specs.inside.Pulling.{as_turn, with_turn}
 use Rattle.clk_sched.specs.inside.Session.{history_of}
 use Rattle.clk_packet.specs.Lists.{In}
@@ -52,7 +52,7 @@ busy-room rate burst moment later (t ∷ ts) = by_visits t.moment t.visits (λ l
         → keeps_since_each rate burst moment later (with_turn past visits (busy ts)) ≡ keeps_since_each rate burst moment later (as_turn past visits ∷ ts)
     by_visits past [] same = same later ∙ sym (room-unpassed rate burst moment later (as_turn past []) ts refl)
     by_visits past (v ∷ visits) same =
-        ap (λ room. (if has_passed (as_turn past (v ∷ visits)) then keeps_since rate burst moment later (as_turn past (v ∷ visits)) else true) && room) (same (as_turn past (v ∷ visits) ∷ later))
+        ap (λ room. (if has_passed (as_turn past (v ∷ visits)) then nat_le (packets_passed (as_turn past (v ∷ visits) ∷ later) + 1 + rate * past) (burst + rate * moment) else true) && room) (same (as_turn past (v ∷ visits) ∷ later))
 
 -- a manner takes no notice of turns without visits, as far as it follows from turns
 abbrev pub TakesNoNotice : Manner → Type 0

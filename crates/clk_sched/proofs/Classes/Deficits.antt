@@ -13,13 +13,14 @@ use Rattle.clk_packet.specs.declared.limits.TheConstants.{MAX_LENGTH, MAX_INPUTS
 use Rattle.clk_sched.specs.declared.session.drr.Served.{Served}
 use Rattle.clk_sched.specs.declared.session.drr.Deficits.{Deficits}
 use Rattle.clk_sched.specs.declared.visit.Visit.{Visit}
-use Rattle.clk_sched.specs.Heads.{head_at, is_covered}
+use Rattle.clk_sched.specs.Heads.{head_at}
 use Rattle.clk_sched.specs.Laws.Deficit.{next_input, arrives, deficit_covers}
 use Rattle.clk_sched.specs.inside.Holds.Served.{AreQuantaWithin, AreDeficitsWithin, AreIdleWithoutDeficits, IsWithoutDeficit, IsArrivedAt, waiting, with_quantum, covers, settled}
 use Rattle.clk_sched.specs.inside.Holds.Deficit.{HoldsInput, ahead_at, HoldsDeficits}
 use Rattle.clk_sched.specs.inside.Looking.{IsHead}
 use Rattle.clk_sched.proofs.Lists.Numbers.{equal, differs}
 use Rattle.clk_sched.proofs.Lists.Written.{items-written}
+use Rattle.clk_sched.specs.inside.Looking.{is_covered}
 
 -- what is read at a place, as the code reads it
 pub row-read : (row lent : List Served) (i place : ℕ) (s : Served) → lent ≡ row → place ≡ i → i < length row → s ≡ get_or lent place s → slice_get row i ≡ Some s

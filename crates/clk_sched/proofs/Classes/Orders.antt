@@ -8,7 +8,8 @@ use Rattle.std.proofs.lemmas.List.FromFn.{length-enumerate_from}
 use Rattle.clk_sched.specs.Turns.{Turn}
 pub use Rattle.clk_sched.specs.inside.Making.{IsPlace}
 use Rattle.clk_sched.specs.Laws.Priority.{priority_order}
-use Rattle.clk_sched.specs.Laws.Stride.{passes_of, put_in_order, in_rising_order, stride_order}
+use Rattle.clk_sched.specs.Laws.Stride.{passes_of, stride_order}
+use Rattle.clk_sched.specs.inside.Rising.{put_in_order, in_rising_order}
 use Rattle.clk_sched.proofs.Lists.Members.{all-weaker}
 use Rattle.clk_sched.specs.inside.Pulling.{AreApart}
 use Rattle.clk_sched.proofs.Lists.Apart.{all-map, apart-map}

@@ -5,7 +5,7 @@ use Rattle.std.specs.List.{AllByRecursion}
 use Rattle.std.proofs.Math.Seq.{paste, take-add}
 use Rattle.std.proofs.lemmas.List.{length-append, length-take-le, drop-take, take-append-drop}
 use Rattle.clk_sched.specs.inside.Ranks.{Ranked, with_pass, IsBefore, AreInOrder, AreUpTo, is_up_to, put_rank, put_all, at_pass, after_win}
-use Rattle.clk_sched.specs.Laws.Stride.{put_in_order}
+use Rattle.clk_sched.specs.inside.Rising.{put_in_order}
 use Rattle.clk_sched.proofs.Lists.Members.{all-weaker}
 use Rattle.clk_sched.proofs.Lists.Rising.{put-put}
 use Rattle.clk_sched.proofs.Classes.RankLemmas.{put-here, put-holds, front-kept, win-each}

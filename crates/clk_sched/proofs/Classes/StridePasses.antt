@@ -7,7 +7,8 @@ use Rattle.std.proofs.Math.Nat.{div-le_self}
 use Rattle.clk_sched.specs.declared.visit.Visit.{Visit}
 use Rattle.clk_sched.specs.declared.session.stride.Passes.{Passes}
 use Rattle.clk_sched.specs.Turns.{Turn, giver}
-use Rattle.clk_sched.specs.Laws.Stride.{stride_of, stride_at, pass_in, visits_input, passes_after, passes_of, put_in_order, in_rising_order, stride_order}
+use Rattle.clk_sched.specs.Laws.Stride.{stride_of, stride_at, pass_in, visits_input, passes_after, passes_of, stride_order}
+use Rattle.clk_sched.specs.inside.Rising.{put_in_order, in_rising_order}
 use Rattle.clk_sched.specs.inside.Ranks.{Ranked, with_pass, greatest_stride, IsRankOf, HasRisingPasses, AreInOrder, put_rank, at_pass, after_win, first_pass, from_least, first_rank, less}
 use Rattle.clk_sched.specs.inside.Holds.Stride.{HoldsPasses}
 use Rattle.clk_packet.specs.Lists.{In}

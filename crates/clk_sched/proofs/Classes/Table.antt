@@ -7,12 +7,12 @@ use Rattle.std.proofs.lemmas.List.FromFn.{length-range_with_len, length-enumerat
 use Rattle.clk_packet.specs.Scheduler.{Scheduler, prio, round_robin, drr, stride, shaper, HasArguments}
 use Rattle.clk_sched.specs.Turns.{Turn}
 use Rattle.clk_sched.specs.Laws.{Manner, in_order, with_heads, manner, AllowsTurn}
-use Rattle.clk_sched.specs.Laws.Stride.{in_rising_order}
-use Rattle.clk_sched.specs.Laws.Shaper.{has_room}
+use Rattle.clk_sched.specs.inside.Rising.{in_rising_order}
 use Rattle.clk_sched.proofs.Classes.Orders.{IsOrderOf, priority-order, stride-order, passes-length}
 use Rattle.clk_sched.proofs.Lists.Rising.{rising-length}
 use Rattle.clk_sched.proofs.Classes.RoundRobinTurns.{round_robin-order, busy-beginning}
 use Rattle.clk_sched.proofs.Classes.BusyTurns.{busy, busy-passes, busy-room, TakesNoNotice, follows-busy}
+use Rattle.clk_sched.specs.inside.Holds.Shaper.{has_room}
 
 -- a scheduler may ask all of its inputs at this moment, after its earlier turns: a Shaper needs room
 abbrev pub MayAsk : Scheduler → List Turn → ℕ → Type 0

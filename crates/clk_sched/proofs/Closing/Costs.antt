@@ -11,9 +11,9 @@ use Rattle.clk_packet.specs.declared.packet.Packet.{Packet}
 use Rattle.clk_sched.specs.declared.visit.Visit.{Visit}
 use Rattle.clk_packet.specs.Scheduler.{Scheduler, drr}
 use Rattle.clk_sched.specs.Turns.{EachAfter, IsPlain}
-use Rattle.clk_sched.specs.Heads.{head_at, is_covered}
+use Rattle.clk_sched.specs.Heads.{head_at}
 use Rattle.clk_sched.specs.Log.{asks}
-use Rattle.clk_sched.specs.Laws.Deficit.{arrives, arrivals, bytes_of, passed_bytes, quantum_at}
+use Rattle.clk_sched.specs.Laws.Deficit.{arrives, arrivals, passed_bytes, quantum_at}
 use Rattle.clk_sched.specs.inside.Pulling.{AreApart, input_of}
 use Rattle.clk_sched.proofs.Lists.Numbers.{equal, differs, same}
 use Rattle.clk_packet.specs.Lists.{In}
@@ -22,6 +22,12 @@ use Rattle.clk_sched.proofs.Runs.Allowed.{onto, each-split}
 use Rattle.clk_sched.proofs.Shares.DeficitShares.{IsDeficitVisit, IsCovered, covers-all}
 use Rattle.clk_sched.proofs.Closing.Visited.{Misses, IsAt, at-input, one_if, hits, hits-misses, hits-at}
 use Rattle.clk_sched.proofs.Closing.Turned.{passes}
+use Rattle.clk_sched.specs.inside.Looking.{is_covered}
+use Rattle.std.specs.Option.{option_map_or}
+
+-- the length of a packet, and 0 if there is none
+abbrev bytes_of : Option Packet → ℕ
+bytes_of o = option_map_or (λ (p : Packet). p.length) o 0
 
 -- So many visits more are enough to cover a head, after these bytes and arrivals at its input.
 abbrev pub EnoughBy : (quantum : ℕ) → Option Packet → (bytes arrived more : ℕ) → Type 0

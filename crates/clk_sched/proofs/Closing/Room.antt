@@ -6,11 +6,12 @@ use Rattle.std.proofs.lemmas.Bool.Decides.{nat_tests}
 use Rattle.clk_packet.specs.Scheduler.{Scheduler, shaper, HasArguments}
 use Rattle.clk_sched.specs.Turns.{Turn, EachAfter, AsksInOrder, giver}
 use Rattle.clk_sched.specs.Laws.{AllowsTurn}
-use Rattle.clk_sched.specs.Laws.Shaper.{has_passed, packets_passed, keeps_since, keeps_since_each, has_room, shaper_order}
+use Rattle.clk_sched.specs.Laws.Shaper.{has_passed, packets_passed, keeps_since_each, shaper_order}
 use Rattle.clk_sched.proofs.Runs.Allowed.{onto}
 use Rattle.clk_sched.proofs.Classes.Bucket.{room-unpassed, room-passed}
 use Rattle.clk_sched.proofs.Conservation.Counted.{and-both}
 use Rattle.clk_sched.proofs.Classes.Table.{MayAsk}
+use Rattle.clk_sched.specs.inside.Holds.Shaper.{has_room}
 
 -- each member holds after those before it, of a list with the latest first
 abbrev pub EachBefore : {X : Type 0} → (List X → X → Type 0) → List X → Type 0
@@ -29,7 +30,7 @@ room-later : (rate burst m n : ℕ) (later more earlier : List Turn) → 1 ≤ r
     → keeps_since_each rate burst m later earlier ≡ true → keeps_since_each rate burst n more earlier ≡ true
 room-later rate burst m n later more [] some l count e = refl
 room-later rate burst m n later more (t ∷ earlier) some l count e =
-    let both = and-both (if has_passed t then keeps_since rate burst m later t else true) (keeps_since_each rate burst m (t ∷ later) earlier) e in
+    let both = and-both (if has_passed t then nat_le (packets_passed (t ∷ later) + 1 + rate * t.moment) (burst + rate * m) else true) (keeps_since_each rate burst m (t ∷ later) earlier) e in
     ap₂ (λ a b. a && b) (by_passed (has_passed t) both.0) (room-later rate burst m n (t ∷ later) (t ∷ more) earlier some l (search rules) both.1)
   where
     by_passed : (b : Bool) → (if b then nat_le ((if b then packets_passed later + 1 else packets_passed later) + 1 + rate * t.moment) (burst + rate * m) else true) ≡ true

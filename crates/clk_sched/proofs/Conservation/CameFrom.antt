@@ -5,7 +5,7 @@ use Rattle.clk_packet.specs.declared.packet.Packet.{Packet}
 use Rattle.clk_sched.specs.declared.visit.Visit.{Visit}
 use Rattle.clk_packet.specs.Lists.{stands_in, In}
 use Rattle.clk_packet.specs.Scheduler.{Scheduler}
-use Rattle.clk_sched.specs.Tree.{Row, end, leaf, node, Tree, root, nodes, width, leaves, queue_at, is_number}
+use Rattle.clk_sched.specs.Tree.{Row, end, leaf, node, Tree, root, nodes, width, leaves, queue_at}
 use Rattle.clk_sched.specs.Laws.{Manner, in_order, with_heads, manner}
 use Rattle.clk_sched.specs.Log.{visits_of, pulls, turn, pulls_below}
 use Rattle.clk_sched.proofs.Runs.Rows.{EachObeys}
@@ -24,6 +24,7 @@ use Rattle.clk_sched.proofs.Runs.Blocks.{node-is}
 use Rattle.clk_sched.proofs.Runs.Pulled.{IsPulledIn, pulled-after_leaf, pulled-after_node, pulled-inputs, pulled-root, turns-visits}
 use Rattle.clk_sched.proofs.Runs.Gives.{gives, result_by, results, gives-results, gives-queue, gives-after_leaf, gives-after_node, gives-passed_and_held}
 use Rattle.clk_sched.proofs.Conservation.Conserved.{device-emits}
+use Rattle.clk_sched.proofs.Lists.Numbers.{is_number}
 
 range-in : (i a n : ℕ) → In i (range_with_len a n) → i < a + n
 range-in i a zero m = absurd m

@@ -7,7 +7,7 @@ use Rattle.clk_packet.specs.declared.packet.Packet.{Packet}
 use Rattle.clk_sched.specs.declared.visit.Visit.{Visit}
 use Rattle.clk_packet.specs.Lists.{stands_in, are_distinct}
 use Rattle.clk_packet.specs.Scheduler.{Scheduler}
-use Rattle.clk_sched.specs.Tree.{Row, end, leaf, node, Tree, root, nodes, width, leaves, leaves_distinct, queue_at, is_number}
+use Rattle.clk_sched.specs.Tree.{Row, end, leaf, node, Tree, root, nodes, width, leaves, leaves_distinct, queue_at}
 use Rattle.clk_sched.specs.Turns.{Turn, EachAfter, all_visits, IsPlain}
 use Rattle.clk_sched.specs.Laws.{Manner, in_order, with_heads, Follows}
 use Rattle.clk_sched.specs.Laws.Device.{IsDeviceTurn}
@@ -29,6 +29,7 @@ use Rattle.clk_sched.proofs.Runs.NoChoice.{root-width}
 use Rattle.clk_sched.proofs.Conservation.Origins.{latest-not, passed-not, origin-not, from_queue-append, traced-not, heads-not, node-not, StandsOnlyIn, only-after_leaf, only-after_node, only-inputs, only-here, asks-at}
 use Rattle.clk_sched.proofs.Runs.Pulled.{IsPulledIn, pulled-after_leaf, pulled-after_node, pulled-inputs, pulled-root, turns-visits}
 use Rattle.clk_sched.proofs.Runs.Gives.{gives, results, gives-results, gives-queue, gives-after_leaf, gives-after_node, gives-passed_and_held}
+use Rattle.clk_sched.proofs.Lists.Numbers.{is_number}
 
 from_queue-same : {X : Type 0} (q : ℕ) (f g : X → List Traced) (xs : List X) → ((x : X) → from_queue q (f x) ≡ from_queue q (g x)) → from_queue q (flat_map f xs) ≡ from_queue q (flat_map g xs)
 from_queue-same q f g [] h = refl

@@ -7,7 +7,7 @@ use Rattle.std.specs.List.{AllByRecursion, filter_map, flat_map}
 use Rattle.clk_sched.specs.declared.visit.Visit.{Visit}
 use Rattle.clk_sched.specs.Log.{visits_of}
 use Rattle.clk_packet.specs.Lists.{stands_in, are_distinct}
-use Rattle.clk_sched.specs.Tree.{Tree, root, leaves, is_number, leaves_distinct}
+use Rattle.clk_sched.specs.Tree.{Tree, root, leaves, leaves_distinct}
 use Rattle.clk_sched.specs.Results.{Traced, traced, origin_in, traced_emitted, traced_heads}
 use Rattle.clk_sched.specs.Conservation.{from_queue, given_in_all, IsConserved, CameFrom, ConservesCounts}
 use Rattle.clk_sched.proofs.Conservation.CameFrom.{makes-nothing}
@@ -15,6 +15,7 @@ use Rattle.clk_sched.proofs.Conservation.Conserved.{conserves-packets}
 use Rattle.clk_sched.proofs.Trees.Distinct.{or-neither}
 use Rattle.clk_sched.proofs.Lists.Members.{all-weaker}
 use Rattle.clk_sched.proofs.Lists.Numbers.{same}
+use Rattle.clk_sched.proofs.Lists.Numbers.{is_number}
 
 abbrev one_if : Bool → ℕ
 one_if b = if b then 1 else 0

@@ -8,7 +8,7 @@ use Rattle.clk_packet.proofs.Callers.Lists.{distinct-parts as first-parts}
 use Rattle.clk_sched.proofs.Trees.Distinct.{distinct-parts}
 use Rattle.clk_sched.specs.declared.visit.Visit.{Visit}
 use Rattle.clk_packet.specs.Scheduler.{Scheduler, drr}
-use Rattle.clk_sched.specs.Tree.{Row, end, leaf, node, Tree, root, nodes, width, leaves, leaves_distinct, is_number}
+use Rattle.clk_sched.specs.Tree.{Row, end, leaf, node, Tree, root, nodes, width, leaves, leaves_distinct}
 use Rattle.clk_sched.specs.Log.{visits_of}
 use Rattle.clk_sched.specs.Laws.{manner}
 use Rattle.clk_sched.specs.Results.{Traced, traced, origin_in, held_at, own_heads}
@@ -16,6 +16,7 @@ use Rattle.clk_sched.proofs.Conservation.RowHeads.{row_heads, tree-heads}
 use Rattle.clk_sched.specs.Conservation.{from_queue}
 use Rattle.clk_sched.specs.FewHeads.{most_heads, drrs_above, HoldsFewHeads}
 use Rattle.clk_sched.proofs.Conservation.Origins.{latest-not, passed-not, origin-not, from_queue-append, traced-not, heads-not, node-not}
+use Rattle.clk_sched.proofs.Lists.Numbers.{is_number}
 
 -- a queue is the origin of what one input alone got
 record HasOneInput (q : ℕ) (log : List Visit) (next : ℕ) (row : Row) : Type 0 where

@@ -7,7 +7,7 @@ use Rattle.clk_packet.specs.declared.packet.Packet.{Packet}
 use Rattle.clk_sched.specs.declared.visit.Visit.{Visit}
 use Rattle.clk_packet.specs.Lists.{stands_in}
 use Rattle.clk_packet.specs.Scheduler.{Scheduler}
-use Rattle.clk_sched.specs.Tree.{Row, end, leaf, node, Tree, nodes, width, queue_in, queue_at, leaves, is_number}
+use Rattle.clk_sched.specs.Tree.{Row, end, leaf, node, Tree, nodes, width, queue_in, queue_at, leaves}
 use Rattle.clk_sched.specs.Laws.{Manner, manner}
 use Rattle.clk_sched.specs.Log.{visits_of}
 use Rattle.clk_sched.specs.Results.{Traced, traced, asked_pull, latest_origin, passed_origin, origin_in, own_heads}
@@ -15,6 +15,7 @@ use Rattle.clk_sched.proofs.Conservation.RowHeads.{row_heads}
 use Rattle.clk_sched.specs.Conservation.{from_queue}
 use Rattle.clk_sched.proofs.Trees.Numbering.{queue_in-before, queue_in-after, queue_in-earlier, or_none}
 use Rattle.clk_sched.proofs.Trees.Distinct.{or-neither, stands-neither}
+use Rattle.clk_sched.proofs.Lists.Numbers.{is_number}
 
 queue_in-not : (q above first next : ℕ) (row : Row) (x i : ℕ) → stands_in q (leaves row) ≡ false → is_number q (queue_in above first next row x i) ≡ false
 queue_in-not q above first next end x i h = refl

@@ -1,7 +1,7 @@
 -- Pairs in rising order: the order of the putting makes no difference, and all that are put are there.
 use Rattle.std.proofs.Common.{◌≡◌, ℕ, suc, length, ◌==◌, ◌&&◌, ◌||◌, nat_lt, nat_le, if◌then◌else◌, Bool, true, false, List, [], ◌∷◌, map, inl, inr, refl, ap, ◌∙◌, rules}
 use Rattle.clk_packet.specs.Lists.{In}
-use Rattle.clk_sched.specs.Laws.Stride.{put_in_order, in_rising_order}
+use Rattle.clk_sched.specs.inside.Rising.{put_in_order, in_rising_order}
 
 -- whether a pair stands before another by (pass, index), or is the same
 abbrev pub up_to : ℕ × ℕ → ℕ × ℕ → Bool

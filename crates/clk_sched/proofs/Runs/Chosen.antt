@@ -7,7 +7,7 @@ use Rattle.clk_packet.specs.declared.packet.Packet.{Packet}
 use Rattle.clk_sched.specs.declared.visit.Visit.{Visit}
 use Rattle.clk_packet.specs.Scheduler.{Scheduler, drr, HasArguments}
 use Rattle.clk_sched.specs.Turns.{Turn, EachAfter, IsPlain, UpToFirst, AsksInOrder, visits_before}
-use Rattle.clk_sched.specs.Heads.{head_at, is_covered, LooksAtHeads, EndAtPass}
+use Rattle.clk_sched.specs.Heads.{head_at, LooksAtHeads, EndAtPass}
 use Rattle.clk_sched.specs.Laws.{manner, Follows, AllowsTurn}
 use Rattle.clk_sched.specs.Laws.Deficit.{next_input, deficit_covers}
 use Rattle.clk_sched.specs.Log.{asking}
@@ -17,6 +17,7 @@ use Rattle.clk_sched.proofs.Lists.Apart.{all-reverse}
 use Rattle.clk_sched.proofs.Runs.Allowed.{AreWithin}
 use Rattle.clk_sched.proofs.Classes.Table.{asks-right}
 use Rattle.clk_sched.proofs.Classes.Orders.{IsOrderOf, IsPlace, IsBeyond, first-place, next-place, beyond-differs, beyond-lower}
+use Rattle.clk_sched.specs.inside.Looking.{is_covered}
 
 -- a node in a pull: the pull's number and moment, the node's own number, and what is given at each of its inputs
 pub record Asker : Type 0 where

@@ -8,7 +8,7 @@ use Rattle.clk_sched.specs.declared.visit.Visit.{Visit}
 use Rattle.clk_packet.specs.Scheduler.{Scheduler}
 use Rattle.clk_sched.specs.Tree.{Row, end, leaf, node, Tree, root, nodes, width}
 use Rattle.clk_sched.specs.Turns.{Turn, EachAfter, IsPlain, visits_before}
-use Rattle.clk_sched.specs.Heads.{head_at, is_covered, LooksAtHeads}
+use Rattle.clk_sched.specs.Heads.{head_at, LooksAtHeads}
 use Rattle.clk_sched.specs.Laws.{Manner, in_order, with_heads, manner, Follows, AllowsTurn}
 use Rattle.clk_sched.specs.Log.{visits_of, pulls, moment_of, turn, asks, pulls_below, result_of}
 use Rattle.clk_sched.specs.Step.{IsOnePullLess}
@@ -25,6 +25,7 @@ use Rattle.clk_sched.proofs.Runs.Blocks.{node-is}
 use Rattle.clk_sched.proofs.Runs.GoesOn.{goes-on}
 use Rattle.clk_sched.proofs.Runs.NoChoice.{root-width}
 use Rattle.clk_sched.proofs.Runs.DeviceBlock.{ArePast, IsPast, past-after_leaf, past-after_node, past-inputs, are-past}
+use Rattle.clk_sched.specs.inside.Looking.{is_covered}
 
 -- Turns without visits change nothing.
 lets-busy : (class : Scheduler) (turns : List Turn) (moment : ℕ) → lets_through class (busy turns) moment ≡ lets_through class turns moment

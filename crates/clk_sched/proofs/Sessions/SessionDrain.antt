@@ -13,13 +13,14 @@ use Rattle.clk_sched.specs.Run.{IsRun}
 use Rattle.clk_sched.specs.Answers.{Answers, tree_queue, at_queue}
 use Rattle.clk_sched.specs.Session.{Progress, IsPulledOnce, IsDrained, given_in, counted_moment, latest_moment, newly, LastGives}
 use Rattle.clk_sched.specs.Drain.{GivesAll}
-use Rattle.clk_sched.specs.Tree.{Tree, root, queue_at, is_number, leaves_distinct, IsSound}
+use Rattle.clk_sched.specs.Tree.{Tree, root, queue_at, leaves_distinct, IsSound}
 use Rattle.clk_sched.specs.Results.{asks_queue}
 use Rattle.clk_sched.specs.Choice.{answers_of}
 use Rattle.clk_sched.specs.Closing.{GivesOut, LosesNothing, left_in}
 use Rattle.clk_sched.proofs.Nodes.Asking.{answers-then}
 use Rattle.clk_sched.proofs.Closing.Emptied.{IsClosingPull, IsEmptied, emptied-more}
 use Rattle.clk_sched.proofs.Lists.Ranges.{range-append}
+use Rattle.clk_sched.proofs.Lists.Numbers.{is_number}
 
 abbrev joined : List (List Visit) → List Visit
 joined more = flat_map (λ pull. pull) more

@@ -4,11 +4,11 @@ use Rattle.std.proofs.lemmas.Bool.Decides.{nat_tests}
 use Rattle.clk_packet.specs.declared.packet.Packet.{Packet}
 use Rattle.clk_sched.specs.declared.visit.Visit.{Visit}
 use Rattle.clk_sched.specs.DeficitRounds.{Round, first_round, may_pass, stays_with, moves_on_with, round_after, round_of, KeepsToRound, GoesByRounds}
-use Rattle.clk_sched.specs.Heads.{is_covered}
 use Rattle.clk_sched.specs.Laws.Deficit.{next_input, arrives, arrivals, passed_bytes, quantum_at, allowed_bytes, deficit_covers}
 use Rattle.clk_sched.specs.Turns.{Turn, EachAfter, all_visits}
 use Rattle.clk_sched.proofs.Runs.Allowed.{onto, onto-reverse, each-split}
 use Rattle.clk_sched.proofs.Shares.DeficitShares.{IsDeficitVisit}
+use Rattle.clk_sched.specs.inside.Looking.{is_covered}
 
 -- A round tells of these visits: whose turn is next, and what each input had left of its arrivals.
 record Tells (quanta : List ℕ) (inputs : ℕ) (earlier : List Visit) (r : Round) : Type 0 where

@@ -8,9 +8,10 @@ use Rattle.clk_packet.specs.Scheduler.{shaper}
 use Rattle.clk_sched.specs.declared.visit.Visit.{Visit}
 use Rattle.clk_sched.specs.Turns.{Turn, EachAfter, giver, UpToFirst, AsksInOrder}
 use Rattle.clk_sched.specs.Laws.{Follows, manner}
-use Rattle.clk_sched.specs.Laws.Shaper.{has_passed, packets_passed, keeps_since_each, has_room, shaper_order}
+use Rattle.clk_sched.specs.Laws.Shaper.{has_passed, packets_passed, keeps_since_each, shaper_order}
 use Rattle.clk_sched.specs.Service.{KeepsToRate}
 use Rattle.clk_sched.proofs.Runs.Allowed.{onto, each-split}
+use Rattle.clk_sched.specs.inside.Holds.Shaper.{has_room}
 
 -- a turn is within a window
 abbrev IsFrom : ℕ → ℕ → Turn → Type 0

@@ -5,9 +5,9 @@ use Rattle.std.proofs.lemmas.Bool.{false≢true}
 use Rattle.std.proofs.lemmas.Option.{slice_get-map}
 use Rattle.clk_packet.specs.declared.packet.Packet.{Packet}
 use Rattle.clk_sched.specs.declared.visit.Visit.{Visit}
-use Rattle.clk_sched.specs.Tree.{is_number}
 use Rattle.clk_sched.specs.Turns.{Turn, EachAfter, giver, all_visits, UpToFirst, AsksInOrder}
-use Rattle.clk_sched.specs.Laws.Stride.{visits_input, passes_after, passes_of, put_in_order, in_rising_order, stride_order, pass_in, stride_at}
+use Rattle.clk_sched.specs.Laws.Stride.{visits_input, passes_after, passes_of, stride_order, pass_in, stride_at}
+use Rattle.clk_sched.specs.inside.Rising.{put_in_order, in_rising_order}
 use Rattle.clk_sched.specs.Service.{AlwaysGets, Near, largest_stride, packets_given, pass_at, SharesByStride}
 use Rattle.clk_packet.specs.Lists.{In}
 use Rattle.clk_sched.proofs.Lists.Members.{of-all, all-split}
@@ -15,6 +15,7 @@ use Rattle.clk_sched.proofs.Lists.Rising.{in-ordered, ordered-in}
 use Rattle.clk_sched.proofs.Runs.Allowed.{onto, onto-reverse, each-split}
 use Rattle.clk_sched.proofs.Classes.Orders.{put-all, passes-length}
 use Rattle.clk_sched.proofs.Classes.Enumerated.{at-enumerated, in-enumerated, enumerated-at}
+use Rattle.clk_sched.proofs.Lists.Numbers.{is_number}
 
 -- each pass is no greater than those after it
 abbrev AtLeast : ℕ → List (ℕ × ℕ) → Type 0

@@ -11,9 +11,8 @@ use Rattle.clk_sched.specs.declared.session.state.State.TheVariants.{Shaper}
 use Rattle.clk_sched.specs.declared.session.shaper.Bucket.{Bucket}
 use Rattle.clk_packet.specs.Scheduler.{Scheduler, shaper}
 use Rattle.clk_sched.specs.Turns.{Turn, AsksInOrder, giver}
-use Rattle.clk_sched.specs.Laws.Shaper.{has_room}
 use Rattle.clk_sched.specs.Log.{asking}
-use Rattle.clk_sched.specs.inside.Holds.Shaper.{AreBefore, HoldsBucket, IsTaken, IsGivenBack, Tells, tokens_at}
+use Rattle.clk_sched.specs.inside.Holds.Shaper.{AreBefore, HoldsBucket, IsTaken, IsGivenBack, Tells, tokens_at, has_room}
 use Rattle.clk_sched.specs.inside.Pulling.{AsksAll, added, now_of, as_turn, with_turn, asked_in_order, CanPull, Keeps, TakesTurn}
 use Rattle.clk_sched.specs.Answers.{Answers}
 use Rattle.clk_sched.specs.inside.Places.{edges_of, edges_at, input_at, queue_asked}

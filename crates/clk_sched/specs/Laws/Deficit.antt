@@ -1,6 +1,7 @@
 -- What a DRRSched does (Shreedhar and Varghese 1995, pull by pull): which input has its turn, and which packet is covered. All is told by
 -- the visits of the node across its pulls, earlier ones with the latest first.
-use Rattle.std.specs.Prelude.{◌≡◌, ℕ, ◌+◌, ◌*◌, ◌%◌, ◌==◌, Bool, nat_le, List, [], ◌∷◌, is_some, Option, Some, None, unwrap_or, slice_get, if◌then◌else◌}
+use Rattle.std.specs.Prelude.{◌≡◌, ℕ, ◌+◌, ◌*◌, ◌%◌, ◌==◌, Bool, nat_le, List, [], ◌∷◌, is_some, unwrap_or, slice_get, if◌then◌else◌}
+use Rattle.std.specs.Option.{option_map_or}
 use Rattle.clk_packet.specs.declared.packet.Packet.{Packet}
 use Rattle.clk_sched.specs.declared.visit.Visit.{Visit}
 
@@ -20,16 +21,13 @@ arrivals input [] = 0
 arrivals input (v ∷ earlier) =
     if v.input == input then (if is_some v.got then arrives earlier + arrivals input earlier else 0) else arrivals input earlier
 
--- the length of a packet, and 0 if there is none
-abbrev pub bytes_of : Option Packet → ℕ
-bytes_of None = 0
-bytes_of (Some p) = p.length
-
 -- how many bytes passed from an input since the latest visit to it that got nothing
 abbrev pub passed_bytes : ℕ → List Visit → ℕ
 passed_bytes input [] = 0
 passed_bytes input (v ∷ earlier) =
-    if v.input == input then (if is_some v.got then (if v.passed then bytes_of v.got else 0) + passed_bytes input earlier else 0) else passed_bytes input earlier
+    if v.input == input
+    then (if is_some v.got then (if v.passed then option_map_or (λ (p : Packet). p.length) v.got 0 else 0) + passed_bytes input earlier else 0)
+    else passed_bytes input earlier
 
 -- the quantum of an input, by the quanta of each
 abbrev pub quantum_at : List ℕ → ℕ → ℕ

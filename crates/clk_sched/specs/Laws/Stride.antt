@@ -2,6 +2,7 @@
 use Rattle.std.specs.Prelude.{ℕ, ◌+◌, ◌/◌, ◌==◌, ◌&&◌, ◌||◌, Bool, nat_lt, nat_le, List, [], ◌∷◌, map, Option, Some, None, unwrap_or, slice_get, if◌then◌else◌}
 use Rattle.std.specs.List.{enumerate_from, list_any}
 use Rattle.clk_sched.specs.declared.visit.Visit.{Visit}
+use Rattle.clk_sched.specs.Sorting.{sorted}
 use Rattle.clk_sched.specs.Turns.{Turn, giver}
 
 -- what a pass grows by: 65,536 over the tickets, rounded down
@@ -35,17 +36,10 @@ abbrev pub passes_of : List ℕ → List Turn → List ℕ
 passes_of tickets [] = map (λ _. 0) tickets
 passes_of tickets (t ∷ earlier) = passes_after tickets (passes_of tickets earlier) t
 
--- an input put into a list in rising order of (pass, index)
-abbrev pub put_in_order : ℕ × ℕ → List (ℕ × ℕ) → List (ℕ × ℕ)
-put_in_order i [] = i ∷ []
-put_in_order i (j ∷ others) =
-    if nat_lt i.1 j.1 || ((i.1 == j.1) && nat_le i.0 j.0) then i ∷ j ∷ others else j ∷ put_in_order i others
-
--- inputs with their passes, in rising order of (pass, index)
-abbrev pub in_rising_order : List (ℕ × ℕ) → List (ℕ × ℕ)
-in_rising_order [] = []
-in_rising_order (i ∷ others) = put_in_order i (in_rising_order others)
+-- whether an input, given with its pass, goes before another: by (pass, index)
+abbrev pub goes_before : ℕ × ℕ → ℕ × ℕ → Bool
+goes_before i j = nat_lt i.1 j.1 || ((i.1 == j.1) && nat_le i.0 j.0)
 
 -- A StrideSched asks inputs in rising order of (pass, index), by the passes at the start of the pull.
 abbrev pub stride_order : List ℕ → List Turn → List ℕ
-stride_order tickets earlier = map (λ (i : ℕ × ℕ). i.0) (in_rising_order (enumerate_from 0 (passes_of tickets earlier)))
+stride_order tickets earlier = map (λ (i : ℕ × ℕ). i.0) (sorted goes_before (enumerate_from 0 (passes_of tickets earlier)))

@@ -1,12 +1,13 @@
 -- What a scheduler that holds heads does at one of its inputs.
 use Rattle.std.specs.Prelude.{◌≡◌, ℕ, suc, ◌+◌, ◌%◌, ◌<◌, ◌≤◌, Bool, false, List, [], ◌∷◌, length, Option, Some, None, slice_get}
+use Rattle.std.specs.Option.{option_map_or}
 use Rattle.clk_packet.specs.declared.packet.Packet.{Packet}
 use Rattle.clk_sched.specs.declared.visit.Visit.{Visit}
 use Rattle.clk_sched.specs.declared.session.drr.Deficits.{Deficits}
 use Rattle.clk_sched.specs.declared.session.drr.Served.{Served}
 use Rattle.clk_sched.specs.declared.session.nodes.Nodes.{Nodes}
 use Rattle.clk_sched.specs.inside.Logged.{with_visit}
-use Rattle.clk_sched.specs.Heads.{LooksAtHeads, is_covered}
+use Rattle.clk_sched.specs.Heads.{LooksAtHeads}
 use Rattle.clk_sched.specs.Laws.Deficit.{next_input, deficit_covers}
 use Rattle.clk_sched.specs.inside.Holds.Deficit.{HoldsDeficits}
 use Rattle.clk_sched.specs.Answers.{Answers}
@@ -25,6 +26,10 @@ pub record Logs (old new : Nodes) (v : Visit) : Type 0 where
   pub pull : new.pull ≡ old.pull
   pub moment : new.moment ≡ old.moment
   pub log : new.log ≡ with_visit old.log v
+
+-- whether there is a packet and `covers` holds of it
+abbrev pub is_covered : (Packet → Bool) → Option Packet → Bool
+is_covered covers o = option_map_or covers o false
 
 -- the packet that is held as the head of the input whose turn it is, if there is one
 abbrev pub IsHead : Deficits → Option Packet → Type 0

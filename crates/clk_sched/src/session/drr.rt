@@ -2,7 +2,7 @@
 
 ghost use Rattle.std.specs.Prelude.{◌≡◌, ◌+◌, ◌^◌, ◌<◌, ◌≤◌, false, length, map, slice_get, slice_set, Some, None, IfOk};
 ghost use Rattle.clk_packet.specs.declared.limits.TheConstants.{MAX_INPUTS, MAX_QUANTUM};
-ghost use Rattle.clk_sched.specs.inside.Holds.Served.{AreQuantaWithin, AreDeficitsWithin, AreIdleWithoutDeficits, IsArrivedAt, IsWithoutDeficit, waiting, with_quantum};
+ghost use Rattle.clk_sched.specs.inside.Holds.Served.{AreQuantaWithin, AreDeficitsWithin, AreIdleWithoutDeficits, IsArrivedAt, IsWithoutDeficit, waiting};
 ghost use Rattle.clk_sched.specs.declared.session.drr.Served.{Served};
 
 use crate::ask::Ask;
@@ -94,7 +94,7 @@ impl Deficits {
     ghost use Rattle.std.specs.List.{AllByRecursion, list_any};
     ghost use Rattle.clk_packet.specs.declared.limits.TheConstants.{MAX_LENGTH};
     ghost use Rattle.clk_sched.specs.declared.visit.Visit.{Visit};
-    ghost use Rattle.clk_sched.specs.Heads.{head_at, is_covered};
+    ghost use Rattle.clk_sched.specs.Heads.{head_at};
     ghost use Rattle.clk_sched.specs.Laws.Deficit.{next_input, deficit_covers};
     ghost use Rattle.clk_sched.specs.inside.Holds.Deficit.{HoldsDeficits};
     ghost use Rattle.clk_sched.specs.inside.Holds.Served.{settled};
@@ -103,9 +103,9 @@ impl Deficits {
     ghost use Rattle.clk_sched.specs.declared.session.drr.Deficits.{Deficits};
     ghost use Rattle.clk_sched.specs.inside.Places.{edges_of, edges_at, input_at};
     ghost use Rattle.clk_sched.specs.inside.Pulling.{CanPull};
-    ghost use Rattle.clk_sched.specs.inside.Turning.{WasPulled, HadTurn, IsIdle};
+    ghost use Rattle.clk_sched.specs.inside.Turning.{WasPulled, HadTurn};
     ghost use Rattle.clk_sched.specs.inside.Holds.OfClass.{IsDrr};
-    ghost use Rattle.clk_sched.specs.inside.Looking.{looking, HoldsNoneAhead, IsHead, Logs, Settles, LooksAt, AreIdleAhead};
+    ghost use Rattle.clk_sched.specs.inside.Looking.{is_covered, looking, HoldsNoneAhead, IsHead, Logs, Settles, LooksAt, AreIdleAhead};
     ghost use Rattle.clk_sched.specs.inside.Making.{MayGoOn, GoesOnInVain};
     ghost use Rattle.clk_sched.specs.inside.Resting.{IsDrrAtRest};
     ghost use Rattle.clk_sched.specs.declared.session.state.State.TheVariants.{Drr};

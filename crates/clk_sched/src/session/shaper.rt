@@ -30,9 +30,8 @@ pub struct Bucket {
 impl Bucket {
     ghost use Rattle.std.specs.Prelude.{◌≡◌, ℕ, ◌+◌, ◌-◌, ◌^◌, nat_lt, List, [], length, slice_get, Some, IfSome, IsSome, true, MatchBool};
     ghost use Rattle.clk_sched.specs.Turns.{Turn};
-    ghost use Rattle.clk_sched.specs.Laws.Shaper.{has_room};
     ghost use Rattle.clk_sched.specs.Due.{IsDue};
-    ghost use Rattle.clk_sched.specs.inside.Holds.Shaper.{AreBefore, HoldsBucket, IsTaken, IsGivenBack, tokens_at};
+    ghost use Rattle.clk_sched.specs.inside.Holds.Shaper.{has_room, AreBefore, HoldsBucket, IsTaken, IsGivenBack, tokens_at};
     ghost use Rattle.clk_sched.specs.declared.session.inputs.Input.TheVariants.{Node};
     ghost use Rattle.clk_sched.specs.inside.Holds.OfClass.{IsShaper};
     ghost use Rattle.clk_sched.specs.inside.Places.{AllFit, edges_of, edges_at, input_at};

@@ -17,11 +17,11 @@ use Rattle.clk_packet.specs.Lists.{AreRising}
 use Rattle.clk_sched.specs.declared.visit.Visit.{Visit}
 use Rattle.clk_sched.specs.Keeps.{keeps_latest}
 use Rattle.clk_sched.specs.declared.limits.TheConstants.{END_OF_MOMENTS}
-use Rattle.clk_sched.specs.Tree.{is_number}
 use Rattle.clk_tree.specs.declared.plan.parts.SenderSpec.{SenderSpec}
 use Rattle.clk_tree.specs.PlanParts.{number_of}
 use Rattle.clk_router.specs.Course.{Course, after, events_of, latest_visits, room_device, its_device, device_at, sender_at, CanOffer, CanPull}
-use Rattle.clk_router.specs.Events.{Room, Setup, sender_numbers, Event, offered, pulled, is_at, is_of_device, happens_at, events_at, number_from, visits_in, pull_in, accepted_in, log_of, CanHappen}
+use Rattle.clk_router.specs.Events.{Room, Setup, sender_numbers, Event, offered, pulled, is_of_device, happens_at, events_at, number_from, visits_in, pull_in, accepted_in, log_of, CanHappen}
+use Rattle.clk_router.proofs.Callers.Plans.{is_at}
 use Rattle.clk_router.specs.Settled.{sends_at}
 use Rattle.clk_router.proofs.Callers.Apart.{none-later, one-sender, numbers-at}
 use Rattle.clk_router.proofs.Callers.Events.{all-join}
@@ -37,6 +37,7 @@ use Rattle.clk_script.specs.inside.Replay.{is_row_at, asked_at, pulls_asked, Car
 use Rattle.clk_script.proofs.Carrying.AnswerLemmas.{all-at}
 use Rattle.clk_script.proofs.Texts.LengthLemmas.{length-filter-le, length-filter_map-le}
 use Rattle.clk_script.proofs.Carrying.HeldLemmas.{held-none, held-then}
+use Rattle.clk_sched.proofs.Callers.Lists.{is_number}
 
 -- what happens at a device after events that happen there
 pub events-own : (setup : Setup) (d : ℕ) (before more : List Event) → AllByRecursion (λ e. happens_at setup d e ≡ true) more → events_at setup d (before ++ more) ≡ events_at setup d before ++ more

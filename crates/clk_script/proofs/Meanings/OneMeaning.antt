@@ -13,7 +13,7 @@ use Rattle.clk_packet.specs.declared.packet.Offered.{Offered}
 use Rattle.clk_ring.specs.QueueHistory.{IsQueueHistory, offer_events}
 use Rattle.clk_ring.specs.Laws.{HistoriesLeaveNoChoice}
 use Rattle.clk_sched.specs.declared.visit.Visit.{Visit}
-use Rattle.clk_sched.specs.Tree.{Tree, queue_at, is_number}
+use Rattle.clk_sched.specs.Tree.{Tree, queue_at}
 use Rattle.clk_sched.specs.Log.{visits_of, result_of}
 use Rattle.clk_sched.specs.Session.{given_in, LastGives}
 use Rattle.clk_sched.specs.Choice.{answers_of, GoAlike, PullsLeaveNoChoice}
@@ -31,6 +31,7 @@ use Rattle.clk_script.specs.OneMeaning.{HasAtMostOneLog, HasAtMostOneMeaning}
 use Rattle.clk_packet.proofs.Callers.Packets.{packet-same}
 use Rattle.clk_script.proofs.Meanings.Alike.{member-between, pulls-alike, its-moment, events-at-pull, number-at}
 use Rattle.clk_script.proofs.Meanings.ScriptLemmas.{each-command-sound}
+use Rattle.clk_sched.proofs.Callers.Lists.{is_number}
 
 -- a sender's packet has the number that is next
 next-number : (s : ℕ) (done : List Event) (p : Packet) (outcome : Offered) (more : List Event) (n : ℕ) → p.sender ≡ s

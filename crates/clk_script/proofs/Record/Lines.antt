@@ -8,7 +8,8 @@ use Rattle.clk_script.specs.declared.script.Command.{Command}
 use Rattle.clk_script.specs.declared.script.Command.TheVariants.{Send, Pull}
 use Rattle.clk_script.specs.declared.script.ScriptLine.{ScriptLine}
 use Rattle.clk_script.specs.declared.script.ScriptLine.TheVariants as line
-use Rattle.clk_script.specs.Script.{send_of, pull_of, drain_of, lines_of}
+use Rattle.clk_script.specs.Script.{lines_of}
+use Rattle.clk_script.specs.inside.Numbered.{send_of, pull_of, drain_of}
 use Rattle.clk_script.specs.declared.limits.TheConstants.{MAX_MOMENT, MAX_DEVICE}
 use Rattle.clk_script.specs.Record.{command_text, drain_text, record_text, IsSmall}
 use Rattle.clk_script.proofs.Texts.PlainLines.{IsField, digits-field, line-spaced}

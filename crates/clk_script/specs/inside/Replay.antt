@@ -1,12 +1,13 @@
 -- What it means that a script is carried out again, device by device, to write the visits.
-use Rattle.std.specs.Prelude.{◌≡◌, ℕ, ◌+◌, ◌≤◌, ◌==◌, List, [], ◌∷◌, ◌++◌, length, map, filter, true, Bool, Option, Some, None, OnOk, OnErr, Result, if◌then◌else◌, IfSome}
+use Rattle.std.specs.Prelude.{◌≡◌, ℕ, ◌+◌, ◌≤◌, ◌==◌, List, [], ◌∷◌, ◌++◌, length, map, filter, true, Bool, Option, Some, None, OnOk, OnErr, Result, if◌then◌else◌, IfSome, false}
+use Rattle.std.specs.Option.{option_map_or}
 use Rattle.std.specs.List.{AllByRecursion, range_with_len}
 use Rattle.clk_packet.specs.Bytes.{OfBytes, Wrote}
 use Rattle.clk_packet.specs.declared.fault.Fault.{Fault}
 use Rattle.clk_report.specs.declared.reports.TheConstants.{MAX_DEVICES}
 use Rattle.clk_report.specs.VisitCsv.{rows_text}
 use Rattle.clk_sched.specs.Keeps.{keeps_latest}
-use Rattle.clk_sched.specs.Tree.{Tree, is_number}
+use Rattle.clk_sched.specs.Tree.{Tree}
 use Rattle.clk_sched.specs.declared.visit.Visit.{Visit}
 use Rattle.clk_tree.specs.Plan.{Planned}
 use Rattle.clk_tree.specs.Shares.{AreTreesOf}
@@ -34,7 +35,7 @@ pub record IsAnswerOver (plan : List Planned) (known : Option (List ℕ)) (answe
 
 -- whether a row asks for something at a device
 abbrev pub is_row_at : Setup → ℕ → ScriptRow → Bool
-is_row_at setup d (row.Send fate place p) = is_number d (device_at setup place)
+is_row_at setup d (row.Send fate place p) = option_map_or (λ other. other == d) (device_at setup place) false
 is_row_at setup d (row.Pull gave device moment) = device == d
 
 -- the commands of the rows that ask for something at a device

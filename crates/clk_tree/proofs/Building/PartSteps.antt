@@ -9,7 +9,8 @@ use Rattle.clk_tree.specs.declared.plan.parts.SenderSpec.{SenderSpec}
 use Rattle.clk_tree.specs.Plan.{Planned}
 use Rattle.clk_tree.specs.PlanTree.{is_queue}
 use Rattle.clk_tree.specs.Elements.{planned}
-use Rattle.clk_tree.specs.PlanParts.{queue_fed, placed}
+use Rattle.clk_tree.specs.PlanParts.{queue_fed}
+use Rattle.clk_tree.specs.inside.ByNumber.{placed}
 
 -- what is left begins with the element that stands there
 pub left-cons : (elements : List Element) (k : ℕ) (x : Element) → k < length elements → x ≡ get_or elements k x → map planned (drop k elements) ≡ planned x ∷ map planned (drop (k + 1) elements)

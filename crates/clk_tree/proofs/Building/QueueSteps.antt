@@ -13,8 +13,9 @@ use Rattle.clk_tree.specs.Plan.{Planned}
 use Rattle.clk_tree.specs.Elements.{planned}
 use Rattle.clk_tree.specs.PlanTree.{is_queue, queue_count}
 use Rattle.clk_tree.specs.PlanPaths.{device_of}
-use Rattle.clk_tree.specs.PlanParts.{Queued, queued, senders_of, senders_to, queue_of, queues_of}
+use Rattle.clk_tree.specs.PlanParts.{Queued, queued, senders_of, queue_of, queues_of}
 use Rattle.clk_tree.specs.inside.FromPlace.{queues_from}
+use Rattle.clk_tree.specs.inside.ByNumber.{senders_to}
 
 -- how many queues there are up to a place
 count-more : (elements : List Element) (k : ℕ) (d : Element) → k < length elements → queue_count (take (suc k) (map planned elements))

@@ -1,10 +1,10 @@
 -- A plan has one tree for each device.
-use Rattle.std.proofs.Common.{◌≡◌, ℕ, List, [], ◌∷◌, length, suc, Option, Some, slice_get, refl, sym, ap₂, ◌∙◌, arith, rules}
+use Rattle.std.proofs.Common.{◌≡◌, ℕ, List, [], ◌∷◌, length, suc, Option, Some, slice_get, refl, sym, ap₂, ◌∙◌, arith, rules, get_or}
 use Rattle.clk_packet.specs.Scheduler.{Scheduler}
 use Rattle.clk_sched.specs.Tree.{Row, end, leaf, node, Tree, root}
 use Rattle.clk_tree.specs.Plan.{Planned}
-use Rattle.clk_tree.specs.PlanTree.{sources_at, sources_of_device, IsNode, IsRowOf, IsTreeOf}
-use Rattle.clk_tree.specs.inside.PlanTree.{number_if}
+use Rattle.clk_tree.specs.PlanTree.{IsNode, IsRowOf, IsTreeOf, device_sources}
+use Rattle.clk_tree.specs.inside.PlanTree.{number_if, sources_at}
 use Rattle.clk_tree.specs.Shares.{AreTreesOf}
 
 -- a queue is no scheduler
@@ -39,7 +39,7 @@ one-root t u e = search rules
 
 -- a device of a plan has one tree
 pub one-tree : (plan : List Planned) (d : ℕ) (t u : Tree) → IsTreeOf plan d t → IsTreeOf plan d u → t ≡ u
-one-tree plan d t u x y = one-root t u (one-row plan (sources_of_device plan d) (root t) (root u) x y)
+one-tree plan d t u x y = one-root t u (one-row plan (get_or (device_sources plan) d []) (root t) (root u) x y)
 
 -- lists that agree at each place
 same-lists : {X : Type 0} (xs ys : List X) → length xs ≡ length ys → ((i : ℕ) (x y : X) → slice_get xs i ≡ Some x → slice_get ys i ≡ Some y → x ≡ y) → xs ≡ ys

@@ -9,8 +9,8 @@ use Rattle.clk_sched.specs.Tree.{Row, end, leaf, node, Tree, root, leaves}
 use Rattle.clk_syntax.specs.Classes.{Class, role_of}
 use Rattle.clk_syntax.specs.Ports.{is_source}
 use Rattle.clk_tree.specs.Plan.{Planned, Denotes}
-use Rattle.clk_tree.specs.PlanTree.{is_queue, is_device, queue_count, queue_number, sources_at, IsNode, IsRowOf, IsTreeOf, device_count}
-use Rattle.clk_tree.specs.inside.PlanTree.{is_queue_at}
+use Rattle.clk_tree.specs.PlanTree.{is_queue, is_device, queue_count, queue_number, IsNode, IsRowOf, IsTreeOf, device_count}
+use Rattle.clk_tree.specs.inside.PlanTree.{is_queue_at, sources_at}
 use Rattle.clk_tree.specs.PlanPaths.{has_output, place_fed, device_of}
 use Rattle.clk_tree.specs.PlanParts.{Queued, queues_of, leads_to}
 use Rattle.clk_tree.proofs.Distinct.DistinctNumbers.{in-append, in-left, in-right, in-stands, stands-in, mapped-from, in-mapped}

@@ -14,7 +14,8 @@ use Rattle.clk_tree.specs.declared.plan.parts.SenderSpec.{SenderSpec}
 use Rattle.clk_tree.specs.Plan.{Planned, all_known, plan_of, Denotes, planned_from}
 use Rattle.clk_tree.specs.inside.FromPlace.{senders_from, queues_from}
 use Rattle.clk_tree.specs.PlanTree.{is_queue, queue_count}
-use Rattle.clk_tree.specs.PlanParts.{queue_fed, sender_of, placed, by_number, senders_of, number_of, queues_of, HasCapacity, HasNumber, SendsWithin}
+use Rattle.clk_tree.specs.PlanParts.{queue_fed, sender_of, senders_of, number_of, queues_of, HasCapacity, HasNumber, SendsWithin}
+use Rattle.clk_tree.specs.inside.ByNumber.{placed, by_number}
 use Rattle.clk_tree.proofs.Sound.SoundClasses.{HasLimits, class-limits}
 use Rattle.clk_tree.proofs.Sound.SoundNodes.{known_as}
 use Rattle.clk_tree.proofs.Sound.SoundQueues.{IsSenderAt, sender-sent}

@@ -21,7 +21,7 @@ use Rattle.clk_tree.specs.declared.plan.element.Element as plan
 use Rattle.clk_tree.specs.Elements.{planned}
 use Rattle.clk_tree.specs.declared.plan.parts.SenderSpec.{SenderSpec}
 use Rattle.clk_tree.specs.Plan.{Planned, all_known, planned_from, Denotes}
-use Rattle.clk_tree.specs.PlanTree.{IsRowOf, IsTreeOf, device_sources, device_count, sources_of_device}
+use Rattle.clk_tree.specs.PlanTree.{IsRowOf, IsTreeOf, device_sources, device_count}
 use Rattle.clk_tree.specs.inside.PlanTree.{IsScheduled}
 use Rattle.clk_tree.specs.PlanParts.{Queued, queues_of, leads_to, IsKept}
 use Rattle.clk_tree.specs.Shares.{AreTreesOf, AreSharedOut}
@@ -77,7 +77,7 @@ kept-scheduled plan tops queues senders d top h below is =
 
 -- what is connected to a device
 kept-sources : (plan : List Planned) (tops : List ℕ) (queues : List Queued) (senders : List SenderSpec) (d top : ℕ) → IsKept plan tops queues senders → d < length tops
-    → top ≡ get_or tops d top → sources_of_device plan d ≡ top ∷ []
+    → top ≡ get_or tops d top → get_or (device_sources plan) d [] ≡ top ∷ []
 kept-sources plan tops queues senders d top h below is = search (rules, get_or-map)
 
 -- What is made at that element is the tree of the device: no queue stands twice in it, and a session takes it.

@@ -25,7 +25,7 @@ use Rattle.clk_syntax.specs.Reading.{elements_of, wires_of}
 use Rattle.clk_syntax.proofs.Callers.Graphs.{used_again}
 use Rattle.clk_syntax.proofs.Callers.Checks.{neither, fails-not}
 use Rattle.clk_tree.specs.Plan.{Planned, Known, all_known, source_at, sources_of, planned_at, planned_from, plan_of, Denotes}
-use Rattle.clk_tree.specs.PlanTree.{is_queue, is_device, device_sources, device_count, sources_of_device, IsRowOf, IsTreeOf}
+use Rattle.clk_tree.specs.PlanTree.{is_queue, is_device, device_sources, device_count, IsRowOf, IsTreeOf}
 use Rattle.clk_tree.proofs.Distinct.DistinctNumbers.{Distinct, distinct-test}
 use Rattle.clk_tree.proofs.Distinct.DistinctTrees.{HasParents, tree-distinct, tree-fits}
 
@@ -183,7 +183,7 @@ pub record IsDeviceAt (plan : List Planned) (d : ℕ) : Type 0 where
   pub element : Planned
   pub at : slice_get plan place ≡ Some element
   pub is : is_device element.class ≡ true
-  pub sources : sources_of_device plan d ≡ element.sources
+  pub sources : get_or (device_sources plan) d [] ≡ element.sources
   pub before : device_count (take place plan) ≡ d
 
 abbrev with_device : Bool → List ℕ → List (List ℕ) → List (List ℕ)

@@ -11,8 +11,8 @@ use Rattle.clk_packet.specs.Lists.{are_distinct, In}
 use Rattle.clk_sched.specs.Tree.{Row, end, leaf, node, Tree, root, leaves, leaves_distinct}
 use Rattle.clk_syntax.specs.Classes.{Class}
 use Rattle.clk_tree.specs.Plan.{Planned}
-use Rattle.clk_tree.specs.PlanTree.{is_queue, is_device, queue_number, scheduler_over, IsNode, sources_at, IsRowOf}
-use Rattle.clk_tree.specs.inside.PlanTree.{number_if}
+use Rattle.clk_tree.specs.PlanTree.{is_queue, is_device, queue_number, scheduler_over, IsNode, IsRowOf}
+use Rattle.clk_tree.specs.inside.PlanTree.{number_if, sources_at}
 use Rattle.clk_tree.proofs.Distinct.DistinctNumbers.{Distinct, in-all, test-distinct, distinct-test, in-append, distinct-append, distinct-mapped, distinct-below}
 use Rattle.clk_tree.proofs.Distinct.DistinctQueues.{one-number}
 

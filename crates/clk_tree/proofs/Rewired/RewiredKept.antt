@@ -8,7 +8,6 @@ use Rattle.std.proofs.lemmas.Option.{same_Some, slice_get_within}
 use Rattle.clk_sched.proofs.Callers.Lists.{all-weaker}
 use Rattle.clk_packet.specs.Lists.{stands_in}
 use Rattle.clk_packet.proofs.Callers.Lists.{all-both}
-use Rattle.clk_sched.specs.Tree.{is_number}
 use Rattle.clk_syntax.specs.declared.naming.class.Role.{Role}
 use Rattle.clk_syntax.specs.declared.node.Node.{Node}
 use Rattle.clk_syntax.specs.declared.node.Link.{Link}
@@ -29,6 +28,7 @@ use Rattle.clk_tree.proofs.Sound.SoundPlans.{sound-nodes}
 use Rattle.clk_tree.proofs.Sound.SoundQueues.{length-planned, stands-filter}
 use Rattle.clk_tree.proofs.Rewired.RewiredLinks.{source_link, input_links, class_links, plan_links, class-links}
 use Rattle.clk_tree.proofs.Rewired.RewiredCame.{right-output, queue-input, has-senders, right-ends}
+use Rattle.clk_sched.proofs.Callers.Lists.{is_number}
 
 -- no pull input that was used is used again
 abbrev pulls_again : List Node → List Link → Link → Bool

@@ -4,7 +4,6 @@ use Rattle.std.specs.List.{AllByRecursion, range_with_len}
 use Rattle.std.proofs.lemmas.Bool.{false≢true, cases_eq, cases_Bool, or_cases, or_from}
 use Rattle.std.proofs.lemmas.Option.{slice_get_within, same_Some}
 use Rattle.clk_packet.specs.Lists.{stands_in, are_distinct}
-use Rattle.clk_sched.specs.Tree.{is_number}
 use Rattle.clk_syntax.specs.declared.naming.class.Role.{Role}
 use Rattle.clk_syntax.specs.declared.naming.class.Role.TheVariants as role
 use Rattle.clk_syntax.specs.declared.node.Node.{Node}
@@ -19,6 +18,7 @@ use Rattle.clk_tree.proofs.Sound.SoundChecks.{IsRight}
 use Rattle.clk_tree.proofs.Sound.SoundNodes.{IsPlanned, node-at, queue-class}
 use Rattle.clk_tree.proofs.Sound.SoundPaths.{AreSound, Feeds, fed}
 use Rattle.clk_tree.proofs.Sound.SoundPlans.{IsPlanOf, is-plan, sound-nodes, pull-sources}
+use Rattle.clk_sched.proofs.Callers.Lists.{is_number}
 
 pub length-planned : (count : ℕ) (links : List Link) (i : ℕ) (ks : List Known) → length (planned_from count links i ks) ≡ length ks
 length-planned count links i [] = refl

@@ -1,5 +1,6 @@
 -- How a tree is built from the elements of a plan.
-use Rattle.std.specs.Prelude.{◌≡◌, ◌≤◌, ◌⊎◌, ℕ, List, length, Bool, true, false, if◌then◌else◌, Option, Some, None, option_and_then, MatchOption, Result, zero, suc, slice_get}
+use Rattle.std.specs.Prelude.{◌≡◌, ◌≤◌, ◌⊎◌, ℕ, List, [], length, Bool, true, false, if◌then◌else◌, Option, Some, None, option_and_then, MatchOption, Result, zero, suc, slice_get}
+use Rattle.std.specs.Option.{option_map_or}
 use Rattle.std.specs.List.{AllByRecursion}
 use Rattle.clk_packet.specs.declared.fault.Fault.{Fault}
 use Rattle.clk_packet.specs.declared.limits.TheConstants.{MAX_INPUTS}
@@ -38,3 +39,7 @@ IsScheduled plan (suc levels) s =
 -- this number, if the element is a queue
 abbrev pub number_if : ℕ → Option Planned → Option ℕ
 number_if n o = option_and_then (λ (e : Planned). if is_queue e.class then Some n else None) o
+
+-- what is connected to an element, if there is one
+abbrev pub sources_at : Option Planned → List ℕ
+sources_at o = option_map_or (λ e. e.sources) o []

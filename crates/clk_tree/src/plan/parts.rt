@@ -4,7 +4,8 @@ ghost use Rattle.std.specs.Prelude.{◌≡◌, ◌≤◌, map, length, nat_le, I
 ghost use Rattle.std.specs.List.{prefix_len};
 ghost use Rattle.clk_packet.specs.declared.fault.Fault.TheVariants.{Memory};
 ghost use Rattle.clk_packet.specs.declared.limits.TheConstants.{MAX_ELEMENTS};
-ghost use Rattle.clk_tree.specs.PlanParts.{queued, queue_fed, placed, senders_to, senders_of, queues_of, name_of_sender};
+ghost use Rattle.clk_tree.specs.PlanParts.{queued, queue_fed, senders_of, queues_of, name_of_sender};
+ghost use Rattle.clk_tree.specs.inside.ByNumber.{placed, senders_to};
 ghost use Rattle.clk_tree.specs.declared.plan.parts.SenderSpec.{SenderSpec};
 ghost use Rattle.clk_tree.specs.Elements.{planned};
 

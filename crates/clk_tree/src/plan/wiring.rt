@@ -1,10 +1,10 @@
 //! Which elements are connected to which.
 
-ghost use Rattle.std.specs.Prelude.{◌≡◌, ◌<◌, ◌≤◌, ◌++◌, ◌∷◌, [], ℕ, if◌then◌else◌, map, filter, length, IfOk, OnOk, IsOkUnless};
+ghost use Rattle.std.specs.Prelude.{◌≡◌, ◌==◌, false, ◌<◌, ◌≤◌, ◌++◌, ◌∷◌, [], ℕ, if◌then◌else◌, map, filter, length, IfOk, OnOk, IsOkUnless};
 ghost use Rattle.std.specs.List.{AllByRecursion, range_with_len};
+ghost use Rattle.std.specs.Option.{option_map_or};
 ghost use Rattle.clk_packet.specs.declared.fault.Fault.TheVariants.{Memory};
 ghost use Rattle.clk_packet.specs.declared.limits.TheConstants.{MAX_ELEMENTS};
-ghost use Rattle.clk_sched.specs.Tree.{is_number};
 ghost use Rattle.clk_syntax.specs.Ports.{target};
 ghost use Rattle.clk_syntax.specs.Tables.{IsTabled};
 ghost use Rattle.clk_tree.specs.Plan.{source_at, is_connected, sources_of};
@@ -50,7 +50,7 @@ fn connected_to(alloc: Global, graph: &Graph, place: u32) -> Result<Vec<u16>, Fa
 fn leads(graph: &Graph, from: u32, to: u32) -> bool
     requires tabled { IsTabled graph.now }
     requires place { from < length graph.now.nodes.now }
-    ensures { result ≡ is_number to (target from graph.now.links.now) }
+    ensures { result ≡ option_map_or (λ other. other == to) (target from graph.now.links.now) false }
 {
     graph.target(from) == Some(to)
 }

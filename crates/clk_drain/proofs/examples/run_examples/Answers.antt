@@ -1,5 +1,6 @@
-use Rattle.std.proofs.Common.{◌≡◌, ℕ, ◌+◌, false, true, List, [], ◌∷◌, length, map, take, drop, get_or, suc, refl, sym, ap, ◌∙◌, subst, lit≤, arith, inl, inr, Vec}
+use Rattle.std.proofs.Common.{◌≡◌, ℕ, false, true, List, [], ◌∷◌, length, map, filter, take, drop, get_or, refl, sym, ap, ◌∙◌, subst, lit≤, arith, inl, inr, Vec}
 use Rattle.std.proofs.lemmas.Bool.{false≢true}
+use Rattle.std.proofs.lemmas.Option.{same_Some}
 use Rattle.std.specs.List.{flat_map, AllByRecursion}
 use Rattle.std.specs.declared.alloc.Global.{Global}
 use Rattle.clk_packet.specs.declared.packet.Packet.{Packet}
@@ -8,7 +9,7 @@ use Rattle.clk_packet.specs.Trace.{sent_by}
 use Rattle.clk_packet.specs.Lists.{stands_in}
 use Rattle.clk_sched.specs.Log.{pulls}
 use Rattle.clk_sched.specs.Session.{LastGives}
-use Rattle.clk_sched.specs.Tree.{Tree, queue, scheduler}
+use Rattle.clk_sched.specs.Tree.{Tree, queue, scheduler, root, leaves}
 use Rattle.clk_sched.specs.Run.{IsRun}
 use Rattle.clk_sched.specs.Results.{emitted}
 use Rattle.clk_sched.specs.Examples.Priority.{p0_0, p1_0}
@@ -17,8 +18,10 @@ use Rattle.clk_tree.specs.PlanTree.{IsTreeOf, device_count}
 use Rattle.clk_sched.specs.declared.visit.Visit.{Visit}
 use Rattle.clk_drain.specs.declared.outcome.Outcome.{Outcome}
 use Rattle.clk_drain.specs.Moments.{HasMoments}
-use Rattle.clk_drain.specs.Outcome.{SharedQueue, Device, senders_to, IsSettledOutcome, IsQueueSettled}
-use Rattle.clk_drain.specs.Run.{IsDeviceOf, AreDevicesFrom, IsRunOutcome}
+use Rattle.clk_drain.specs.Outcome.{Device, senders_to, IsSettledOutcome, IsQueueSettled}
+use Rattle.clk_tree.specs.PlanParts.{SharedQueue, shared_queues}
+use Rattle.clk_drain.specs.Run.{IsDeviceOf, IsRunOutcome}
+use Rattle.clk_drain.proofs.Plans.Numbered.{AreDevicesFrom, are-many, devices-of}
 use Rattle.clk_drain.specs.RunExamples.{plan, wider_plan, scheduled_plan, traces, Lists, HasLists, log_a, log_b, pull_too_many, closing_late, closing_goes_on, run_lists, device_missing, device_too_many, log_missing, emitted_missing, logs_swapped, devices_swapped, in_other_list, tally_left_out, with_pull_too_many, with_closing_late, with_closing_goes_on}
 use Rattle.clk_drain.proofs.Runs.WorkedMoments.{moments-are, too-many, late, one-running, closing-is}
 use Rattle.clk_drain.proofs.examples.run_examples.Goals as goal
@@ -35,10 +38,6 @@ record OfTwo (planned : List Planned) (lists : Lists) : Type 0 where
   moments_a : HasMoments 3 2 a.tree a.log
   moments_b : HasMoments 3 2 b.tree b.log
 
-count : (planned : List Planned) (n : ℕ) (devices : List Device) → AreDevicesFrom planned n devices → n + length devices ≡ device_count planned
-count planned n [] each = omega (arith, each)
-count planned n (d ∷ devices) each = let rest = count planned (suc n) devices each.1 in omega (arith, rest)
-
 of-devices : (planned : List Planned) (lists : Lists) (devices : List Device) → device_count planned ≡ 2 → AreDevicesFrom planned 0 devices
     → lists.logs ≡ map (λ (d : Device). d.log) devices → lists.emitted ≡ map (λ (d : Device). d.emitted) devices
     → IsSettledOutcome (sent_by traces) devices lists.tallies → AllByRecursion (λ (d : Device). HasMoments 3 2 d.tree d.log) devices → OfTwo planned lists
@@ -47,11 +46,11 @@ of-devices planned lists (a ∷ []) two each logs emitted settled moments = absu
 of-devices planned lists (a ∷ b ∷ []) two each logs emitted settled moments =
     record { a = a; b = b; is_a = each.0; is_b = each.1.0; logged = logs; came = emitted; settled = settled; moments_a = moments.0; moments_b = moments.1.0 }
 of-devices planned lists (a ∷ b ∷ c ∷ devices) two each logs emitted settled moments =
-    let all = count planned 3 devices each.1.1.1 in absurd (omega (arith, two, all))
+    let all = are-many planned 3 devices each.1.1.1 in absurd (omega (arith, two, all))
 
 of-two : (planned : List Planned) (lists : Lists) (outcome : Outcome (Vec Visit Global)) → device_count planned ≡ 2 → HasLists lists outcome → IsRunOutcome planned traces 3 2 outcome → OfTwo planned lists
 of-two planned lists outcome two h o =
-    of-devices planned lists o.devices two o.each (sym h.logs ∙ o.logs_are) (sym h.emitted ∙ o.emitted)
+    of-devices planned lists o.devices two (devices-of planned o.devices o.each) (sym h.logs ∙ o.logs_are) (sym h.emitted ∙ o.emitted)
     (subst (IsSettledOutcome (sent_by traces) o.devices) h.tallies o.settled) o.moments
 
 first-log : (planned : List Planned) (lists : Lists) (t : OfTwo planned lists) → get_or lists.logs 0 [] ≡ t.a.log
@@ -134,7 +133,7 @@ pub returns-clause-is_run : goal.returns-clause-is_run
 returns-clause-is_run c =
     λ outcome h. record {
       devices = device_a ∷ device_b ∷ [];
-      each = (record { tree = (refl, tt); queues = refl }, (record { tree = (refl, tt); queues = refl }, refl));
+      each = (record { tree = (refl, tt); queues = refl }, (record { tree = (refl, tt); queues = refl }, tt));
       logs_are = h.logs;
       emitted = h.emitted;
       settled = subst (IsSettledOutcome (sent_by traces) (device_a ∷ device_b ∷ [])) (sym h.tallies) run-settled;
@@ -144,12 +143,28 @@ returns-clause-is_run c =
       );
     }
 
+-- The tree of a device is its one queue, and that is the only queue of the device.
+tree-a : (tree : Tree) → IsTreeOf plan 0 tree → tree ≡ queue 0
+tree-a (queue n) is = ap queue (sym (same_Some 0 n is.0))
+tree-a (scheduler class inputs) is = let none = is.0 in absurd (cc)
+
+wider-tree-a : (tree : Tree) → IsTreeOf wider_plan 0 tree → tree ≡ queue 0
+wider-tree-a (queue n) is = ap queue (sym (same_Some 0 n is.0))
+wider-tree-a (scheduler class inputs) is = let none = is.0 in absurd (cc)
+
+tree-b : (tree : Tree) → IsTreeOf plan 1 tree → tree ≡ queue 1
+tree-b (queue n) is = ap queue (sym (same_Some 1 n is.0))
+tree-b (scheduler class inputs) is = let none = is.0 in absurd (cc)
+
+only-queue : (planned : List Planned) (n q : ℕ) (d : Device) → IsDeviceOf planned n d → d.tree ≡ queue q → d.queues ≡ filter (λ (k : SharedQueue). stands_in k.leaf (q ∷ [])) (shared_queues planned)
+only-queue planned n q d is e = is.queues ∙ ap (λ (tree : Tree). filter (λ (k : SharedQueue). stands_in k.leaf (leaves (root tree))) (shared_queues planned)) e
+
 -- The first queue may hold three packets, and took one.
 pub returns-clause-not_of_wider_plan : goal.returns-clause-not_of_wider_plan
 returns-clause-not_of_wider_plan c =
     λ outcome h o.
     let t = of-two wider_plan run_lists outcome refl h o in
-    let queues = subst (AllByRecursion (IsQueueSettled (sent_by traces) run_lists.tallies t.a)) t.is_a.queues t.settled.settled.0.queues in
+    let queues = subst (AllByRecursion (IsQueueSettled (sent_by traces) run_lists.tallies t.a)) (only-queue wider_plan 0 0 t.a t.is_a (wider-tree-a t.a.tree t.is_a.tree)) t.settled.settled.0.queues in
     let full = queues.0.reached (lit≤ tt) in absurd (omega (arith, full))
 
 -- A scheduler that gave a packet was visited.
@@ -187,7 +202,7 @@ returns-clause-not_devices_swapped c =
     λ outcome h o.
     let t = of-two plan devices_swapped outcome refl h o in
     let own = subst (AllByRecursion (λ (p : Packet). stands_in p.sender (senders_to t.a) ≡ true)) (sym (first-emitted plan devices_swapped t)) t.settled.settled.0.own in
-    let none : stands_in 1 (senders_to t.a) ≡ false = ap (λ qs. stands_in 1 (flat_map (λ (q : SharedQueue). q.senders) qs)) t.is_a.queues in
+    let none : stands_in 1 (senders_to t.a) ≡ false = ap (λ qs. stands_in 1 (flat_map (λ (q : SharedQueue). q.senders) qs)) (only-queue plan 0 0 t.a t.is_a (tree-a t.a.tree t.is_a.tree)) in
     absurd (false≢true (sym none ∙ own.0))
 
 pub returns-clause-not_in_other_list : goal.returns-clause-not_in_other_list
@@ -200,7 +215,7 @@ pub returns-clause-not_tally_missing : goal.returns-clause-not_tally_missing
 returns-clause-not_tally_missing c =
     λ outcome h o.
     let t = of-two plan tally_left_out outcome refl h o in
-    let queues = subst (AllByRecursion (IsQueueSettled (sent_by traces) tally_left_out.tallies t.b)) t.is_b.queues t.settled.settled.1.0.queues in
+    let queues = subst (AllByRecursion (IsQueueSettled (sent_by traces) tally_left_out.tallies t.b)) (only-queue plan 1 1 t.b t.is_b (tree-b t.b.tree t.is_b.tree)) t.settled.settled.1.0.queues in
     absurd queues.0.each.0
 
 pub returns-clause-not_pull_too_many : goal.returns-clause-not_pull_too_many

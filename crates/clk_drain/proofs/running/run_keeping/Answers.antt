@@ -1,10 +1,10 @@
-use Rattle.std.proofs.Common.{ℕ, List, map, sym, subst, Vec, rules}
+use Rattle.std.proofs.Common.{ℕ, List, map, sym, subst, Vec, rules, None, ◌≡◌}
 use Rattle.std.specs.declared.alloc.Global.{Global}
 use Rattle.std.specs.List.{AllByRecursion}
 use Rattle.clk_packet.specs.declared.packet.Packet.{Packet}
 use Rattle.clk_tree.specs.declared.plan.parts.SenderSpec.{SenderSpec}
 use Rattle.clk_tree.specs.PlanParts.{number_of}
-use Rattle.clk_gate.specs.Known.{AreKnown}
+use Rattle.clk_gate.specs.Known.{first_unknown}
 use Rattle.clk_drain.specs.declared.running.opening.LeafQueue.{LeafQueue}
 use Rattle.clk_drain.specs.inside.Threads.{Terms, Feed}
 use Rattle.clk_drain.specs.inside.Handed.{FitPlaces, AreAllUnused, IsReadyToClose, AreApartDevices}
@@ -46,5 +46,5 @@ returns-clause-outcome g c =
 
 pub returns-clause-fault : goal.returns-clause-fault
 returns-clause-fault g c =
-    let known = subst (λ (senders : List SenderSpec). AreKnown (map number_of senders) c.args.traces.now) c.senders.ensures.senders c.in_ok-check_senders.ensures.known in
+    let known = subst (λ (senders : List SenderSpec). first_unknown (map number_of senders) c.args.traces.now ≡ None) c.senders.ensures.senders c.in_ok-check_senders.ensures.known in
     answered-err _ _ _ _ _ _ _ _ c.in_ok-closings.closings.items c.close_devices.result c.in_ok-closings.ensures.joined (ended g c.before.before.before.before.before.before.before.before) known c.close_devices.ensures.fault

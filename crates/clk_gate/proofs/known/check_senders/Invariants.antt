@@ -1,6 +1,6 @@
 use Rattle.std.specs.Prelude.{map}
 use Rattle.clk_tree.specs.PlanParts.{number_of}
-use Rattle.clk_gate.specs.Known.{AreKnownBelow}
+use Rattle.clk_gate.proofs.Callers.Unknown.{AreKnownBelow}
 use Rattle.clk_gate.proofs.known.check_senders.Given as goal
 
 abbrev pub invariant-loop-sender : goal.invariant-loop-sender

@@ -1,9 +1,13 @@
 -- What a Shaper's bucket tells of the turns before it.
-use Rattle.std.specs.Prelude.{◌≡◌, ℕ, ◌+◌, ◌-◌, ◌*◌, ◌≤◌, min, nat_le, Bool, List, ◌∷◌, None}
+use Rattle.std.specs.Prelude.{◌≡◌, ℕ, ◌+◌, ◌-◌, ◌*◌, ◌≤◌, min, nat_le, Bool, List, [], ◌∷◌, None}
 use Rattle.std.specs.List.{AllByRecursion}
 use Rattle.clk_sched.specs.declared.session.shaper.Bucket.{Bucket}
 use Rattle.clk_sched.specs.Turns.{Turn, giver}
-use Rattle.clk_sched.specs.Laws.Shaper.{packets_passed, keeps_since_each, has_room}
+use Rattle.clk_sched.specs.Laws.Shaper.{packets_passed, keeps_since_each}
+
+-- whether a Shaper has room for one more packet at this moment, after all earlier turns
+abbrev pub has_room : (rate burst moment : ℕ) → List Turn → Bool
+has_room rate burst moment earlier = keeps_since_each rate burst moment [] earlier
 
 -- none of these turns was after a moment
 abbrev pub AreBefore : ℕ → List Turn → Type 0

@@ -4,7 +4,8 @@ use Rattle.std.specs.List.{enumerate_from}
 use Rattle.clk_sched.specs.inside.Ranks.{Ranked}
 use Rattle.clk_sched.specs.declared.session.stride.Passes.{Passes}
 use Rattle.clk_sched.specs.Turns.{Turn}
-use Rattle.clk_sched.specs.Laws.Stride.{stride_of, passes_of, in_rising_order}
+use Rattle.clk_sched.specs.Laws.Stride.{stride_of, passes_of}
+use Rattle.clk_sched.specs.inside.Rising.{in_rising_order}
 
 -- What a StrideSched's row holds after these turns, the latest first: the inputs in rising order of (pass, index). `taken` is subtracted
 -- from each pass.

@@ -5,11 +5,17 @@ use Rattle.clk_packet.specs.declared.packet.Packet.{Packet}
 use Rattle.clk_packet.specs.declared.tally.Tally.{Tally}
 use Rattle.clk_sched.proofs.Callers.Lists.{all-weaker}
 use Rattle.clk_packet.specs.Lists.{of_sender}
+use Rattle.clk_packet.specs.Dealt.{IsTallyOf}
 use Rattle.clk_ruled.specs.Queue.{IsDealt}
 use Rattle.clk_packet.specs.Trace.{sent_by}
-use Rattle.clk_drain.specs.Outcome.{Device, SharedQueue, tally_for, IsTallied, IsQueueSettled, IsDeviceSettled}
+use Rattle.clk_drain.specs.Outcome.{Device, tally_for, IsQueueSettled, IsDeviceSettled}
+use Rattle.clk_tree.specs.PlanParts.{SharedQueue}
 use Rattle.clk_drain.specs.Run.{IsRunOutcome}
 use Rattle.clk_drain_tests.proofs.calling.drain.run_each_tick.Goals as goal
+
+-- This tally accounts for all packets that its sender sent to a queue of a device.
+abbrev IsTallied : (ℕ → List Packet) → Device → SharedQueue → Tally → Type 0
+IsTallied sent d q t = IsTallyOf (sent t.sender) (of_sender t.sender d.emitted) q.kind t
 
 -- what the clause says of a tally
 abbrev DealsOut : Device → Tally → Type 0

@@ -1,6 +1,6 @@
 use Rattle.std.proofs.Common.{◌≡◌, ◌-◌, map, length, drop}
 use Rattle.clk_tree.specs.Elements.{planned}
-use Rattle.clk_tree.specs.PlanParts.{by_number}
+use Rattle.clk_tree.specs.inside.ByNumber.{by_number}
 use Rattle.clk_tree.specs.inside.FromPlace.{senders_from}
 use Rattle.clk_tree.proofs.plan.parts.senders_of.Given as goal
 

@@ -3,7 +3,7 @@ use Rattle.clk_tree.specs.Plan.{is_connected}
 use Rattle.clk_tree.proofs.Building.WiringLemmas.{filter-next}
 use Rattle.clk_tree.proofs.plan.wiring.connected_to.Goals as goal
 use Rattle.std.proofs.Common.{length, ap, ◌∙◌}
-use Rattle.clk_sched.specs.Tree.{is_number}
+use Rattle.clk_sched.proofs.Callers.Lists.{is_number}
 
 pub loop-source-preserved : goal.loop-source-preserved
 loop-source-preserved c =
