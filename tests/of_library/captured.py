@@ -8,7 +8,7 @@ from dataclasses import dataclass
 from pathlib import Path
 
 from of_library.checks import Check, Failed, LeftOut, Setting, compare, need, run
-from of_library.compiled import BUILT, COMPILERS, heap
+from of_library.compiled import BUILT, COMPILERS, MEMCHECK, heap
 from of_library.module import python
 
 # The rate of the link in bits a second, and how many microseconds a second has.
@@ -90,7 +90,7 @@ def shaped(setting: Setting) -> str:
 
 def cleanly(program: Path, words: list[str | Path]) -> str:
     """What the shaper prints, under valgrind where it is there."""
-    checked = ["valgrind", "-q", "--error-exitcode=9", "--leak-check=full"] if shutil.which("valgrind") else []
+    checked = MEMCHECK if shutil.which("valgrind") else []
     return run([*checked, str(program), *words])
 
 

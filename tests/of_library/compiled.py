@@ -68,6 +68,13 @@ def tests_of_cpp(setting: Setting, compiler: str, variant: str) -> Path:
     return program_of(setting, compiler, [*VARIANTS[variant], *sources], f"calls-{compiler}-{list(VARIANTS).index(variant)}")
 
 
+# Valgrind's memcheck. It runs one thread at a time, and lets them take turns: else one that spins may never let another run.
+MEMCHECK = ["valgrind", "-q", "--fair-sched=try", "--error-exitcode=9", "--leak-check=full"]
+
+# The same, where a leak of any kind is told.
+ANY_LEAK = [*MEMCHECK, "--show-leak-kinds=all"]
+
+
 def has_valgrind(setting: Setting) -> bool:
     """Whether valgrind is there, and runs the programs that are built."""
     return setting.machine is None and shutil.which("valgrind") is not None
@@ -81,7 +88,7 @@ def clean(setting: Setting, program: Path, words: Sequence[str | Path] = (), che
     if not has_valgrind(setting):
         return f"{told}, without valgrind, which is missing"
     with_words = words if checked is None else checked
-    run(["valgrind", "-q", "--error-exitcode=9", "--leak-check=full", "--show-leak-kinds=all", program, *with_words])
+    run([*ANY_LEAK, program, *with_words])
     return f"{told}, valgrind finds no error and no leak"
 
 

@@ -15,7 +15,7 @@ from typing import NamedTuple
 
 from of_library.captured import Frame, frames_of, refused, write_capture
 from of_library.checks import LONGEST, Check, Failed, LeftOut, Setting, compare, run
-from of_library.compiled import COMPILERS, heap
+from of_library.compiled import COMPILERS, MEMCHECK, heap
 from of_library.forwarding import MACHINE, SHARED, Sources, built, cores
 from of_library.module import python
 from of_library.replayed import replayer, same
@@ -330,7 +330,7 @@ def cleanly(forwarder: Forwarder) -> None:
     kinds = [f"--{it}-leak-kinds=definite,indirect" for it in ("show", "errors-for")]
     captures, ours = captures_of(forwarder, [forwarder.frames]), recorded(forwarder, forwarder.tree, [forwarder.frames], "--once")
     words = forwarder.start(forwarder.over(captures), 2, ours)
-    told = run(["valgrind", "-q", "--error-exitcode=9", "--leak-check=full", *kinds, *words])
+    told = run([*MEMCHECK, *kinds, *words])
     told_as_recorded(told, left_as_recorded(forwarder, forwarder.tree, [forwarder.frames]), [forwarder.frames])
 
 

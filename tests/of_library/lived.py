@@ -7,7 +7,7 @@ from pathlib import Path
 from of_library.again import Program, is_done_again
 from of_library.chance import tree_and_script
 from of_library.checks import Check, Failed, Setting, run
-from of_library.compiled import C, has_valgrind, program_of
+from of_library.compiled import C, MEMCHECK, has_valgrind, program_of
 from of_library.model import Model
 from of_library.replayed import replayer
 
@@ -121,9 +121,8 @@ def are_judged(setting: Setting) -> str:
     folder.mkdir()
     packets = sum(live_once(programs, random.Random(f"library {it}"), folder) for it in range(ROUTERS))
     if has_valgrind(setting):
-        checker = ["valgrind", "-q", "--error-exitcode=9", "--leak-check=full"]
         for seed in ("2", "3"):
-            run([*checker, *programs.live, folder / "tree.click", "4", "60", seed, folder / "record.script"])
+            run([*MEMCHECK, *programs.live, folder / "tree.click", "4", "60", seed, folder / "record.script"])
     return f"{packets} packets through {ROUTERS} routers"
 
 

@@ -8,7 +8,7 @@ from pathlib import Path
 from of_library.again import Program, is_done_again
 from of_library.chance import clickpull, tree_and_script
 from of_library.checks import Check, Failed, Setting, compare, run
-from of_library.compiled import C, has_valgrind, program_of
+from of_library.compiled import ANY_LEAK, C, has_valgrind, program_of
 from of_library.model import END_OF_MOMENTS, LONGEST, Model
 from of_library.replayed import replayer
 
@@ -137,7 +137,7 @@ def compared(program: Program, programs: list[Program], folder: Path, seed: int,
     paths = folder / f"{number}.click", folder / f"{number}.calls", folder / f"{number}.record"
     for path, text in zip(paths, (tree, "".join(f"{it}\n" for it in calls))):
         path.write_text(text)
-    checker = ["valgrind", "-q", "--error-exitcode=9", "--leak-check=full", "--show-leak-kinds=all"] if number < checked else []
+    checker = ANY_LEAK if number < checked else []
     found = run([*checker, *program, paths[0], str(room), *paths[1:]])
     for at, (line, other) in enumerate(zip(found.splitlines(), wanted.splitlines())):
         if line != other:

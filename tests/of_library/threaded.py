@@ -4,7 +4,7 @@ from collections.abc import Callable
 from pathlib import Path
 
 from of_library.checks import Check, Failed, Setting, compare, run
-from of_library.compiled import C, COMPILERS, compilers, has_valgrind, program_of
+from of_library.compiled import ANY_LEAK, C, COMPILERS, compilers, has_valgrind, program_of
 
 # The two ways to wait of examples/threads.
 WAITERS = ("cond", "eventfd")
@@ -22,7 +22,7 @@ def built(setting: Setting, compiler: str, source: str, waiter: str | None = Non
 
 def checked(program: Path, *words: str) -> str:
     """What a program prints under valgrind's memcheck. Its helgrind and drd see no synchronization in a plain xchg, so they can't help."""
-    return run(["valgrind", "-q", "--error-exitcode=9", "--leak-check=full", "--show-leak-kinds=all", program, *words])
+    return run([*ANY_LEAK, program, *words])
 
 
 def told(setting: Setting, printed: str) -> str:
