@@ -9,14 +9,16 @@ use Rattle.clk_sched.specs.Tree.{Tree, root}
 use Rattle.clk_sched.specs.FewHeads.{drrs_above}
 use Rattle.clk_tree.specs.Plan.{Planned}
 use Rattle.clk_tree.specs.PlanParts.{Queued, SendsWithin, queues_of, senders_of}
-use Rattle.clk_tree.specs.Shares.{AreTreesOf}
+use Rattle.clk_tree.specs.PlanTree.{device_count}
+use Rattle.clk_tree.specs.Shares.{AreTreesOf, AreSharedOut}
 use Rattle.clk_tree.specs.Drrs.{AreDrrsAbove}
 use Rattle.clk_inlet.specs.Halves.{popped, taken}
 use Rattle.clk_inlet.specs.Items.{packets}
 use Rattle.clk_inlet.specs.declared.item.Item.{Item}
 use Rattle.clk_inlet.specs.declared.outlet.Outlet.{Outlet}
 use Rattle.clk_router.specs.Course.{Course, IsOpened}
-use Rattle.clk_router.specs.Events.{Room, room_of, plan_setup}
+use Rattle.clk_router.specs.Events.{Room}
+use Rattle.clk_router.proofs.Callers.Plans.{room_of, setup_by_paths, setup-by-paths}
 use Rattle.clk_live.specs.State.{IsTokenOf}
 use Rattle.clk_live.specs.Outcome.{item_length}
 use Rattle.clk_live.specs.inside.Kept.{drrs_in, IsKept}
@@ -60,11 +62,12 @@ member-of (u ∷ os) (suc i) its h e = member-of os i its h.1 e
 -- So a live router is opened.
 pub kept-opened : (plan : List Planned) (c : Course) (outlets : List Outlet) (buffers : List (Buffer ℕ)) (counts : List ℕ) → IsOpened plan keeps_nothing c → length outlets ≡ length c.setup.senders → length outlets ≤ 2 ^ 16
     → AllByRecursion (SendsWithin (length (queues_of plan))) (senders_of plan) → AllByRecursion (λ (o : Outlet). popped o ≡ []) outlets → ((trees : List Tree) → AreTreesOf plan trees → AreDrrsAbove (queues_of plan) trees counts)
-    → AreRoomy (queues_of plan) counts (length (queues_of plan)) buffers → ((q : ℕ) (room : Room) → slice_get c.setup.queues q ≡ Some room → (tree : Tree) × (slice_get c.setup.trees room.device ≡ Some tree)) → IsKept c (map taken outlets) buffers
-kept-opened plan c outlets buffers counts opened places few wired taken_none above roomy trees =
-    subst (λ (k : Course). IsKept k (map taken outlets) buffers) (sym opened.is)
+    → AreRoomy (queues_of plan) counts (length (queues_of plan)) buffers → ((trees : List Tree) → AreTreesOf plan trees → AreSharedOut (queues_of plan) trees) → AllByRecursion (λ (q : Queued). q.device < device_count plan) (queues_of plan)
+    → ((q : ℕ) (room : Room) → slice_get c.setup.queues q ≡ Some room → (tree : Tree) × (slice_get c.setup.trees room.device ≡ Some tree)) → IsKept c (map taken outlets) buffers
+kept-opened plan c outlets buffers counts opened places few wired taken_none above roomy shared paths trees =
+    subst (λ (k : Course). IsKept k (map taken outlets) buffers) (sym is)
     (record {
-      places = length-map outlets taken ∙ places ∙ ap (λ (k : Course). length k.setup.senders) opened.is;
+      places = length-map outlets taken ∙ places ∙ ap (λ (k : Course). length k.setup.senders) is;
       few_places = (let many = length-map outlets taken in omega (arith, many, few));
       wired = subst (λ n. AllByRecursion (SendsWithin n) (senders_of plan)) (sym (length-map (queues_of plan) room_of)) wired;
       offers = λ place its s here at. (let none = member-of outlets place its taken_none here in record { lengths = ap (map item_length) none; few = (let many = ap length none in omega (arith, many)) });
@@ -72,12 +75,15 @@ kept-opened plan c outlets buffers counts opened places few wired taken_none abo
       tokens = λ q room b at here.
           (let queue = queue-at (queues_of plan) q room at in
           let drrs = above opened.trees opened.are in
-          let tree = trees q room (ap (λ (k : Course). slice_get k.setup.queues q) opened.is ∙ at) in
-          let stands : slice_get opened.trees room.device ≡ Some tree.0 = sym (ap (λ (k : Course). slice_get k.setup.trees room.device) opened.is) ∙ tree.1 in
+          let tree = trees q room (ap (λ (k : Course). slice_get k.setup.queues q) is ∙ at) in
+          let stands : slice_get opened.trees room.device ≡ Some tree.0 = sym (ap (λ (k : Course). slice_get k.setup.trees room.device) is) ∙ tree.1 in
           let count = drrs.each q queue.0 tree.0 queue.1 (ap (λ (r : Room). slice_get opened.trees r.device) queue.2 ∙ stands) in
           let b_is = roomy.each q queue.0 (drrs_above q (root tree.0)) b queue.1 count here in
           record {
-            tokens = subst (λ ts. AllZip (IsTokenOf (plan_setup opened.trees plan) (map taken outlets)) [] ts) (sym b_is.0) tt;
+            tokens = subst (λ ts. AllZip (IsTokenOf (setup_by_paths opened.trees plan) (map taken outlets)) [] ts) (sym b_is.0) tt;
             capacity = b_is.1 ∙ ap (λ (r : Room). r.capacity + drrs_above q (root tree.0)) queue.2 ∙ ap (λ o. room.capacity + drrs_in o q) (sym stands);
           });
     })
+  where
+    is : c ≡ record { setup = setup_by_paths opened.trees plan; events = []; keeps = keeps_nothing }
+    is = opened.is ∙ ap (λ setup. record { setup = setup; events = []; keeps = keeps_nothing }) (setup-by-paths plan opened.trees opened.are (shared opened.trees opened.are) paths)

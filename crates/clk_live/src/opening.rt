@@ -38,8 +38,10 @@ impl Live {
     {
         let router = CountingRouter::open(alloc, plan)?;
         let (inlets, outlets) = halves_of(alloc, router.senders(), room)?;
-        // The queue of each sender and the tree of each queue exist, by these laws, which do nothing.
-        let _ = plan.senders();
+        // The queue of each sender and the tree of each queue exist, and trees share queues out, by these laws, which do nothing.
+        let _senders = plan.senders();
+        let _queues = plan.queues();
+        plan.trees_share_queues();
         router.queues_go_on();
         router.has_happened();
         let tokens = tokens_of(alloc, plan)?;

@@ -23,7 +23,7 @@ use Rattle.clk_router.specs.Events.{Room, Setup, Event, events_at, log_of, histo
 use Rattle.clk_router.specs.inside.Closable.{AreQueuesOf, IsClosable, is_at}
 use Rattle.clk_router.specs.inside.Parts.{CanStand, AreQueuesAt, IsAt}
 use Rattle.clk_router.specs.inside.Queues.{packets_in, packets_at, GivesAt}
-use Rattle.clk_router.proofs.Callers.Plans.{plan-apart, leaves-at}
+use Rattle.clk_router.proofs.Callers.Plans.{setup-by-paths, paths-apart, leaves-at}
 use Rattle.clk_router.proofs.Callers.Apart.{history-alone}
 use Rattle.clk_router.proofs.PartsLemmas.{IsHere, device-here}
 use Rattle.clk_router.proofs.Settled.NoneLeft.{left-held}
@@ -85,10 +85,10 @@ stand-at (t ∷ trees) (suc d) tree h e = stand-at trees d tree h.1 e
 
 pub plan-closable : (plan : List Planned) (trees : List Tree) → AreTreesOf plan trees → AreSharedOut (queues_of plan) trees → AreRising (map number_of (senders_of plan))
     → AllByRecursion (λ (q : Queued). q.device < device_count plan) (queues_of plan) → AllByRecursion CanStand trees → IsClosable (plan_setup trees plan)
-plan-closable plan trees are shared rising paths stand =
-    record {
-      apart = plan-apart plan trees are shared rising paths;
+plan-closable plan trees are shared rising paths stand = subst IsClosable (sym (setup-by-paths plan trees are shared paths))
+    (record {
+      apart = paths-apart plan trees are shared rising paths;
       queues = λ d tree at. record { its = at; senders = rising; distinct = (stand-at trees d tree stand at).distinct; leaves_are = leaves-at plan trees are shared paths d tree at };
       sound = λ d tree at. (stand-at trees d tree stand at).sound;
       bound = λ d tree at. (stand-at trees d tree stand at).bound;
-    }
+    })

@@ -30,10 +30,10 @@ use Rattle.clk_router.specs.declared.senders.Sender.{Sender}
 use Rattle.clk_router.specs.declared.queues.Queues.{Queues}
 use Rattle.clk_router.specs.declared.devices.RouterDevice.{RouterDevice}
 use Rattle.clk_router.specs.declared.parts.Parts.{Parts}
-use Rattle.clk_router.specs.Events.{Room, Setup, room_of, setup_of, sender_numbers, is_of_device, Event, offered, pulled, happens_at, events_at, numbers_of, log_of, sends_to, answers_in, at_queue, history, RunsTree}
+use Rattle.clk_router.specs.Events.{Room, Setup, sender_numbers, is_of_device, Event, offered, pulled, happens_at, events_at, numbers_of, log_of, sends_to, answers_in, at_queue, history, RunsTree}
 use Rattle.clk_router.specs.inside.Closable.{is_at}
 use Rattle.clk_router.specs.Course.{room_device}
-use Rattle.clk_router.specs.inside.Parts.{path_made, device_made, sender_made, sent_one_more, AreQueuesAt, IsDeviceAt, AreDevicesAt, HasSentFew, IsAt, CanSendOn, CanOfferAt, CanCount, ChangesDevice, kept_by, CountsHere, CountsAt, KeepsAs, KeepsAsAt, LeadsOnByPull}
+use Rattle.clk_router.specs.inside.Parts.{path_made, device_made, sender_made, sent_one_more, AreQueuesAt, IsDeviceAt, AreDevicesAt, HasSentFew, IsAt, CanSendOn, CanOfferAt, CanCount, ChangesDevice, kept_by, CountsHere, CountsAt, KeepsAs, KeepsAsAt, LeadsOnByPull, room_of, setup_of}
 use Rattle.clk_router.specs.inside.Queues.{packets_at, queue_made, OffersTo, PullsFrom, OffersAt, GivesAt}
 use Rattle.clk_router.proofs.Callers.Events.{events-here, events-elsewhere, RunsTree-pulled, CanHappen-offer, CanHappen-pull, log-pulled}
 use Rattle.clk_router.proofs.SenderLemmas.{IsSenderAt, sender-at, senders-pulled, senders-sent, passes-its, sends-its, IsSpecAt, spec-at}

@@ -10,8 +10,8 @@ use Rattle.clk_tree.specs.PlanTree.{device_count, IsTreeOf}
 use Rattle.clk_packet.specs.Lists.{AreRising}
 use Rattle.clk_tree.specs.PlanParts.{Queued, queues_of, number_of, SendsWithin, HasCapacity}
 use Rattle.clk_tree.specs.Shares.{AreTreesOf}
-use Rattle.clk_router.specs.Events.{Room, room_of, setup_of}
-use Rattle.clk_router.specs.inside.Parts.{CanStand, IsWhole}
+use Rattle.clk_router.specs.Events.{Room}
+use Rattle.clk_router.specs.inside.Parts.{CanStand, IsWhole, room_of, setup_of}
 
 -- the trees of the first so many devices
 pub record AreMade (plan : List Planned) (n : ℕ) (trees : List Tree) : Type 0 where

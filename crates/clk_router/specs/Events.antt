@@ -1,7 +1,7 @@
 -- What happens to a router, and which events can happen one after another.
 use Rattle.std.specs.Prelude.{◌≡◌, ℕ, ◌+◌, ◌<◌, List, [], ◌∷◌, length, map, filter, fold, max, ◌==◌, ◌&&◌, Bool, true, false, if◌then◌else◌, Option, Some, None, MatchOption, ⊤, slice_get}
 use Rattle.std.specs.Option.{option_map_or}
-use Rattle.std.specs.List.{flat_map, filter_map, range_with_len, list_any, AllByRecursion}
+use Rattle.std.specs.List.{flat_map, filter_map, range_with_len, list_any, position_or_len, AllByRecursion}
 use Rattle.clk_packet.specs.declared.packet.Packet.{Packet}
 use Rattle.clk_packet.specs.declared.packet.Kind.{Kind}
 use Rattle.clk_packet.specs.declared.packet.Offered.{Offered}
@@ -9,15 +9,15 @@ use Rattle.clk_packet.specs.declared.packet.Offered.TheVariants.{Refused, Evicte
 use Rattle.clk_packet.specs.declared.tally.Tally.{Tally}
 use Rattle.clk_sched.specs.declared.visit.Visit.{Visit}
 use Rattle.clk_ring.specs.QueueHistory.{QueueEvent, offer_events, pull_event, NamesOffer, IsQueueHistory}
-use Rattle.clk_sched.specs.Tree.{Tree}
+use Rattle.clk_sched.specs.Tree.{Tree, root, leaves}
 use Rattle.clk_sched.specs.Session.{given_in, LastGives}
 use Rattle.clk_sched.specs.Log.{pulls, moment_of, counted, visits_of, result_of}
 use Rattle.clk_sched.specs.Run.{IsRun}
 use Rattle.clk_sched.specs.Results.{asks_queue, emitted}
 use Rattle.clk_tree.specs.declared.plan.parts.SenderSpec.{SenderSpec}
 use Rattle.clk_tree.specs.Plan.{Planned}
-use Rattle.clk_tree.specs.PlanParts.{Queued, queues_of, senders_of, sender_names, number_of}
-use Rattle.clk_packet.specs.Lists.{of_sender}
+use Rattle.clk_tree.specs.PlanParts.{SharedQueue, shared_queues, senders_of, sender_names, number_of}
+use Rattle.clk_packet.specs.Lists.{of_sender, stands_in}
 
 -- what a router knows of a queue: its kind, its capacity in packets, and the number of the device that emits its packets
 pub record Room : Type 0 where
@@ -25,9 +25,9 @@ pub record Room : Type 0 where
   pub capacity : ℕ
   pub device : ℕ
 
--- a queue of a plan, as a router knows it
-abbrev pub room_of : Queued → Room
-room_of q = record { kind = q.kind; capacity = q.capacity; device = q.device }
+-- a queue of a plan, as a router over these trees knows it: its device is the one whose tree has it as a leaf
+abbrev pub room_over : List Tree → SharedQueue → Room
+room_over trees q = record { kind = q.kind; capacity = q.capacity; device = position_or_len (λ (tree : Tree). stands_in q.leaf (leaves (root tree))) trees }
 
 -- what a router is made over: a tree for each device, by its number, the queues, the senders, and the name of each sender's element
 pub record Setup : Type 0 where
@@ -36,13 +36,9 @@ pub record Setup : Type 0 where
   pub senders : List SenderSpec
   pub names : List (List ℕ)
 
--- the setup of these names, trees, queues and senders
-abbrev pub setup_of : List (List ℕ) → List Tree → List Queued → List SenderSpec → Setup
-setup_of names trees queues senders = record { trees = trees; queues = map room_of queues; senders = senders; names = names }
-
 -- the setup of a plan with its trees
 abbrev pub plan_setup : List Tree → List Planned → Setup
-plan_setup trees plan = setup_of (sender_names plan) trees (queues_of plan) (senders_of plan)
+plan_setup trees plan = record { trees = trees; queues = map (room_over trees) (shared_queues plan); senders = senders_of plan; names = sender_names plan }
 
 -- the numbers of the senders of a setup
 abbrev pub sender_numbers : Setup → List ℕ

@@ -37,8 +37,8 @@ impl Parts {
     ghost use Rattle.clk_sched.specs.declared.limits.TheConstants.{END_OF_MOMENTS};
     ghost use Rattle.clk_sched.specs.Results.{emitted};
     ghost use Rattle.clk_tree.specs.PlanParts.{queued, HasCapacity};
-    ghost use Rattle.clk_router.specs.Events.{Setup, Event, offered, setup_of};
-    ghost use Rattle.clk_router.specs.inside.Parts.{CanStand, CanOfferAt, CanPullAt, CanCloseAt, CountsLeft, IsAt, IsWhole, LeadsOnByPull, LeadsOnByPulls, ClosesBy, Stand, IsSessionDue};
+    ghost use Rattle.clk_router.specs.Events.{Setup, Event, offered};
+    ghost use Rattle.clk_router.specs.inside.Parts.{CanStand, CanOfferAt, CanPullAt, CanCloseAt, CountsLeft, IsAt, IsWhole, LeadsOnByPull, LeadsOnByPulls, ClosesBy, Stand, IsSessionDue, setup_of};
 
     /// The parts of a router before anything has happened. `keeps` says what its devices keep of the past. Fault 1 if an allocation fails.
     pub fn new(

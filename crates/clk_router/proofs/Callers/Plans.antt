@@ -1,8 +1,8 @@
 -- The trees of a plan stand over its queues, and apart.
-use Rattle.std.proofs.Common.{◌≡◌, ℕ, ◌+◌, ◌<◌, ◌==◌, ◌&&◌, ◌||◌, ◌++◌, List, [], ◌∷◌, length, map, nat_lt, zero, suc, not, Bool, true, false, Option, Some, None, IsSome, IfSome, MatchOption, slice_get, refl, sym, ap, ◌∙◌, subst, arith, rules}
+use Rattle.std.proofs.Common.{◌≡◌, ℕ, ◌+◌, ◌<◌, ◌==◌, ◌&&◌, ◌||◌, ◌++◌, List, [], ◌∷◌, length, map, nat_lt, zero, suc, not, Bool, true, false, Option, Some, None, IsSome, IfSome, MatchOption, slice_get, refl, sym, ap, ap₂, ◌∙◌, subst, zero-add, arith, rules}
 use Rattle.std.specs.Bool.{⊤}
 use Rattle.std.specs.Option.{option_or, option_map}
-use Rattle.std.specs.List.{AllByRecursion}
+use Rattle.std.specs.List.{AllByRecursion, position_or_len}
 use Rattle.std.proofs.lemmas.Bool.{false≢true}
 use Rattle.std.proofs.lemmas.Bool.Decides.{nat_tests}
 use Rattle.std.proofs.lemmas.Option.{slice_get-map}
@@ -11,9 +11,11 @@ use Rattle.clk_sched.specs.Tree.{Row, end, leaf, node, Tree, root, nodes, queue_
 use Rattle.clk_tree.specs.declared.plan.parts.SenderSpec.{SenderSpec}
 use Rattle.clk_tree.specs.Plan.{Planned}
 use Rattle.clk_tree.specs.PlanTree.{device_count}
-use Rattle.clk_tree.specs.PlanParts.{Queued, queues_of, senders_of, number_of, SendsWithin}
+use Rattle.clk_tree.specs.PlanParts.{Queued, shared_queues, queues_of, senders_of, sender_names, number_of, SendsWithin}
 use Rattle.clk_tree.specs.Shares.{AreTreesOf, AreSharedOut, all_leaves}
-use Rattle.clk_router.specs.Events.{Room, room_of, plan_setup}
+use Rattle.clk_tree.proofs.Callers.SharedQueues.{all_shared, shared-numbered}
+use Rattle.clk_router.specs.Events.{Room, Setup, room_over, plan_setup}
+pub use Rattle.clk_router.specs.inside.Parts.{room_of, setup_of}
 pub use Rattle.clk_router.specs.inside.Closable.{is_at}
 use Rattle.clk_router.specs.Setups.{IsWired, IsApart}
 
@@ -49,33 +51,36 @@ stands-among (t ∷ trees) zero tree q at here = let same : tree ≡ t = cc in s
 stands-among (t ∷ trees) (suc d) tree q at here = stands-right q (leaves (root t)) (all_leaves trees) (stands-among trees d tree q at here)
 
 -- there is a room for each queue
-room-there : (queues : List Queued) (q : ℕ) → q < length queues → IsSome (slice_get (map room_of queues) q)
-room-there [] q within = absurd (omega (arith, within))
-room-there (x ∷ queues) zero within = refl
-room-there (x ∷ queues) (suc q) within = room-there queues q (omega (arith, within))
+room-there : (trees : List Tree) (n : ℕ) (queues : List Queued) (q : ℕ) → q < length queues → IsSome (slice_get (map (room_over trees) (all_shared n queues)) q)
+room-there trees n [] q within = absurd (omega (arith, within))
+room-there trees n (x ∷ queues) zero within = refl
+room-there trees n (x ∷ queues) (suc q) within = room-there trees (suc n) queues q (omega (arith, within))
 
-rooms-there : (queues : List Queued) (senders : List SenderSpec) → AllByRecursion (SendsWithin (length queues)) senders
-    → AllByRecursion (λ (s : SenderSpec). IsSome (slice_get (map room_of queues) s.queue)) senders
-rooms-there queues [] h = tt
-rooms-there queues (s ∷ senders) h = (room-there queues s.queue h.0, rooms-there queues senders h.1)
+room-at : (trees : List Tree) (plan : List Planned) (q : ℕ) → q < length (queues_of plan) → IsSome (slice_get (map (room_over trees) (shared_queues plan)) q)
+room-at trees plan q within = subst (λ l. IsSome (slice_get (map (room_over trees) l) q)) (sym (shared-numbered plan)) (room-there trees 0 (queues_of plan) q within)
+
+rooms-there : (trees : List Tree) (plan : List Planned) (senders : List SenderSpec) → AllByRecursion (SendsWithin (length (queues_of plan))) senders
+    → AllByRecursion (λ (s : SenderSpec). IsSome (slice_get (map (room_over trees) (shared_queues plan)) s.queue)) senders
+rooms-there trees plan [] h = tt
+rooms-there trees plan (s ∷ senders) h = (room-at trees plan s.queue h.0, rooms-there trees plan senders h.1)
 
 -- the setup of a plan is wired
 pub plan-wired : (plan : List Planned) (trees : List Tree) → AreSharedOut (queues_of plan) trees → AllByRecursion (SendsWithin (length (queues_of plan))) (senders_of plan)
     → IsWired (plan_setup trees plan)
-plan-wired plan trees shared senders = record { senders = rooms-there (queues_of plan) (senders_of plan) senders; leaves = at_device }
+plan-wired plan trees shared senders = record { senders = rooms-there trees plan (senders_of plan) senders; leaves = at_device }
   where
-    at_leaf : (d : ℕ) (tree : Tree) (o : Option ℕ) (x input : ℕ) → slice_get trees d ≡ Some tree → queue_at tree x input ≡ o → IfSome o (λ q. IsSome (slice_get (map room_of (queues_of plan)) q))
+    at_leaf : (d : ℕ) (tree : Tree) (o : Option ℕ) (x input : ℕ) → slice_get trees d ≡ Some tree → queue_at tree x input ≡ o → IfSome o (λ q. IsSome (slice_get (map (room_over trees) (shared_queues plan)) q))
     at_leaf d tree None x input at e = tt
     at_leaf d tree (Some q) x input at e =
         let among : stands_in q (all_leaves trees) ≡ true = stands-among trees d tree q at (queue-stands 0 0 1 (root tree) x input q e) in
         let within : nat_lt q (length (queues_of plan)) ≡ true = sym (shared.all q) ∙ among in
-        room-there (queues_of plan) q (grind (arith, nat_tests))
+        room-at trees plan q (grind (arith, nat_tests))
 
-    at_tree : (d x input : ℕ) (o : Option Tree) → slice_get trees d ≡ o → MatchOption o ⊤ (λ tree. IfSome (queue_at tree x input) (λ q. IsSome (slice_get (map room_of (queues_of plan)) q)))
+    at_tree : (d x input : ℕ) (o : Option Tree) → slice_get trees d ≡ o → MatchOption o ⊤ (λ tree. IfSome (queue_at tree x input) (λ q. IsSome (slice_get (map (room_over trees) (shared_queues plan)) q)))
     at_tree d x input None e = tt
     at_tree d x input (Some tree) e = at_leaf d tree (queue_at tree x input) x input e refl
 
-    at_device : (d x input : ℕ) → MatchOption (slice_get trees d) ⊤ (λ tree. IfSome (queue_at tree x input) (λ q. IsSome (slice_get (map room_of (queues_of plan)) q)))
+    at_device : (d x input : ℕ) → MatchOption (slice_get trees d) ⊤ (λ tree. IfSome (queue_at tree x input) (λ q. IsSome (slice_get (map (room_over trees) (shared_queues plan)) q)))
     at_device d x input = at_tree d x input (slice_get trees d) refl
 
 -- no leaf stands in two trees
@@ -111,15 +116,59 @@ tree-there [] d within = absurd (omega (arith, within))
 tree-there (t ∷ trees) zero within = (t, refl)
 tree-there (t ∷ trees) (suc d) within = tree-there trees d (omega (arith, within))
 
+queue-there : (queues : List Queued) (q : ℕ) → q < length queues → IsSome (slice_get queues q)
+queue-there [] q within = absurd (omega (arith, within))
+queue-there (x ∷ queues) zero within = refl
+queue-there (x ∷ queues) (suc q) within = queue-there queues q (omega (arith, within))
+
 path-there : (n : ℕ) (queues : List Queued) (q : ℕ) (x : Queued) → AllByRecursion (λ (y : Queued). y.device < n) queues → slice_get queues q ≡ Some x → x.device < n
 path-there n [] q x h at = absurd (cc)
 path-there n (y ∷ queues) zero x h at = let same : y ≡ x = cc in subst (λ (z : Queued). z.device < n) same h.0
 path-there n (y ∷ queues) (suc q) x h at = path-there n queues q x h.1 at
 
+-- the setup of a plan whose queues have the devices at the ends of their paths
+abbrev pub setup_by_paths : List Tree → List Planned → Setup
+setup_by_paths trees plan = setup_of (sender_names plan) trees (queues_of plan) (senders_of plan)
+
+-- The tree that has a queue as a leaf is the first that has it.
+first-with : (q : ℕ) (trees : List Tree) (d : ℕ) (tree : Tree) → are_distinct (all_leaves trees) ≡ true → slice_get trees d ≡ Some tree → stands_in q (leaves (root tree)) ≡ true
+    → position_or_len (λ (t : Tree). stands_in q (leaves (root t))) trees ≡ d
+first-with q [] d tree distinct at here = absurd (cc)
+first-with q (t ∷ trees) zero tree distinct at here = search rules
+first-with q (t ∷ trees) (suc d) tree distinct at here =
+    by_test (stands_in q (leaves (root t))) refl (first-with q trees d tree (distinct-right (leaves (root t)) (all_leaves trees) distinct) at here)
+  where
+    by_test : (b : Bool) → stands_in q (leaves (root t)) ≡ b → position_or_len (λ (t : Tree). stands_in q (leaves (root t))) trees ≡ d
+        → position_or_len (λ (t : Tree). stands_in q (leaves (root t))) (t ∷ trees) ≡ suc d
+    by_test true e later = absurd (distinct-apart (leaves (root t)) (all_leaves trees) q distinct e (stands-among trees d tree q at here))
+    by_test false e later = search rules
+
+-- So each queue has the device at the end of its path.
+rooms-same : (trees : List Tree) (n : ℕ) (queues : List Queued)
+    → ((k : ℕ) (x : Queued) → slice_get queues k ≡ Some x → position_or_len (λ (t : Tree). stands_in (n + k) (leaves (root t))) trees ≡ x.device)
+    → map (room_over trees) (all_shared n queues) ≡ map room_of queues
+rooms-same trees n [] h = refl
+rooms-same trees n (x ∷ queues) h =
+    let same : n + 0 ≡ n = omega arith in
+    let device = subst (λ l. position_or_len (λ (t : Tree). stands_in l (leaves (root t))) trees ≡ x.device) same (h 0 x refl) in
+    ap₂ (λ (d : ℕ) (l : List Room). record { kind = x.kind; capacity = x.capacity; device = d } ∷ l) device
+    (rooms-same trees (suc n) queues (λ k y e. let later : n + suc k ≡ suc n + k = omega arith in subst (λ l. position_or_len (λ (t : Tree). stands_in l (leaves (root t))) trees ≡ y.device) later (h (suc k) y e)))
+
+pub setup-by-paths : (plan : List Planned) (trees : List Tree) → AreTreesOf plan trees → AreSharedOut (queues_of plan) trees → AllByRecursion (λ (q : Queued). q.device < device_count plan) (queues_of plan)
+    → plan_setup trees plan ≡ setup_by_paths trees plan
+setup-by-paths plan trees are shared paths = ap (λ (rooms : List Room). record { trees = trees; queues = rooms; senders = senders_of plan; names = sender_names plan })
+    (ap (map (room_over trees)) (shared-numbered plan) ∙ rooms-same trees 0 (queues_of plan) its)
+  where
+    its : (k : ℕ) (x : Queued) → slice_get (queues_of plan) k ≡ Some x → position_or_len (λ (t : Tree). stands_in (0 + k) (leaves (root t))) trees ≡ x.device
+    its k x is =
+        let within : x.device < length trees = subst (λ n. x.device < n) (sym are.count) (path-there (device_count plan) (queues_of plan) k x paths is) in
+        let tree = tree-there trees x.device within in
+        subst (λ l. position_or_len (λ (t : Tree). stands_in l (leaves (root t))) trees ≡ x.device) (sym (zero-add k)) (first-with k trees x.device tree.0 shared.once tree.1 (shared.own k x tree.0 is tree.1))
+
 -- the devices of a plan stand apart
-pub plan-apart : (plan : List Planned) (trees : List Tree) → AreTreesOf plan trees → AreSharedOut (queues_of plan) trees → AreRising (map number_of (senders_of plan))
-    → AllByRecursion (λ (q : Queued). q.device < device_count plan) (queues_of plan) → IsApart (plan_setup trees plan)
-plan-apart plan trees are shared rising paths = record { senders = rising; leaves = λ d x input. at_tree d x input (slice_get trees d) refl }
+pub paths-apart : (plan : List Planned) (trees : List Tree) → AreTreesOf plan trees → AreSharedOut (queues_of plan) trees → AreRising (map number_of (senders_of plan))
+    → AllByRecursion (λ (q : Queued). q.device < device_count plan) (queues_of plan) → IsApart (setup_by_paths trees plan)
+paths-apart plan trees are shared rising paths = record { senders = rising; leaves = λ d x input. at_tree d x input (slice_get trees d) refl }
   where
     at_queue : (d q : ℕ) (tree : Tree) (o : Option Queued) → slice_get trees d ≡ Some tree → stands_in q (leaves (root tree)) ≡ true → slice_get (queues_of plan) q ≡ o
         → IfSome (option_map room_of o) (λ (room : Room). room.device ≡ d)
@@ -140,6 +189,10 @@ plan-apart plan trees are shared rising paths = record { senders = rising; leave
     at_tree d x input None e = tt
     at_tree d x input (Some tree) e = at_leaf d tree (queue_at tree x input) x input e refl
 
+pub plan-apart : (plan : List Planned) (trees : List Tree) → AreTreesOf plan trees → AreSharedOut (queues_of plan) trees → AreRising (map number_of (senders_of plan))
+    → AllByRecursion (λ (q : Queued). q.device < device_count plan) (queues_of plan) → IsApart (plan_setup trees plan)
+plan-apart plan trees are shared rising paths = subst IsApart (sym (setup-by-paths plan trees are shared paths)) (paths-apart plan trees are shared rising paths)
+
 -- the leaves of a device's tree are the queues of that device
 pub leaves-at : (plan : List Planned) (trees : List Tree) → AreTreesOf plan trees → AreSharedOut (queues_of plan) trees → AllByRecursion (λ (q : Queued). q.device < device_count plan) (queues_of plan)
     → (d : ℕ) (tree : Tree) → slice_get trees d ≡ Some tree → (q : ℕ) → stands_in q (leaves (root tree)) ≡ is_at d (slice_get (map room_of (queues_of plan)) q)
@@ -153,8 +206,8 @@ leaves-at plan trees are shared paths d tree at q = rw (slice_get-map room_of (q
     by_queue None is true e =
         let among : stands_in q (all_leaves trees) ≡ true = stands-among trees d tree q at e in
         let within : nat_lt q (length (queues_of plan)) ≡ true = sym (shared.all q) ∙ among in
-        let there : IsSome (slice_get (map room_of (queues_of plan)) q) = room-there (queues_of plan) q (grind (arith, nat_tests)) in
-        absurd (false≢true (subst IsSome (slice_get-map room_of (queues_of plan) q ∙ ap (option_map room_of) is) there))
+        let there : IsSome (slice_get (queues_of plan) q) = queue-there (queues_of plan) q (grind (arith, nat_tests)) in
+        absurd (false≢true (subst IsSome is there))
     by_queue (Some x) is false e = sym (by_device x (x.device == d) is refl e)
     by_queue (Some x) is true e =
         let within : x.device < length trees = subst (λ n. x.device < n) (sym are.count) (path-there (device_count plan) (queues_of plan) q x paths is) in

@@ -34,6 +34,14 @@ use Rattle.clk_router.specs.Events.{Room, Setup, Event, CanHappen, numbers_of, m
 abbrev pub path_made : Queued → ℕ
 path_made q = q.device
 
+-- a queue with its device, as a router knows it
+abbrev pub room_of : Queued → Room
+room_of q = record { kind = q.kind; capacity = q.capacity; device = q.device }
+
+-- the setup of these names, trees, queues and senders
+abbrev pub setup_of : List (List ℕ) → List Tree → List Queued → List SenderSpec → Setup
+setup_of names trees queues senders = record { trees = trees; queues = map room_of queues; senders = senders; names = names }
+
 -- a tree over which a device can stand
 pub record CanStand (tree : Tree) : Type 0 where
   pub distinct : leaves_distinct tree ≡ true
