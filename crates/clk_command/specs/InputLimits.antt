@@ -8,10 +8,8 @@ use Rattle.clk_words.specs.Words.{Task, builtin, check, lint, over, Work, lint_t
 
 -- how many bytes some work reads of its second input at most
 abbrev pub most_of_work : Work → ℕ
-most_of_work lint_trace = MAX_TRACE_BYTES
 most_of_work (script visits) = MAX_SCRIPT_BYTES
-most_of_work (run step limit visits) = MAX_TRACE_BYTES
-most_of_work (live step limit record_file visits) = MAX_TRACE_BYTES
+most_of_work job = MAX_TRACE_BYTES
 
 -- how many bytes a task reads of standard input at most
 abbrev pub most_of_input : Task → ℕ

@@ -23,6 +23,10 @@ pub record Tells (trace : List ℕ) (traces : List (List Packet)) : Type 0 where
   pub sound : trace_fault trace ≡ None
   pub sent : (s : ℕ) → shown (sent_by traces s) ≡ sent s (pairs_of trace)
 
+-- A trace, whose bytes these are, says what each sender sends, of which this is told. If its bytes aren't known, some packets are sent.
+abbrev pub OverTrace : Option (List ℕ) → (List (List Packet) → Type 0) → Type 0
+OverTrace trace Told = (traces : List (List Packet)) × IfSome trace (λ bytes. Tells bytes traces) × Told traces
+
 -- Running a trace over a plan writes this text, with these logs. It is the report of a run of the plan over what the trace says, or over
 -- some packets if its bytes aren't known. There may be several such texts, since runs may differ.
 pub record RunWrites (plan : List Planned) (pace : Pace) (trace : Option (List ℕ)) (text : List ℕ) (logs : List (List Visit)) : Type 0 where
@@ -33,15 +37,13 @@ pub record RunWrites (plan : List Planned) (pace : Pace) (trace : Option (List �
   pub came_to : IsRunWith plan traces pace.step pace.limit logs emitted tallies
   pub reported : text ≡ report_text (flat_map (λ packets. packets) emitted) tallies
 
--- A run of the plan over what the trace says fails with this fault.
-pub record RefusesRun (plan : List Planned) (trace : Option (List ℕ)) (fault : Fault) : Type 0 where
-  pub traces : List (List Packet)
-  pub tells : IfSome trace (λ text. Tells text traces)
-  pub refused : IsFaultOfRun plan traces fault
+-- Why a task over a trace fails with a fault: the writer failed, or the reader or the trace has it, or what the trace says is refused.
+abbrev pub ExplainsOverTrace : Option (List ℕ) → (List (List Packet) → Fault → Type 0) → Fault → Type 0
+ExplainsOverTrace trace Refused fault = (fault ≡ Write) ⊎ (ExplainsTrace trace fault ⊎ OverTrace trace (λ traces. Refused traces fault))
 
--- Why running a trace over a plan fails with a fault: the writer failed, or the reader or the trace has it, or the run.
+-- Why running a trace over a plan fails with a fault.
 abbrev pub ExplainsRun : List Planned → Option (List ℕ) → Fault → Type 0
-ExplainsRun plan trace fault = (fault ≡ Write) ⊎ (ExplainsTrace trace fault ⊎ RefusesRun plan trace fault)
+ExplainsRun plan trace = ExplainsOverTrace trace (IsFaultOfRun plan)
 
 -- Over the plan the script prints some lines and then this text, and its pulls make these logs.
 abbrev pub EndsIn : List Planned → (script text : List ℕ) → List (List Visit) → Type 0
@@ -63,12 +65,6 @@ pub record HasRecord (recording failed : Bool) (old new : Option (List ℕ)) (sc
   pub whole : recording ≡ true → failed ≡ false → Appends old new script
   pub front : recording ≡ true → failed ≡ true → AppendsFront old new script
 
--- A run of the plan through inlets over what the trace says fails with this fault.
-pub record RefusesLive (plan : List Planned) (trace : Option (List ℕ)) (limit : ℕ) (recording : Bool) (fault : Fault) : Type 0 where
-  pub traces : List (List Packet)
-  pub tells : IfSome trace (λ text. Tells text traces)
-  pub refused : IsFaultOfLive plan traces limit recording fault
-
--- Why running a trace through inlets over a plan fails with a fault: a writer failed, or the reader or the trace has it, or the run.
+-- Why running a trace through inlets over a plan fails with a fault.
 abbrev pub ExplainsLive : List Planned → Option (List ℕ) → ℕ → Bool → Fault → Type 0
-ExplainsLive plan trace limit recording fault = (fault ≡ Write) ⊎ (ExplainsTrace trace fault ⊎ RefusesLive plan trace limit recording fault)
+ExplainsLive plan trace limit recording = ExplainsOverTrace trace (λ traces. IsFaultOfLive plan traces limit recording)

@@ -26,75 +26,56 @@ use Rattle.clk_command.specs.declared.builtin.TheConstants.{TEXT}
 abbrev pub IsPlanIn : Option (List ℕ) → List Planned → Type 0
 IsPlanIn tree plan = OfBytes tree (λ text. Denotes text plan)
 
+-- The text of a tree denotes a plan, of which this is told.
+abbrev pub OverPlan : Option (List ℕ) → (List Planned → Type 0) → Type 0
+OverPlan tree Told = (plan : List Planned) × IsPlanIn tree plan × Told plan
+
 -- The text is the canonical text of the plan that the text of a tree denotes.
-pub record IsCanonicalOf (tree : Option (List ℕ)) (text : List ℕ) : Type 0 where
-  pub plan : List Planned
-  pub is_plan : IsPlanIn tree plan
-  pub canonical : text ≡ canonical_text plan
+abbrev pub IsCanonicalOf : (tree : Option (List ℕ)) → (text : List ℕ) → Type 0
+IsCanonicalOf tree text = OverPlan tree (λ plan. text ≡ canonical_text plan)
 
 -- The text has the warnings of the plan that the text of a tree denotes.
-pub record IsLintOf (tree : Option (List ℕ)) (text : List ℕ) : Type 0 where
-  pub plan : List Planned
-  pub is_plan : IsPlanIn tree plan
-  pub lines : text ≡ lint_text plan None
+abbrev pub IsLintOf : (tree : Option (List ℕ)) → (text : List ℕ) → Type 0
+IsLintOf tree text = OverPlan tree (λ plan. text ≡ lint_text plan None)
 
 -- The text has the warnings of a tree and a trace.
-pub record LintsOver (tree trace : Option (List ℕ)) (text : List ℕ) : Type 0 where
-  pub plan : List Planned
-  pub is_plan : IsPlanIn tree plan
-  pub writes : LintWrites plan trace text
+abbrev pub LintsOver : (tree trace : Option (List ℕ)) → (text : List ℕ) → Type 0
+LintsOver tree trace text = OverPlan tree (λ plan. LintWrites plan trace text)
 
 -- A tree was read: its source did not fail, and its text denotes this plan; if its bytes aren't known, some text does. A task reads its
 -- second source only then.
-pub record WasTreeRead (tree : Option (List ℕ)) (before after : ℕ) : Type 0 where
-  pub plan : List Planned
-  pub is_plan : IsPlanIn tree plan
-  pub not_failed : after ≡ before
+abbrev pub WasTreeRead : (tree : Option (List ℕ)) → (before after : ℕ) → Type 0
+WasTreeRead tree before after = OverPlan tree (λ plan. after ≡ before)
 
 -- Why reading a plan fails with a fault: an allocation or the source failed, or the text has the fault.
 abbrev pub ExplainsTree : Option (List ℕ) → Fault → Type 0
 ExplainsTree tree fault = ((fault ≡ Memory) ⊎ (fault ≡ Read)) ⊎ OfBytes tree (λ text. HasFault text fault)
 
 -- A script over a tree writes this text.
-pub record WritesOver (tree input : Option (List ℕ)) (text : List ℕ) : Type 0 where
-  pub plan : List Planned
-  pub is_plan : IsPlanIn tree plan
-  pub means : OfBytes input (λ script. MeansOver plan script text)
+abbrev pub WritesOver : (tree input : Option (List ℕ)) → (text : List ℕ) → Type 0
+WritesOver tree input text = OverPlan tree (λ plan. OfBytes input (λ script. MeansOver plan script text))
 
 -- A script over a tree writes this text, and this visit file.
-pub record WritesWithVisits (tree input : Option (List ℕ)) (text visits : List ℕ) : Type 0 where
-  pub plan : List Planned
-  pub is_plan : IsPlanIn tree plan
-  pub logs : List (List Visit)
-  pub means : OfBytes input (λ script. MeansOverWith plan script text logs)
-  pub csv : visits ≡ visits_text logs
+abbrev pub WritesWithVisits : (tree input : Option (List ℕ)) → (text visits : List ℕ) → Type 0
+WritesWithVisits tree input text visits =
+    OverPlan tree (λ plan. (logs : List (List Visit)) × OfBytes input (λ script. MeansOverWith plan script text logs) × (visits ≡ visits_text logs))
 
 -- A trace that runs over a tree at a pace writes this report.
-pub record ReportsOver (tree trace : Option (List ℕ)) (pace : Pace) (text : List ℕ) : Type 0 where
-  pub plan : List Planned
-  pub is_plan : IsPlanIn tree plan
-  pub logs : List (List Visit)
-  pub writes : RunWrites plan pace trace text logs
+abbrev pub ReportsOver : (tree trace : Option (List ℕ)) → (pace : Pace) → (text : List ℕ) → Type 0
+ReportsOver tree trace pace text = OverPlan tree (λ plan. (logs : List (List Visit)) × RunWrites plan pace trace text logs)
 
 -- A trace that runs over a tree at a pace writes this report, and this visit file.
-pub record ReportsWithVisits (tree trace : Option (List ℕ)) (pace : Pace) (text visits : List ℕ) : Type 0 where
-  pub reports : ReportsOver tree trace pace text
-  pub csv : visits ≡ visits_text reports.logs
+abbrev pub ReportsWithVisits : (tree trace : Option (List ℕ)) → (pace : Pace) → (text visits : List ℕ) → Type 0
+ReportsWithVisits tree trace pace text visits = OverPlan tree (λ plan. (logs : List (List Visit)) × RunWrites plan pace trace text logs × (visits ≡ visits_text logs))
 
 -- A trace that runs through inlets over a tree at a pace writes this report, and this script is the record of the run.
-pub record LivesOver (tree trace : Option (List ℕ)) (pace : Pace) (recording : Bool) (text script : List ℕ) : Type 0 where
-  pub plan : List Planned
-  pub is_plan : IsPlanIn tree plan
-  pub writes : LiveWrites plan pace trace recording text script
+abbrev pub LivesOver : (tree trace : Option (List ℕ)) → (pace : Pace) → (recording : Bool) → (text script : List ℕ) → Type 0
+LivesOver tree trace pace recording text script = OverPlan tree (λ plan. LiveWrites plan pace trace recording text script)
 
 -- A run was recorded whose record is this script, which ends in the report, and this is the visit file of the record.
-pub record LivesWithVisits (tree trace : Option (List ℕ)) (pace : Pace) (text script visits : List ℕ) : Type 0 where
-  pub plan : List Planned
-  pub is_plan : IsPlanIn tree plan
-  pub writes : LiveWrites plan pace trace true text script
-  pub logs : List (List Visit)
-  pub ends : EndsIn plan script text logs
-  pub csv : visits ≡ visits_text logs
+abbrev pub LivesWithVisits : (tree trace : Option (List ℕ)) → (pace : Pace) → (text script visits : List ℕ) → Type 0
+LivesWithVisits tree trace pace text script visits =
+    OverPlan tree (λ plan. LiveWrites plan pace trace true text script × (logs : List (List Visit)) × EndsIn plan script text logs × (visits ≡ visits_text logs))
 
 -- A call writes a text and then a visit file to a sink of its own. If it succeeded, it wrote both. If a sink failed, it wrote a front of
 -- the text and no visits, or the text and a front of the visits. At any other fault it wrote nothing.
@@ -153,33 +134,20 @@ IsQuestion kinds = IsAmong DisplayHelp kinds ⊎ IsAmong DisplayVersion kinds
 abbrev pub IsMistake : Kinds → Type 0
 IsMistake kinds = (kind : ErrorKind) × IsAmong kind kinds × (kind ≢ DisplayHelp) × (kind ≢ DisplayVersion)
 
--- Why the warnings of a tree and a trace fail with a fault: a writer failed, or the tree has it, or the trace over its plan.
-abbrev pub ExplainsLintOver : Option (List ℕ) → Option (List ℕ) → Fault → Type 0
-ExplainsLintOver tree trace fault = ((fault ≡ Write) ⊎ ExplainsTree tree fault) ⊎ ((plan : List Planned) × IsPlanIn tree plan × ExplainsLint plan trace fault)
-
--- Why a script over a tree fails with a fault: a writer failed, or the tree has it, or the script over its plan.
-abbrev pub ExplainsScriptOver : Option (List ℕ) → Option (List ℕ) → Fault → Type 0
-ExplainsScriptOver tree input fault = ((fault ≡ Write) ⊎ ExplainsTree tree fault) ⊎ ((plan : List Planned) × IsPlanIn tree plan × ExplainsPlan plan input fault)
-
--- Why a run of a trace over a tree fails with a fault: a writer failed, or the tree has it, or the run over its plan.
-abbrev pub ExplainsRunOver : Option (List ℕ) → Option (List ℕ) → Fault → Type 0
-ExplainsRunOver tree trace fault = ((fault ≡ Write) ⊎ ExplainsTree tree fault) ⊎ ((plan : List Planned) × IsPlanIn tree plan × ExplainsRun plan trace fault)
-
--- Why a run of a trace through inlets over a tree fails with a fault: a writer failed, or the tree has it, or the run over its plan.
-abbrev pub ExplainsLiveOver : Option (List ℕ) → Option (List ℕ) → ℕ → Bool → Fault → Type 0
-ExplainsLiveOver tree trace limit recording fault =
-    ((fault ≡ Write) ⊎ ExplainsTree tree fault) ⊎ ((plan : List Planned) × IsPlanIn tree plan × ExplainsLive plan trace limit recording fault)
+-- Why a task over a tree fails with a fault: a writer failed, or the tree has it, or it is refused over the tree's plan.
+abbrev pub ExplainsOver : Option (List ℕ) → (List Planned → Fault → Type 0) → Fault → Type 0
+ExplainsOver tree Refused fault = ((fault ≡ Write) ⊎ ExplainsTree tree fault) ⊎ OverPlan tree (λ plan. Refused plan fault)
 
 -- Why some work over a tree and a second input with these bytes fails with a fault.
 abbrev pub ExplainsWork : Work → (tree input : Option (List ℕ)) → Fault → Type 0
-ExplainsWork lint_trace tree input fault = ExplainsLintOver tree input fault
-ExplainsWork (script visits) tree input fault = ExplainsScriptOver tree input fault
-ExplainsWork (run step limit visits) tree input fault = ExplainsRunOver tree input fault
-ExplainsWork (live step limit record_file visits) tree input fault = ExplainsLiveOver tree input limit (is_recorded record_file visits) fault
+ExplainsWork lint_trace tree input = ExplainsOver tree (λ plan. ExplainsLint plan input)
+ExplainsWork (script visits) tree input = ExplainsOver tree (λ plan. ExplainsPlan plan input)
+ExplainsWork (run step limit visits) tree input = ExplainsOver tree (λ plan. ExplainsRun plan input)
+ExplainsWork (live step limit record_file visits) tree input = ExplainsOver tree (λ plan. ExplainsLive plan input limit (is_recorded record_file visits))
 
 -- Why a task fails with a fault, if standard input held these bytes.
 abbrev pub ExplainsTask : Task → Option (List ℕ) → Fault → Type 0
-ExplainsTask builtin input fault = ExplainsScriptOver (Some builtin_text) input fault
+ExplainsTask builtin input fault = ExplainsOver (Some builtin_text) (λ plan. ExplainsPlan plan input) fault
 ExplainsTask (check tree) input fault = (fault ≡ Write) ⊎ ExplainsTree (bytes_at tree input) fault
 ExplainsTask (lint tree) input fault = (fault ≡ Write) ⊎ ExplainsTree (bytes_at tree input) fault
 ExplainsTask (over tree path job) input fault = ExplainsWork job (bytes_at tree input) (bytes_at path input) fault

@@ -13,7 +13,9 @@ ghost use Rattle.clk_script.specs.declared.limits.TheConstants.{MAX_SCRIPT_BYTES
 ghost use Rattle.clk_syntax.specs.declared.limits.TheConstants.{MAX_TREE_BYTES};
 ghost use Rattle.clk_tree.specs.Plan.{Denotes};
 ghost use Rattle.clk_packet.specs.Written.{WroteWhat};
-ghost use Rattle.clk_command.specs.Tasks.{Does, DoesWork, ExplainsWork, ExplainsRunOver, ExplainsScriptOver, ExplainsTask, ExplainsTree, GoesOut, IsQuestion, IsMistake, ExplainsLiveOver, LivesOver, LivesWithVisits, WritesOver, WritesWithVisits, ReportsOver, ReportsWithVisits, builtin_text};
+ghost use Rattle.clk_command.specs.Tasks.{Does, DoesWork, ExplainsWork, ExplainsTask, ExplainsTree, GoesOut, IsQuestion, IsMistake, LivesOver, LivesWithVisits, WritesOver, WritesWithVisits, ReportsOver, ReportsWithVisits, builtin_text, ExplainsOver};
+ghost use Rattle.clk_script.specs.Meaning.{ExplainsPlan};
+ghost use Rattle.clk_command.specs.Running.{ExplainsRun, ExplainsLive};
 ghost use Rattle.clk_command.specs.InputLimits.{most_of_input, most_of_work};
 ghost use Rattle.clk_words.specs.Words.{answers_alone, builtin, go_to_file, is_explained, is_recorded, writes_output_alone, program_words, reads_input, task, task_in, text_of, visits_follow, work, AreApart, MayClash};
 
@@ -293,7 +295,7 @@ fn script_builtin<R: Source, W: Sink>(
     writer: &mut W,
 ) -> Result<(), Fault>
     ensures wrote { WroteWhat (WritesOver (Some builtin_text) (R.Source.remaining reader.old)) result (W.Sink.taken writer.old) (W.Sink.taken writer.new) }
-    ensures fault { IfErr result (ExplainsScriptOver (Some builtin_text) (R.Source.remaining reader.old)) }
+    ensures fault { IfErr result (ExplainsOver (Some builtin_text) (λ plan. ExplainsPlan plan (R.Source.remaining reader.old))) }
     ensures write_failures { W.Sink.failures writer.new ≡ write_failures result (W.Sink.failures writer.old) }
     ensures read_failures { R.Source.failures reader.new ≡ read_failures result (R.Source.failures reader.old) }
     ensures limit { Takes (MAX_SCRIPT_BYTES + 1) (R.Source.remaining reader.old) (R.Source.remaining reader.new) }
@@ -312,7 +314,7 @@ fn script_job<'a, H: Files + AllocGlobal, T: Source, S: Source, W: Sink>(
 ) -> Result<(), Fault>
     ensures written { OnOk result ((all : _) × GoesOut (visits_follow (option_map text_of visits.entry)) (WritesOver (T.Source.remaining tree.old) (S.Source.remaining script.old))
         (WritesWithVisits (T.Source.remaining tree.old) (S.Source.remaining script.old)) all × Appends (W.Sink.taken writer.old) (W.Sink.taken writer.new) all) }
-    ensures fault { IfErr result (ExplainsScriptOver (T.Source.remaining tree.old) (S.Source.remaining script.old)) }
+    ensures fault { IfErr result (ExplainsOver (T.Source.remaining tree.old) (λ plan. ExplainsPlan plan (S.Source.remaining script.old))) }
     ensures nothing { IfErr result (λ fault. fault ≢ Write → Keeps (W.Sink.taken writer.old) (W.Sink.taken writer.new)) }
     ensures write_failures { (W.Sink.failures writer.new ≡ W.Sink.failures writer.old)
         ⊎ (W.Sink.failures writer.new ≡ write_failures result (W.Sink.failures writer.old)) }
@@ -349,7 +351,7 @@ fn run_job<
 ) -> Result<(), Fault>
     ensures written { OnOk result ((all : _) × GoesOut (visits_follow (option_map text_of visits.entry)) (ReportsOver (T.Source.remaining tree.old) (S.Source.remaining trace.old) pace)
         (ReportsWithVisits (T.Source.remaining tree.old) (S.Source.remaining trace.old) pace) all × Appends (W.Sink.taken writer.old) (W.Sink.taken writer.new) all) }
-    ensures fault { IfErr result (ExplainsRunOver (T.Source.remaining tree.old) (S.Source.remaining trace.old)) }
+    ensures fault { IfErr result (ExplainsOver (T.Source.remaining tree.old) (λ plan. ExplainsRun plan (S.Source.remaining trace.old))) }
     ensures nothing { IfErr result (λ fault. fault ≢ Write → Keeps (W.Sink.taken writer.old) (W.Sink.taken writer.new)) }
     ensures write_failures { (W.Sink.failures writer.new ≡ W.Sink.failures writer.old)
         ⊎ (W.Sink.failures writer.new ≡ write_failures result (W.Sink.failures writer.old)) }
@@ -391,7 +393,7 @@ fn live_job<
         (λ text. LivesOver (T.Source.remaining tree.old) (S.Source.remaining trace.old) pace (is_recorded (option_map text_of script.entry) (option_map text_of visits.entry)) text lines)
         (λ text rows. LivesWithVisits (T.Source.remaining tree.old) (S.Source.remaining trace.old) pace text lines rows) all
         × Appends (W.Sink.taken writer.old) (W.Sink.taken writer.new) all) }
-    ensures fault { IfErr result (ExplainsLiveOver (T.Source.remaining tree.old) (S.Source.remaining trace.old) pace.limit (is_recorded (option_map text_of script.entry) (option_map text_of visits.entry))) }
+    ensures fault { IfErr result (ExplainsOver (T.Source.remaining tree.old) (λ plan. ExplainsLive plan (S.Source.remaining trace.old) pace.limit (is_recorded (option_map text_of script.entry) (option_map text_of visits.entry)))) }
     ensures nothing { IfErr result (λ fault. fault ≢ Write → Keeps (W.Sink.taken writer.old) (W.Sink.taken writer.new)) }
     ensures write_failures { (W.Sink.failures writer.new ≡ W.Sink.failures writer.old)
         ⊎ (W.Sink.failures writer.new ≡ write_failures result (W.Sink.failures writer.old)) }
@@ -454,7 +456,7 @@ fn live_to<
     writer: &mut W,
 ) -> Result<(), Fault>
     ensures written { OnOk result ((text : _) × (lines : _) × LivesOver (T.Source.remaining tree.old) (S.Source.remaining trace.old) pace recording text lines × Appends (W.Sink.taken writer.old) (W.Sink.taken writer.new) text) }
-    ensures fault { IfErr result (ExplainsLiveOver (T.Source.remaining tree.old) (S.Source.remaining trace.old) pace.limit recording) }
+    ensures fault { IfErr result (ExplainsOver (T.Source.remaining tree.old) (λ plan. ExplainsLive plan (S.Source.remaining trace.old) pace.limit recording)) }
     ensures nothing { IfErr result (λ fault. fault ≢ Write → Keeps (W.Sink.taken writer.old) (W.Sink.taken writer.new)) }
     ensures write_failures { (W.Sink.failures writer.new ≡ W.Sink.failures writer.old)
         ⊎ (W.Sink.failures writer.new ≡ write_failures result (W.Sink.failures writer.old)) }
@@ -491,7 +493,7 @@ fn live_visits_to<
         (λ text. LivesOver (T.Source.remaining tree.old) (S.Source.remaining trace.old) pace true text lines)
         (λ text rows. LivesWithVisits (T.Source.remaining tree.old) (S.Source.remaining trace.old) pace text lines rows) all
         × Appends (W.Sink.taken writer.old) (W.Sink.taken writer.new) all) }
-    ensures fault { IfErr result (ExplainsLiveOver (T.Source.remaining tree.old) (S.Source.remaining trace.old) pace.limit true) }
+    ensures fault { IfErr result (ExplainsOver (T.Source.remaining tree.old) (λ plan. ExplainsLive plan (S.Source.remaining trace.old) pace.limit true)) }
     ensures nothing { IfErr result (λ fault. fault ≢ Write → Keeps (W.Sink.taken writer.old) (W.Sink.taken writer.new)) }
     ensures write_failures { (W.Sink.failures writer.new ≡ W.Sink.failures writer.old)
         ⊎ (W.Sink.failures writer.new ≡ write_failures result (W.Sink.failures writer.old)) }

@@ -7,7 +7,7 @@ ghost use Rattle.clk_packet.specs.Written.{WroteWhat};
 ghost use Rattle.clk_packet.specs.declared.fault.Fault.TheVariants.{Write};
 ghost use Rattle.clk_syntax.specs.declared.limits.TheConstants.{MAX_TREE_BYTES};
 ghost use Rattle.clk_command.specs.Linting.{ExplainsLint, LintWrites};
-ghost use Rattle.clk_command.specs.Tasks.{ExplainsLintOver, ExplainsTree, IsLintOf, LintsOver, WasTreeRead};
+ghost use Rattle.clk_command.specs.Tasks.{ExplainsTree, IsLintOf, LintsOver, WasTreeRead, ExplainsOver};
 
 use crate::over::read_plan;
 use clk_gate::check_senders;
@@ -49,7 +49,7 @@ pub fn lint_over<T: Source, S: Source, W: Sink>(
 ) -> Result<(), Fault>
     ensures wrote { WroteWhat (LintsOver (T.Source.remaining tree.old) (S.Source.remaining trace.old))
         result (W.Sink.taken writer.old) (W.Sink.taken writer.new) }
-    ensures fault { IfErr result (ExplainsLintOver (T.Source.remaining tree.old) (S.Source.remaining trace.old)) }
+    ensures fault { IfErr result (ExplainsOver (T.Source.remaining tree.old) (λ plan. ExplainsLint plan (S.Source.remaining trace.old))) }
     // A read of one of the two failed exactly if the fault is 19.
     ensures read_failures { T.Source.failures tree.new + S.Source.failures trace.new
         ≡ read_failures result (T.Source.failures tree.old + S.Source.failures trace.old) }

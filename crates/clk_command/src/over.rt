@@ -7,12 +7,12 @@ ghost use Rattle.clk_packet.specs.declared.limits.TheConstants.{MAX_TRACE_BYTES}
 ghost use Rattle.clk_packet.specs.declared.fault.Fault.TheVariants.{Write};
 ghost use Rattle.clk_report.specs.VisitCsv.{visits_text};
 ghost use Rattle.clk_sched.specs.Packed.{logged};
-ghost use Rattle.clk_script.specs.Meaning.{ending_text};
+ghost use Rattle.clk_script.specs.Meaning.{ExplainsPlan, ending_text};
 ghost use Rattle.clk_script.specs.declared.limits.TheConstants.{MAX_SCRIPT_BYTES};
 ghost use Rattle.clk_syntax.specs.declared.limits.TheConstants.{MAX_TREE_BYTES};
 ghost use Rattle.clk_packet.specs.Written.{WroteWhat};
-ghost use Rattle.clk_command.specs.Tasks.{IsPlanIn, IsCanonicalOf, ExplainsTree, ExplainsScriptOver, ExplainsRunOver, WritesOver, WritesWithVisits, ReportsOver, ReportsWithVisits, LivesOver, LivesWithVisits, ExplainsLiveOver, WasTreeRead, WroteBoth};
-ghost use Rattle.clk_command.specs.Running.{HasRecord};
+ghost use Rattle.clk_command.specs.Tasks.{IsPlanIn, IsCanonicalOf, ExplainsTree, WritesOver, WritesWithVisits, ReportsOver, ReportsWithVisits, LivesOver, LivesWithVisits, WasTreeRead, WroteBoth, ExplainsOver};
+ghost use Rattle.clk_command.specs.Running.{ExplainsRun, ExplainsLive, HasRecord};
 
 use crate::live::{Replayed, live_trace, replayed_trace};
 use crate::running::run_trace;
@@ -77,7 +77,7 @@ pub fn script_over<T: Source, S: Source, W: Sink>(
 ) -> Result<(), Fault>
     ensures wrote { WroteWhat (WritesOver (T.Source.remaining tree.old) (S.Source.remaining script.old))
         result (W.Sink.taken writer.old) (W.Sink.taken writer.new) }
-    ensures fault { IfErr result (ExplainsScriptOver (T.Source.remaining tree.old) (S.Source.remaining script.old)) }
+    ensures fault { IfErr result (ExplainsOver (T.Source.remaining tree.old) (λ plan. ExplainsPlan plan (S.Source.remaining script.old))) }
     // A read of one of the two failed exactly if the fault is 19.
     ensures read_failures { T.Source.failures tree.new + S.Source.failures script.new
         ≡ read_failures result (T.Source.failures tree.old + S.Source.failures script.old) }
@@ -107,7 +107,7 @@ pub fn script_with_visits<T: Source, S: Source, W: Sink, V: Sink>(
 ) -> Result<(), Fault>
     ensures wrote { WroteBoth (WritesWithVisits (T.Source.remaining tree.old) (S.Source.remaining script.old))
         (W.Sink.taken writer.old) (W.Sink.taken writer.new) result (V.Sink.taken visits.old) (V.Sink.taken visits.new) }
-    ensures fault { IfErr result (ExplainsScriptOver (T.Source.remaining tree.old) (S.Source.remaining script.old)) }
+    ensures fault { IfErr result (ExplainsOver (T.Source.remaining tree.old) (λ plan. ExplainsPlan plan (S.Source.remaining script.old))) }
     // A read of one of the two failed exactly if the fault is 19.
     ensures read_failures { T.Source.failures tree.new + S.Source.failures script.new
         ≡ read_failures result (T.Source.failures tree.old + S.Source.failures script.old) }
@@ -133,7 +133,7 @@ pub fn script_logged<T: Source, S: Source, W: Sink>(
     ensures wrote { WroteWhat (λ text. (visits : _) × IfOk result (λ replay. visits_text replay ≡ visits)
         × WritesWithVisits (T.Source.remaining tree.old) (S.Source.remaining script.old) text visits)
         result (W.Sink.taken writer.old) (W.Sink.taken writer.new) }
-    ensures fault { IfErr result (ExplainsScriptOver (T.Source.remaining tree.old) (S.Source.remaining script.old)) }
+    ensures fault { IfErr result (ExplainsOver (T.Source.remaining tree.old) (λ plan. ExplainsPlan plan (S.Source.remaining script.old))) }
     // A read of one of the two failed exactly if the fault is 19.
     ensures read_failures { T.Source.failures tree.new + S.Source.failures script.new
         ≡ read_failures result (T.Source.failures tree.old + S.Source.failures script.old) }
@@ -164,7 +164,7 @@ pub fn run_over<H: Threads + Wait, P: Wait + Sync, T: Source, S: Source, W: Sink
 ) -> Result<(), Fault>
     ensures wrote { WroteWhat (ReportsOver (T.Source.remaining tree.old) (S.Source.remaining trace.old) pace)
         result (W.Sink.taken writer.old) (W.Sink.taken writer.new) }
-    ensures fault { IfErr result (ExplainsRunOver (T.Source.remaining tree.old) (S.Source.remaining trace.old)) }
+    ensures fault { IfErr result (ExplainsOver (T.Source.remaining tree.old) (λ plan. ExplainsRun plan (S.Source.remaining trace.old))) }
     // A read of one of the two failed exactly if the fault is 19.
     ensures read_failures { T.Source.failures tree.new + S.Source.failures trace.new
         ≡ read_failures result (T.Source.failures tree.old + S.Source.failures trace.old) }
@@ -198,7 +198,7 @@ pub fn run_with_visits<H: Threads + Wait, P: Wait + Sync, T: Source, S: Source, 
 ) -> Result<(), Fault>
     ensures wrote { WroteBoth (ReportsWithVisits (T.Source.remaining tree.old) (S.Source.remaining trace.old) pace)
         (W.Sink.taken writer.old) (W.Sink.taken writer.new) result (V.Sink.taken visits.old) (V.Sink.taken visits.new) }
-    ensures fault { IfErr result (ExplainsRunOver (T.Source.remaining tree.old) (S.Source.remaining trace.old)) }
+    ensures fault { IfErr result (ExplainsOver (T.Source.remaining tree.old) (λ plan. ExplainsRun plan (S.Source.remaining trace.old))) }
     // A read of one of the two failed exactly if the fault is 19.
     ensures read_failures { T.Source.failures tree.new + S.Source.failures trace.new
         ≡ read_failures result (T.Source.failures tree.old + S.Source.failures trace.old) }
@@ -227,7 +227,7 @@ pub fn run_logged<H: Threads + Wait, P: Wait + Sync, T: Source, S: Source, W: Si
     ensures wrote { WroteWhat (λ text. (visits : _) × IfOk result (λ logs. visits_text (map logged logs.items) ≡ visits)
         × ReportsWithVisits (T.Source.remaining tree.old) (S.Source.remaining trace.old) pace text visits)
         result (W.Sink.taken writer.old) (W.Sink.taken writer.new) }
-    ensures fault { IfErr result (ExplainsRunOver (T.Source.remaining tree.old) (S.Source.remaining trace.old)) }
+    ensures fault { IfErr result (ExplainsOver (T.Source.remaining tree.old) (λ plan. ExplainsRun plan (S.Source.remaining trace.old))) }
     // A read of one of the two failed exactly if the fault is 19.
     ensures read_failures { T.Source.failures tree.new + S.Source.failures trace.new
         ≡ read_failures result (T.Source.failures tree.old + S.Source.failures trace.old) }
@@ -263,7 +263,7 @@ pub fn live_over<H: Threads + Wait, P: Wait + Sync, T: Source, S: Source, W: Sin
     ensures wrote { WroteWhat (λ text. (script : _) × LivesOver (T.Source.remaining tree.old) (S.Source.remaining trace.old) pace recording text script
         × IfOk result (λ answer. HasRecord recording false (R.Sink.taken sink) (R.Sink.taken answer) script))
         result (W.Sink.taken writer.old) (W.Sink.taken writer.new) }
-    ensures fault { IfErr result (ExplainsLiveOver (T.Source.remaining tree.old) (S.Source.remaining trace.old) pace.limit recording) }
+    ensures fault { IfErr result (ExplainsOver (T.Source.remaining tree.old) (λ plan. ExplainsLive plan (S.Source.remaining trace.old) pace.limit recording)) }
     // A read of one of the two failed exactly if the fault is 19.
     ensures read_failures { T.Source.failures tree.new + S.Source.failures trace.new
         ≡ read_failures result (T.Source.failures tree.old + S.Source.failures trace.old) }
@@ -315,7 +315,7 @@ pub fn live_with_visits<
         × AppendsFront (R.Sink.taken script.old) (R.Sink.taken script.new) lines)
         (W.Sink.taken writer.old) (W.Sink.taken writer.new) result (V.Sink.taken visits.old) (V.Sink.taken visits.new) }
     ensures unrecorded { IfErr result (λ fault. fault ≢ Write → script.new ≡ script.old) }
-    ensures fault { IfErr result (ExplainsLiveOver (T.Source.remaining tree.old) (S.Source.remaining trace.old) pace.limit true) }
+    ensures fault { IfErr result (ExplainsOver (T.Source.remaining tree.old) (λ plan. ExplainsLive plan (S.Source.remaining trace.old) pace.limit true)) }
     // A read of one of the two failed exactly if the fault is 19.
     ensures read_failures { T.Source.failures tree.new + S.Source.failures trace.new
         ≡ read_failures result (T.Source.failures tree.old + S.Source.failures trace.old) }
@@ -351,7 +351,7 @@ pub fn live_replayed<H: Threads + Wait, P: Wait + Sync, T: Source, S: Source>(
 ) -> Result<Replayed, Fault>
     ensures lives { IfOk result (λ run. LivesWithVisits (T.Source.remaining tree.old) (S.Source.remaining trace.old) pace
         (ending_text run.live.course.setup (Some 0) run.live.course.events) run.kept.bytes.items (visits_text run.replay)) }
-    ensures fault { IfErr result (ExplainsLiveOver (T.Source.remaining tree.old) (S.Source.remaining trace.old) pace.limit true) }
+    ensures fault { IfErr result (ExplainsOver (T.Source.remaining tree.old) (λ plan. ExplainsLive plan (S.Source.remaining trace.old) pace.limit true)) }
     ensures not_write { IfErr result (λ fault. fault ≢ Write) }
     // A read of one of the two failed exactly if the fault is 19.
     ensures read_failures { T.Source.failures tree.new + S.Source.failures trace.new

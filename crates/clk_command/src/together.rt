@@ -8,7 +8,9 @@ ghost use Rattle.clk_packet.specs.declared.fault.Fault.TheVariants.{Write};
 ghost use Rattle.clk_script.specs.declared.limits.TheConstants.{MAX_SCRIPT_BYTES};
 ghost use Rattle.clk_syntax.specs.declared.limits.TheConstants.{MAX_TREE_BYTES};
 ghost use Rattle.clk_packet.specs.Written.{WroteWhat};
-ghost use Rattle.clk_command.specs.Tasks.{AreTogether, ExplainsScriptOver, ExplainsRunOver, ExplainsLiveOver, LivesWithVisits, ReportsWithVisits, WasTreeRead, WritesWithVisits};
+ghost use Rattle.clk_command.specs.Tasks.{AreTogether, LivesWithVisits, ReportsWithVisits, WasTreeRead, WritesWithVisits, ExplainsOver};
+ghost use Rattle.clk_script.specs.Meaning.{ExplainsPlan};
+ghost use Rattle.clk_command.specs.Running.{ExplainsRun, ExplainsLive};
 
 use crate::live::Replayed;
 use crate::over::{live_replayed, run_logged, script_logged};
@@ -33,7 +35,7 @@ pub fn script_then_visits<T: Source, S: Source, W: Sink>(
 ) -> Result<(), Fault>
     ensures wrote { WroteWhat (AreTogether (WritesWithVisits (T.Source.remaining tree.old) (S.Source.remaining script.old)))
         result (W.Sink.taken writer.old) (W.Sink.taken writer.new) }
-    ensures fault { IfErr result (ExplainsScriptOver (T.Source.remaining tree.old) (S.Source.remaining script.old)) }
+    ensures fault { IfErr result (ExplainsOver (T.Source.remaining tree.old) (λ plan. ExplainsPlan plan (S.Source.remaining script.old))) }
     // A read of one of the two failed exactly if the fault is 19.
     ensures read_failures { T.Source.failures tree.new + S.Source.failures script.new
         ≡ read_failures result (T.Source.failures tree.old + S.Source.failures script.old) }
@@ -64,7 +66,7 @@ pub fn run_then_visits<H: Threads + Wait, P: Wait + Sync, T: Source, S: Source, 
 ) -> Result<(), Fault>
     ensures wrote { WroteWhat (AreTogether (ReportsWithVisits (T.Source.remaining tree.old) (S.Source.remaining trace.old) pace))
         result (W.Sink.taken writer.old) (W.Sink.taken writer.new) }
-    ensures fault { IfErr result (ExplainsRunOver (T.Source.remaining tree.old) (S.Source.remaining trace.old)) }
+    ensures fault { IfErr result (ExplainsOver (T.Source.remaining tree.old) (λ plan. ExplainsRun plan (S.Source.remaining trace.old))) }
     // A read of one of the two failed exactly if the fault is 19.
     ensures read_failures { T.Source.failures tree.new + S.Source.failures trace.new
         ≡ read_failures result (T.Source.failures tree.old + S.Source.failures trace.old) }
@@ -101,7 +103,7 @@ pub fn live_then_visits<H: Threads + Wait, P: Wait + Sync, T: Source, S: Source,
         × AppendsFront (R.Sink.taken script.old) (R.Sink.taken script.new) lines)
         result (W.Sink.taken writer.old) (W.Sink.taken writer.new) }
     ensures unrecorded { IfErr result (λ fault. fault ≢ Write → script.new ≡ script.old) }
-    ensures fault { IfErr result (ExplainsLiveOver (T.Source.remaining tree.old) (S.Source.remaining trace.old) pace.limit true) }
+    ensures fault { IfErr result (ExplainsOver (T.Source.remaining tree.old) (λ plan. ExplainsLive plan (S.Source.remaining trace.old) pace.limit true)) }
     // A read of one of the two failed exactly if the fault is 19.
     ensures read_failures { T.Source.failures tree.new + S.Source.failures trace.new
         ≡ read_failures result (T.Source.failures tree.old + S.Source.failures trace.old) }

@@ -1,5 +1,5 @@
 -- What the answer to a script is.
-use Rattle.std.specs.Prelude.{◌≡◌, ℕ, List, [], ◌++◌, length, map, zero, suc, nat_lt, Bool, if◌then◌else◌, Option, Some, None, IfSome, ⊤, codes, decimal}
+use Rattle.std.specs.Prelude.{◌≡◌, ℕ, List, [], ◌++◌, length, map, zero, suc, nat_lt, Bool, if◌then◌else◌, Option, Some, None, IfSome, MatchOption, ⊤, codes, decimal}
 use Rattle.std.specs.Option.{option_map_or}
 use Rattle.std.specs.List.{flat_map}
 use Rattle.clk_packet.specs.declared.packet.Packet.{Packet}
@@ -19,7 +19,7 @@ use Rattle.clk_tree.specs.PlanTree.{device_count}
 use Rattle.clk_tree.specs.Shares.{AreTreesOf}
 use Rattle.clk_script.specs.Script.{Names, script_fault, commands_of, closing_moment}
 use Rattle.clk_report.specs.Report.{report_text}
-use Rattle.clk_router.specs.Events.{Setup, plan_setup, sender_numbers, Event, events_at, tally_after, CanHappen, Closes, logs_of, offered, pulled}
+use Rattle.clk_router.specs.Events.{Setup, plan_setup, sender_numbers, Event, emitted_in, events_at, tally_after, CanHappen, Closes, logs_of, offered, pulled}
 
 -- what a script may name over a setup
 abbrev pub names_of : Setup → Names
@@ -70,14 +70,9 @@ abbrev pub event_text : Bool → Event → List ℕ
 event_text several (offered p outcome) = offer_text p outcome
 event_text several (pulled device moment visits) = pull_text several device moment (result_of (visits_of 0 visits))
 
--- the line of a pull of a drain with this result; no line if it gave no packet
-abbrev pub given_text : Bool → ℕ → ℕ → Option Packet → List ℕ
-given_text several device moment got = option_map_or (λ p. pull_text several device moment (Some p)) got []
-
 -- the line of a pull of a drain; no line if it gave no packet
 abbrev pub closing_text : Bool → Event → List ℕ
-closing_text several (offered p outcome) = []
-closing_text several (pulled device moment visits) = given_text several device moment (result_of (visits_of 0 visits))
+closing_text several event = option_map_or (λ (p : Packet). event_text several event) (emitted_in event) []
 
 -- The first so many devices were drained from a moment on, after some events: one after the other, by number.
 abbrev pub CloseFirst : Setup → ℕ → ℕ → List Event → List Event → Type 0
@@ -87,13 +82,12 @@ CloseFirst setup moment (suc d) events closed =
 
 -- All devices were drained from this moment on, one after the other; if a script has no drain, no device was.
 abbrev pub IsClosed : Setup → Option ℕ → List Event → List Event → Type 0
-IsClosed setup None events closed = closed ≡ []
-IsClosed setup (Some moment) events closed = CloseFirst setup moment (length setup.trees) events closed
+IsClosed setup drain events closed = MatchOption drain (closed ≡ []) (λ moment. CloseFirst setup moment (length setup.trees) events closed)
 
 -- the report, if a script has a drain; otherwise nothing
 abbrev pub ending_text : Setup → Option ℕ → List Event → List ℕ
-ending_text setup None events = []
-ending_text setup (Some moment) events = report_text (flat_map emitted (logs_of setup events)) (map (tally_after events) (sender_numbers setup))
+ending_text setup drain events =
+    option_map_or (λ (moment : ℕ). report_text (flat_map emitted (logs_of setup events)) (map (tally_after events) (sender_numbers setup))) drain []
 
 -- The lines of events, in order, those of the pulls of the drain, and then the report if there is a drain.
 abbrev pub course_text : Setup → Option ℕ → List Event → List Event → List ℕ

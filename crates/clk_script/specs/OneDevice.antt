@@ -1,5 +1,6 @@
 -- What a script over one device means, without numbers of devices: all pulls are a run of its tree.
 use Rattle.std.specs.Prelude.{◌≡◌, ℕ, List, [], ◌∷◌, ◌++◌, length, map, true, if◌then◌else◌, Option, None, Some, MatchOption, ⊤, codes, decimal, slice_get}
+use Rattle.std.specs.Option.{option_map_or}
 use Rattle.std.specs.List.{flat_map, range_with_len, AllByRecursion}
 use Rattle.clk_packet.specs.declared.packet.Packet.{Packet}
 use Rattle.clk_script.specs.declared.script.Command.{Command}
@@ -11,7 +12,7 @@ use Rattle.clk_sched.specs.Results.{asks_queue, emitted}
 use Rattle.clk_tree.specs.declared.plan.parts.SenderSpec.{SenderSpec}
 use Rattle.clk_report.specs.Report.{report_text}
 use Rattle.clk_script.specs.Script.{script_fault, commands_of, closing_moment}
-use Rattle.clk_router.specs.Events.{Setup, sender_numbers, is_of_device, Event, offered, pulled, numbers_of, log_of, tally_after, sends_to, NamesItsOffer, RunsTree, Closes}
+use Rattle.clk_router.specs.Events.{Setup, sender_numbers, is_of_device, Event, offered, pulled, numbers_of, log_of, emitted_in, tally_after, sends_to, NamesItsOffer, RunsTree, Closes}
 use Rattle.clk_script.specs.Meaning.{names_of, command_of, offer_text, result_text}
 
 -- A setup has one device, with this tree, and each of its senders sends to a queue of it.
@@ -45,15 +46,9 @@ abbrev pub event_line : Event → List ℕ
 event_line (offered p outcome) = offer_text p outcome
 event_line (pulled device moment visits) = pull_line moment (result_of (visits_of 0 visits))
 
--- the line of a pull of the drain with this result; no line if it gave no packet
-abbrev pub given_line : ℕ → Option Packet → List ℕ
-given_line moment None = []
-given_line moment (Some p) = pull_line moment (Some p)
-
 -- the line of a pull of the drain; no line if it gave no packet
 abbrev pub closing_line : Event → List ℕ
-closing_line (offered p outcome) = []
-closing_line (pulled device moment visits) = given_line moment (result_of (visits_of 0 visits))
+closing_line event = option_map_or (λ (p : Packet). event_line event) (emitted_in event) []
 
 -- The device was drained from this moment on; if a script has no drain, it was not.
 abbrev pub IsClosedAlone : Option ℕ → List Event → List Event → Type 0

@@ -1,5 +1,5 @@
 -- The lines of a script, and which fault it has (this project's own format).
-use Rattle.std.specs.Prelude.{ℕ, ◌+◌, List, [], ◌∷◌, length, map, filter, Bool, true, false, ◌==◌, ◌||◌, nat_lt, if◌then◌else◌, Option, Some, None, codes, slice_get}
+use Rattle.std.specs.Prelude.{ℕ, ◌+◌, List, [], ◌∷◌, length, map, filter, Bool, true, false, ◌==◌, ◌||◌, nat_lt, if◌then◌else◌, Option, Some, None, is_some, codes, slice_get}
 use Rattle.std.specs.Option.{option_or, option_map_or}
 use Rattle.std.specs.List.{slice_split, filter_map, list_any}
 use Rattle.std.specs.Str.{bytes_eq}
@@ -76,17 +76,17 @@ line_fault names drained number (line.Drain moment) = if drained then Some (BadS
 abbrev pub fault_at : Names → Bool → ℕ → ScriptLine → Option Fault
 fault_at names drained number l = if nat_lt MAX_LINES number then Some TooLarge else line_fault names drained number l
 
--- whether a line is a drain
-abbrev pub is_drain : ScriptLine → Bool
-is_drain (line.Drain moment) = true
-is_drain l = false
+-- the moment of a line, if it is a drain
+abbrev pub drain_in : ScriptLine → Option ℕ
+drain_in (line.Drain moment) = Some moment
+drain_in l = None
 
 -- The fault of the first of these lines that has one. The lines are counted from `number` on, and `drained` says whether a drain came
 -- before them.
 abbrev pub first_fault : Names → Bool → ℕ → List ScriptLine → Option Fault
 first_fault names drained number [] = None
 first_fault names drained number (l ∷ more) =
-    option_or (fault_at names drained number l) (first_fault names (drained || is_drain l) (number + 1) more)
+    option_or (fault_at names drained number l) (first_fault names (drained || is_some (drain_in l)) (number + 1) more)
 
 -- the lines of a script: a line ends with a line feed, which the last may lack, and loses one carriage return right before it
 abbrev pub lines_of : List ℕ → List ScriptLine
@@ -104,11 +104,6 @@ command_in l = None
 -- the commands of a script, in order
 abbrev pub commands_of : List ℕ → List Command
 commands_of script = filter_map command_in (lines_of script)
-
--- the moment of a line, if it is a drain
-abbrev pub drain_in : ScriptLine → Option ℕ
-drain_in (line.Drain moment) = Some moment
-drain_in l = None
 
 -- the moment from which a script drains the devices, if it has a drain
 abbrev pub closing_moment : List ℕ → Option ℕ

@@ -24,10 +24,6 @@ use Rattle.clk_words.specs.declared.words.Job.TheVariants.{LintTrace, Script, Ru
 abbrev pub file_word : Text → Rule
 file_word name = record (new_rule name) { required = true }
 
--- a word that names a file, and may be left out
-abbrev pub optional_word : Text → Rule
-optional_word name = new_rule name
-
 -- `--name FILE`
 abbrev pub file_option : Text → Rule
 file_option name = record (new_rule name) { long = Some name; value_names = 1 }
@@ -55,7 +51,7 @@ check_words = with_rule (titled_words (codes "check")) (file_word (codes "TREE")
 
 -- `lint TREE [TRACE]`
 abbrev pub lint_words : App
-lint_words = with_rule (with_rule (titled_words (codes "lint")) (file_word (codes "TREE"))) (optional_word (codes "TRACE"))
+lint_words = with_rule (with_rule (titled_words (codes "lint")) (file_word (codes "TREE"))) (new_rule (codes "TRACE"))
 
 -- `script TREE SCRIPT [--visits FILE]`
 abbrev pub script_words : App
@@ -109,9 +105,7 @@ pub data Task : Type 0 where
 
 -- whether a run is recorded: a file is named for its record or for its visits
 abbrev pub is_recorded : Option Text → Option Text → Bool
-is_recorded None None = false
-is_recorded None (Some visits) = true
-is_recorded (Some record_file) visits = true
+is_recorded record_file visits = is_some record_file || is_some visits
 
 -- the path that stands for standard input, and for standard output as the path of visits
 abbrev pub dash : Text
@@ -126,13 +120,11 @@ reads_input (over tree input job) = bytes_eq tree dash || bytes_eq input dash
 
 -- whether visits go to standard output, where they follow the answer
 abbrev pub visits_follow : Option Text → Bool
-visits_follow None = false
-visits_follow (Some path) = bytes_eq path dash
+visits_follow visits = option_map_or (λ path. bytes_eq path dash) visits false
 
 -- whether visits go to a file
 abbrev pub go_to_file : Option Text → Bool
-go_to_file None = false
-go_to_file (Some path) = not (bytes_eq path dash)
+go_to_file visits = option_map_or (λ path. not (bytes_eq path dash)) visits false
 
 -- whether some work writes a file
 abbrev pub writes_file : Work → Bool
@@ -143,17 +135,13 @@ writes_file (live step limit record_file visits) = is_some record_file || go_to_
 
 -- whether all that some work writes goes to standard output: no file is written, and no record made
 abbrev pub writes_output_alone : Work → Bool
-writes_output_alone lint_trace = true
-writes_output_alone (script visits) = not (go_to_file visits)
-writes_output_alone (run step limit visits) = not (go_to_file visits)
 writes_output_alone (live step limit record_file visits) = false
+writes_output_alone job = not (writes_file job)
 
 -- whether all that a task writes goes to standard output
 abbrev pub answers_alone : Task → Bool
-answers_alone builtin = true
-answers_alone (check tree) = true
-answers_alone (lint tree) = true
 answers_alone (over tree input job) = writes_output_alone job
+answers_alone task = true
 
 -- a file that is to be written has another path than these
 abbrev pub IsApartFrom : Text → List Text → Type 0
@@ -173,17 +161,13 @@ WritesApart (live step limit (Some record_file) visits) inputs = IsApartFrom rec
 
 -- At most one input of a task is standard input, and no file that it writes has the path of another of its files.
 abbrev pub AreApart : Task → Type 0
-AreApart builtin = ⊤
-AreApart (check tree) = ⊤
-AreApart (lint tree) = ⊤
 AreApart (over tree input job) = (tree ≡ dash → input ≢ dash) × WritesApart job (tree ∷ input ∷ [])
+AreApart task = ⊤
 
 -- A task may be one whose files are not apart: it writes a file, or both its inputs are standard input.
 abbrev pub MayClash : Task → Type 0
-MayClash builtin = ⊥
-MayClash (check tree) = ⊥
-MayClash (lint tree) = ⊥
 MayClash (over tree input job) = ((tree ≡ dash) × (input ≡ dash)) ⊎ (writes_file job ≡ true)
+MayClash task = ⊥
 
 -- whether these are the digits of a number of 32 bits
 abbrev pub is_number : Text → Bool
@@ -225,8 +209,7 @@ task (Over tree input job) = over tree.now input.now (work job)
 
 -- what `lint` asks for: the warnings of a tree, or those of a tree and a trace if one is named
 abbrev pub lint_task : Text → Option Text → Task
-lint_task tree None = lint tree
-lint_task tree (Some trace) = over tree trace lint_trace
+lint_task tree trace = option_map_or (λ path. over tree path lint_trace) trace (lint tree)
 
 -- what a command asks for, by its name and what was found of its words
 abbrev pub task_by : Text → List Row → Task
@@ -238,23 +221,14 @@ task_by name rows =
     else if bytes_eq name (codes "live") then over (path_of rows (codes "TREE")) (path_of rows (codes "TRACE")) (live (number_of rows (codes "step") MAX_STEP) (number_of rows (codes "limit") MAX_LIMIT) (first_of (codes "record") rows) (first_of (codes "visits") rows))
     else builtin
 
--- what the words ask for by their command, if they have one
-abbrev pub task_of : Option (Text × List Row) → Task
-task_of None = builtin
-task_of (Some found) = task_by found.0 found.1
-
--- what the words ask for
+-- what the words ask for, by their command if they have one
 abbrev pub task_in : List Text → Task
-task_in words = task_of (subcommand_of program_words words)
+task_in words = option_map_or (λ (found : Text × List Row). task_by found.0 found.1) (subcommand_of program_words words) builtin
 
 -- whether the words of the program or of a command have `--explain`
 abbrev pub explains : List Row → Bool
 explains rows = option_map_or (λ value. bytes_eq value (codes "true")) (first_of (codes "explain") rows) false
 
--- whether those of the command have it, if there is a command
-abbrev pub explains_below : Option (Text × List Row) → Bool
-explains_below found = option_map_or (λ command. explains command.1) found false
-
--- whether a fault is to be explained
+-- whether a fault is to be explained: the words before the command or those of the command say so
 abbrev pub is_explained : List Text → Bool
-is_explained words = explains (matches_of program_words words) || explains_below (subcommand_of program_words words)
+is_explained words = explains (matches_of program_words words) || option_map_or (λ (found : Text × List Row). explains found.1) (subcommand_of program_words words) false

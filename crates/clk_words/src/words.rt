@@ -5,10 +5,11 @@ ghost use Rattle.std.specs.String.{string_bytes};
 ghost use Rattle.clap.specs.Faults.{fault_of};
 ghost use Rattle.clap.specs.Kinds.{FailsBy};
 ghost use Rattle.clap.specs.Matches.{found_of};
-ghost use Rattle.clap.specs.Simple.{subcommand_rows_of};
+ghost use Rattle.clap.specs.Simple.{subcommand_rows_of, new_rule};
 ghost use Rattle.clap.specs.Walk.{first_of, rows_of};
 ghost use Rattle.clk_gate.specs.declared.limits.TheConstants.{MAX_STEP, MAX_LIMIT};
-ghost use Rattle.clk_words.specs.Words.{file_word, file_option, flag_option, optional_word, number_option, titled_words, explains, explains_below, is_explained, top_words, check_words, lint_task, lint_words, script_words, traced_words, run_words, live_words, program_words, number_of, path_of, within_one_and, task, task_of, text_of, task_in, Reads, IsWord};
+ghost use Rattle.clk_words.specs.Words.{file_word, file_option, flag_option, number_option, titled_words, explains, is_explained, top_words, check_words, lint_task, lint_words, script_words, traced_words, run_words, live_words, program_words, number_of, path_of, within_one_and, task, text_of, task_in, Reads, IsWord};
+ghost use Rattle.clk_words.specs.inside.Found.{task_of, explains_below};
 
 use crate::pace::Pace;
 use clap::{Arg, ArgAction, ArgMatches, Command, Error, value_parser};
@@ -498,7 +499,7 @@ fn file<'a>(alloc: Global, name: &'a str, help: &'a str) -> Arg<'a>
 
 /// A word that names a file, and may be left out.
 fn optional_file<'a>(alloc: Global, name: &'a str, help: &'a str) -> Arg<'a>
-    ensures { IsWord result (optional_word name.now) }
+    ensures { IsWord result (new_rule name.now) }
 {
     Arg::new(alloc, name).help(help)
 }

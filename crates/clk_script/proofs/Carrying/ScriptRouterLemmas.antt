@@ -1,5 +1,6 @@
 -- How the router of a script goes on, and what it can do next.
 use Rattle.std.proofs.Common.{◌≡◌, ℕ, ◌+◌, ◌<◌, ◌≤◌, ◌==◌, Bool, true, false, List, [], ◌∷◌, ◌++◌, length, map, filter, max, fold, append-nil, Option, Some, None, refl, sym, ap, ap₂, ◌∙◌, subst, arith, rules}
+use Rattle.std.specs.Option.{option_map_or}
 use Rattle.std.specs.List.{flat_map, filter_map, range_with_len, AllByRecursion}
 use Rattle.std.proofs.lemmas.List.{length-map}
 use Rattle.std.proofs.lemmas.List.Concat.{flat_map-append}
@@ -20,7 +21,7 @@ use Rattle.clk_router.specs.Events.{Setup, sender_numbers, Event, offered, pulle
 use Rattle.clk_router.proofs.Callers.Events.{pulls-elsewhere, pulls-add_none}
 use Rattle.clk_script.specs.declared.script_router.ScriptRouter.{ScriptRouter}
 use Rattle.clk_script.specs.declared.limits.TheConstants.{MAX_LINES, MAX_MOMENT}
-use Rattle.clk_script.specs.Meaning.{has_several, command_of, given_text, closing_text}
+use Rattle.clk_script.specs.Meaning.{has_several, command_of, pull_text, closing_text}
 use Rattle.clk_script.specs.inside.ScriptRouter.{evicted_kept, AreAlike, IsAt, IsReadable, IsReady, LeadsOnByPull, departure_text, LeadsOnByDrain, StaysElsewhere}
 use Rattle.clk_script.proofs.Texts.LengthLemmas.{length-filter-le, length-filter_map-le}
 
@@ -57,7 +58,7 @@ LeadsOnByPull-pulled setup events old new d moment got at pull can few counted e
 
 -- what came out in closing pulls writes what these pulls do
 module _ (several : Bool) (d : ℕ) where
-  one-line : (t : ℕ) (got : Option Packet) → given_text several d t got ≡ flat_map (departure_text several d) (departure_at t got)
+  one-line : (t : ℕ) (got : Option Packet) → option_map_or (λ (p : Packet). pull_text several d t got) got [] ≡ flat_map (departure_text several d) (departure_at t got)
   one-line t None = refl
   one-line t (Some p) = sym (append-nil (departure_text several d (record { moment = t; packet = p })))
 

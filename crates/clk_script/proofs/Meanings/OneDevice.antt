@@ -1,6 +1,7 @@
 -- Over one device the meaning of a script is that without numbers of devices.
 use Rattle.std.proofs.Common.{◌≡◌, ℕ, ◌+◌, ◌<◌, ◌==◌, ◌&&◌, zero, suc, nat_lt, true, false, List, [], ◌∷◌, ◌++◌, length, map, Option, Some, None, MatchOption, slice_get, append-nil, refl, sym, ap, ap₂, ◌∙◌, subst, arith, rules}
 use Rattle.std.specs.Bool.{⊤}
+use Rattle.std.specs.Option.{option_map_or}
 use Rattle.std.specs.List.{flat_map, range_with_len, AllByRecursion, list_any}
 use Rattle.std.proofs.lemmas.Bool.Decides.{nat_tests}
 use Rattle.clk_packet.specs.declared.packet.Packet.{Packet}
@@ -15,9 +16,9 @@ use Rattle.clk_tree.specs.PlanParts.{number_of}
 use Rattle.clk_report.specs.Report.{report_text}
 use Rattle.clk_script.specs.Script.{closing_moment}
 use Rattle.clk_router.specs.Events.{Room, Setup, sender_numbers, is_of_device, Event, offered, pulled, happens_at, events_at, log_of, logs_of, tally_after, answers_in, at_queue, history, IsOfDevice, IsOfSender, RunsTree, CanHappen, pulls_from, Closes}
-use Rattle.clk_script.specs.Meaning.{names_of, has_several, command_of, event_text, given_text, closing_text, CloseFirst, IsClosed, ending_text, IsMeaning}
+use Rattle.clk_script.specs.Meaning.{names_of, has_several, command_of, event_text, pull_text, closing_text, CloseFirst, IsClosed, ending_text, IsMeaning}
 use Rattle.clk_script.specs.inside.ScriptRouter.{IsSound}
-use Rattle.clk_script.specs.OneDevice.{HasOneDevice, its_history, CanHappenAlone, event_line, given_line, closing_line, IsClosedAlone, ending_alone, IsMeaningAlone}
+use Rattle.clk_script.specs.OneDevice.{HasOneDevice, its_history, CanHappenAlone, pull_line, event_line, closing_line, IsClosedAlone, ending_alone, IsMeaningAlone}
 use Rattle.clk_router.proofs.Callers.Events.{all-join}
 use Rattle.clk_script.proofs.Meanings.ScriptLemmas.{each-command-sound}
 
@@ -121,7 +122,7 @@ module _ (setup : Setup) (tree : Tree) (one : HasOneDevice setup tree) where
   events-written (offered p outcome ∷ events) = ap (λ l. event_line (offered p outcome) ++ l) (events-written events)
   events-written (pulled device moment visits ∷ events) = ap (λ l. event_line (pulled device moment visits) ++ l) (events-written events)
 
-  given-written : (device moment : ℕ) (got : Option Packet) → given_text false device moment got ≡ given_line moment got
+  given-written : (device moment : ℕ) (got : Option Packet) → option_map_or (λ (p : Packet). pull_text false device moment got) got [] ≡ option_map_or (λ (p : Packet). pull_line moment got) got []
   given-written device moment None = refl
   given-written device moment (Some p) = refl
 

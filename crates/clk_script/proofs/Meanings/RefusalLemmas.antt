@@ -17,7 +17,7 @@ use Rattle.clk_tree.specs.Shares.{AreTreesOf}
 use Rattle.clk_tree.specs.declared.plan.parts.SenderSpec.{SenderSpec}
 use Rattle.clk_script.specs.declared.script.Command.{Command}
 use Rattle.clk_script.specs.declared.script.ScriptLine.{ScriptLine}
-use Rattle.clk_script.specs.Script.{Names, command_fault, line_fault, fault_at, is_drain, first_fault, script_fault, commands_of, closing_moment}
+use Rattle.clk_script.specs.Script.{Names, command_fault, line_fault, fault_at, first_fault, script_fault, commands_of, closing_moment}
 use Rattle.clk_script.specs.declared.limits.TheConstants.{MAX_LINES, MAX_SCRIPT_BYTES}
 use Rattle.clk_packet.specs.Bytes.{read_failures, write_failures, OfBytes}
 use Rattle.clk_router.specs.Course.{Course, IsOpened}
@@ -25,6 +25,7 @@ use Rattle.clk_router.specs.Events.{Setup, plan_setup}
 use Rattle.clk_script.specs.Meaning.{names_of, names_over, Writes, MeansWith, MeansOverWith, Explains}
 use Rattle.clk_script.specs.declared.answer.Answer.{Answer}
 use Rattle.clk_script.specs.declared.reading.Script.{Script}
+use Rattle.clk_script.specs.inside.Numbered.{is_drain}
 use Rattle.clk_script.specs.inside.Rows.{asked_by, Answers}
 use Rattle.clk_script.specs.inside.Replay.{IsAnswerOver}
 use Rattle.clk_script.specs.declared.script_router.ScriptRouter.{ScriptRouter}

@@ -7,8 +7,8 @@ use Rattle.std.specs.Str.Lines.{lines}
 use Rattle.clk_packet.specs.declared.limits.TheConstants.{MAX_LENGTH}
 use Rattle.clk_script.specs.declared.script.ScriptLine.{ScriptLine}
 use Rattle.clk_packet.specs.Numbers.{has_bytes, number_in}
-use Rattle.clk_script.specs.Script.{Names, sender_and_length, moment_and_device, only_moment, line_of_fields, line_of, fields, line_fault, fault_at, is_drain, first_fault, lines_of, script_fault, command_in, commands_of}
-use Rattle.clk_script.specs.inside.Numbered.{send_of, pull_of, drain_of}
+use Rattle.clk_script.specs.Script.{Names, sender_and_length, moment_and_device, only_moment, line_of_fields, line_of, fields, line_fault, fault_at, first_fault, lines_of, script_fault, command_in, commands_of}
+use Rattle.clk_script.specs.inside.Numbered.{is_drain, send_of, pull_of, drain_of}
 use Rattle.clk_script.specs.declared.limits.TheConstants.{MAX_MOMENT}
 use Rattle.clk_script.specs.inside.ScriptRouter.{IsReadableLine, IsSound}
 

@@ -9,8 +9,8 @@ use Rattle.clk_router.specs.Events.{Setup, Event, offered, pulled, moment_in}
 use Rattle.clk_script.specs.declared.script.Command.{Command}
 use Rattle.clk_script.specs.declared.script.Command.TheVariants.{Send, Pull}
 use Rattle.clk_script.specs.declared.script.ScriptLine.{ScriptLine}
-use Rattle.clk_script.specs.Script.{Names, line_fault, is_drain, first_fault, lines_of, script_fault}
-use Rattle.clk_script.specs.inside.Numbered.{send_of, pull_of, drain_of}
+use Rattle.clk_script.specs.Script.{Names, line_fault, first_fault, lines_of, script_fault}
+use Rattle.clk_script.specs.inside.Numbered.{is_drain, send_of, pull_of, drain_of}
 use Rattle.clk_script.specs.declared.limits.TheConstants.{MAX_LINES, MAX_MOMENT, MAX_DEVICE}
 use Rattle.clk_script.specs.Meaning.{names_of, command_of}
 use Rattle.clk_script.specs.Record.{record_text, drain_count, IsSmall, FitsNames, OnlyFittingRecordsMean}

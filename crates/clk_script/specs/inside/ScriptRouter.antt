@@ -20,7 +20,7 @@ use Rattle.clk_script.specs.declared.script.ScriptLine.{ScriptLine}
 use Rattle.clk_script.specs.declared.script.ScriptLine.TheVariants as line
 use Rattle.clk_script.specs.Script.{Names}
 use Rattle.clk_script.specs.declared.limits.TheConstants.{MAX_LINES, MAX_MOMENT}
-use Rattle.clk_script.specs.Meaning.{names_of, command_of, has_several, given_text, closing_text, CloseFirst}
+use Rattle.clk_script.specs.Meaning.{names_of, command_of, has_several, pull_text, closing_text, CloseFirst}
 
 -- some sender's account stands at this place
 abbrev pub IsPlace : List Account → ℕ → Type 0
@@ -100,7 +100,7 @@ evicted_kept outcome fronts = fronts
 
 -- the line of a packet that a device emitted in its drain
 abbrev pub departure_text : Bool → ℕ → Departure → List ℕ
-departure_text several device departure = given_text several device departure.moment (Some departure.packet)
+departure_text several device departure = pull_text several device departure.moment (Some departure.packet)
 
 -- A drain of a device from a moment on led on from these events, and emitted these packets.
 pub record LeadsOnByDrain (setup : Setup) (new : ScriptRouter) (device moment : ℕ) (events : List Event) (departures : List Departure) : Type 0 where

@@ -6,4 +6,4 @@ use Rattle.clk_command.proofs.over.live_over.Goals as goal
 pub returns-then-failed-clause-wrote : goal.returns-then-failed-clause-wrote
 returns-then-failed-clause-wrote g c =
     let h = c.in_ok-sink.ensures.wrote.whole in
-    wrote-front _ _ _ _ h.0 refl (h.1.0, record { plan = _; is_plan = c.in_ok-plan.ensures.plan; writes = h.1.1 }, tt) (front-whole _ _ _ h.2)
+    wrote-front _ _ _ _ h.0 refl (h.1.0, (_, c.in_ok-plan.ensures.plan, h.1.1), tt) (front-whole _ _ _ h.2)

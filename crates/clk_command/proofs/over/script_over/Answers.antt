@@ -2,4 +2,4 @@ use Rattle.clk_packet.proofs.Callers.Written.{wrote-last}
 use Rattle.clk_command.proofs.over.script_over.Goals as goal
 
 pub returns-clause-wrote : goal.returns-clause-wrote
-returns-clause-wrote g c = wrote-last _ _ _ _ _ (λ text means. record { plan = _; is_plan = c.in_ok-plan.ensures.plan; means = means }) c.run_script.ensures.wrote
+returns-clause-wrote g c = wrote-last _ _ _ _ _ (λ text means. (_, c.in_ok-plan.ensures.plan, means)) c.run_script.ensures.wrote

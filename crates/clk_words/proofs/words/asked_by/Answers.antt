@@ -4,7 +4,8 @@ use Rattle.std.specs.String.{string_bytes}
 use Rattle.clap.specs.Faults.{fault_of, is_simple_and_free}
 use Rattle.clap.specs.Kinds.{HasKind}
 use Rattle.clap.specs.Simple.{App, is_simple, matches_of, subcommand_of}
-use Rattle.clk_words.specs.Words.{explains, explains_below, program_words, task_of}
+use Rattle.clk_words.specs.Words.{explains, program_words}
+use Rattle.clk_words.specs.inside.Found.{explains_below, task_of}
 use Rattle.clk_words.proofs.words.asked_by.Goals as goal
 
 is-free : is_simple_and_free program_words ≡ true

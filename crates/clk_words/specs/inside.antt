@@ -1,0 +1,2 @@
+-- What the functions that read words say to one another.
+pub mod Found
