@@ -87,7 +87,7 @@ def heap(archive: Path, target: Target, folder: Path) -> list[Path]:
     toolchain = kit()
     path = toolchain / "c" / "liblibc_c.a" if toolchain else None
     if path is None or not path.exists():
-        raise Unmade(f"{archive} lacks the toolchain's heap, and liblibc_c.a isn't there, beside rt on the PATH")
+        raise Unmade(f"{archive} lacks the toolchain's heap: put `rt` on the PATH, with its toolchain")
     return list(members(path, folder))
 
 
