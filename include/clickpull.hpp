@@ -311,16 +311,21 @@ public:
     }
 
     // How many devices there are. They are numbered from 0 as they are declared.
-    std::size_t devices() const noexcept { return clk_devices(router_.c()); }
+    std::size_t devices() const {
+        need_open();
+        return clk_devices(router_.c());
+    }
 
     // The account of each sender, by rising numbers of senders.
     std::vector<Account> accounts() const {
+        need_open();
         return detail::all_of<Account>(clk_senders(router_.c()),
                                        [&](std::size_t place, Account *it) { return clk_account_at(router_.c(), place, it); });
     }
 
     // The name of each sender's element in the tree, by rising numbers of senders.
     std::vector<std::string> sender_names() const {
+        need_open();
         std::vector<std::string> names(clk_senders(router_.c()));
         for (std::size_t place = 0; place < names.size(); place++) {
             std::size_t needed = 0;
@@ -333,6 +338,7 @@ public:
 
     // The queues, by number: in order of declaration.
     std::vector<Queue> queues() const {
+        need_open();
         return detail::all_of<Queue>(clk_queues(router_.c()), [&](std::size_t number, Queue *it) {
             return clk_queue_at(router_.c(), static_cast<std::uint16_t>(number), it);
         });
@@ -342,6 +348,12 @@ public:
     clk_router *c() noexcept { return router_.c(); }
 
 private:
+    // Throws CLK_SHUT if the router is shut: the library's counts are 0 then, and have no status.
+    void need_open() const {
+        if (!is_open())
+            throw Error(CLK_SHUT);
+    }
+
     detail::Owned<clk_router> router_;
 };
 

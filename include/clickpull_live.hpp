@@ -264,8 +264,9 @@ public:
     bool drained() const { return !detail::is_none(clk_live_drained(live_.c())); }
 
     // Gives the router up, and hands the values of the packets inside to `each`: queue by queue, and the packet first that would have been
-    // emitted first. Returns how many it handed. Other calls throw CLK_RECLAIMED from then on. Values that wait in the inlets are not among
-    // them: close these and take before. If `each` throws, the next call goes on.
+    // emitted first. Returns how many it handed. Other calls throw CLK_RECLAIMED from then on, but a take first hands what an exception left
+    // over of an earlier one. Values that wait in the inlets are not among them: close these and take before. If `each` throws, the next call
+    // goes on.
     template <class Each> std::size_t reclaim(Each &&each) {
         for (std::size_t handed = 0;; handed++) {
             std::uint64_t token = 0;
@@ -299,16 +300,21 @@ public:
     }
 
     // How many devices there are. They are numbered from 0 as they are declared.
-    std::size_t devices() const noexcept { return clk_live_devices(live_.c()); }
+    std::size_t devices() const {
+        need_usable();
+        return clk_live_devices(live_.c());
+    }
 
     // The account of each sender's packets that were taken, by rising numbers of senders.
     std::vector<Account> accounts() const {
+        need_usable();
         return detail::all_of<Account>(clk_live_senders(live_.c()),
                                        [&](std::size_t place, Account *it) { return clk_live_account_at(live_.c(), place, it); });
     }
 
     // The queues, by number: in order of declaration.
     std::vector<Queue> queues() const {
+        need_usable();
         return detail::all_of<Queue>(clk_live_queues(live_.c()), [&](std::size_t number, Queue *it) {
             return clk_live_queue_at(live_.c(), static_cast<std::uint16_t>(number), it);
         });
@@ -330,6 +336,9 @@ private:
     // and at most 64 schedulers are on a path (docs/FORMATS.md). Of at most CLK_MOST_TAKEN packets the value is still to be handed to the
     // caller by a take, and of one by a pull.
     static constexpr std::size_t MOST_BETWEEN = 64 + CLK_MOST_TAKEN + 1;
+
+    // Throws CLK_SHUT or CLK_RECLAIMED if the router is shut or was given up: the library's counts are 0 then, and have no status.
+    void need_usable() const { detail::is_none(clk_live_drained(live_.c())); }
 
     // Hands to `each` what `fill(taken, most, &given)` takes, or first what an exception left over of the latest take.
     template <class Each, class Fill> std::size_t take_by(std::size_t count, Each &each, Fill fill) {

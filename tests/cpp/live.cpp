@@ -83,6 +83,18 @@ static void lengths_are_those_of_the_library() {
     }
 }
 
+// Each call that asks for something throws this, and none takes the router for one that has nothing.
+static void asking_throws(clk_status status, const LiveRouter<Counted> &live) {
+    CHECK(thrown_by([&] { live.ended(); }) == status);
+    CHECK(thrown_by([&] { live.drained(); }) == status);
+    CHECK(thrown_by([&] { live.moment(0); }) == status);
+    CHECK(thrown_by([&] { live.due(0); }) == status);
+    CHECK(thrown_by([&] { live.left(0); }) == status);
+    CHECK(thrown_by([&] { live.devices(); }) == status);
+    CHECK(thrown_by([&] { live.accounts(); }) == status);
+    CHECK(thrown_by([&] { live.queues(); }) == status);
+}
+
 static void both_halves_move() {
     const NoneLeft none;
     LiveRouter<Counted> one(ONE, 2);
@@ -94,7 +106,7 @@ static void both_halves_move() {
     CHECK(thrown_by([&] { (void)inlet.offer(1, Counted(9)); }) == CLK_SHUT);
     CHECK(thrown_by([&] { one.take_in(1, 1, ignore); }) == CLK_SHUT);
     CHECK(thrown_by([&] { (void)one.inlet(4); }) == CLK_SHUT);
-    CHECK(one.accounts().empty() && one.queues().empty() && one.devices() == 0);
+    asking_throws(CLK_SHUT, one);
     offer(moved, 2);
     CHECK(live.take_in(2, 64, ignore) == 2);
     LiveRouter<Counted> third(ONE, 1);
@@ -113,6 +125,8 @@ static void both_halves_move() {
     moved = LiveRouter<Counted>(ONE, 1).inlet(4);
     third.take_in(1, 1, ignore);
     CHECK(third.ended());
+    third.shut();
+    asking_throws(CLK_SHUT, third);
 }
 
 // The packets that were taken and not yet told when a caller throws are told by the next take.
@@ -361,9 +375,30 @@ static void a_router_is_given_up() {
         CHECK(false);
     } catch (int) {
         CHECK(thrown_by([&] { (void)live.pull(0, 0); }) == CLK_RECLAIMED);
+        CHECK(thrown_by([&] { live.take_in(1, 1, ignore); }) == CLK_RECLAIMED);
+        CHECK(thrown_by([&] { (void)live.inlet(0); }) == CLK_RECLAIMED);
+        asking_throws(CLK_RECLAIMED, live);
     }
     CHECK(live.reclaim([&](auto it) { came.push_back(it.number()); }) == 1);
     CHECK((came == std::vector<std::uint64_t>{0, 1, 10}) && Counted::values == 1);
+}
+
+// What an exception left over of a take is handed also after the router was given up.
+static void a_take_left_over_outlives_the_router() {
+    const NoneLeft none;
+    LiveRouter<Counted> live(ONE, 4);
+    Inlet<Counted> inlet = live.inlet(4);
+    for (std::uint64_t i = 0; i < 4; i++)
+        offer(inlet, i);
+    try {
+        live.take(4, 4, [](const auto &) { throw 7; });
+        CHECK(false);
+    } catch (int) {
+        CHECK(live.reclaim([](const auto &) {}) == 2);
+    }
+    std::uint64_t refused = 0;
+    CHECK(live.take(4, 4, [&](auto it) { refused += it.refused ? it.refused->number() : 0; }) == 3 && refused == 2 + 3);
+    CHECK(thrown_by([&] { live.take(4, 4, ignore); }) == CLK_RECLAIMED);
 }
 
 // Values of other kinds: moved alone, copied, and with an alignment of their own.
@@ -403,5 +438,6 @@ void test_live() {
     what_is_closed_has_left();
     the_router_is_destroyed_first();
     a_router_is_given_up();
+    a_take_left_over_outlives_the_router();
     any_value_that_moves_travels();
 }

@@ -102,13 +102,24 @@ static void what_cannot_be_is_thrown() {
     CHECK(thrown_by([&] { (void)router.pull_many(0, 0, nullptr, 1); }) == CLK_NULL);
 }
 
+// No call that asks for something takes a shut router for one that has nothing.
+static void a_shut_router_is_told(const Router &router) {
+    CHECK(thrown_by([&] { router.moment(0); }) == CLK_SHUT);
+    CHECK(thrown_by([&] { router.due(0); }) == CLK_SHUT);
+    CHECK(thrown_by([&] { router.left(0); }) == CLK_SHUT);
+    CHECK(thrown_by([&] { router.devices(); }) == CLK_SHUT);
+    CHECK(thrown_by([&] { router.accounts(); }) == CLK_SHUT);
+    CHECK(thrown_by([&] { router.sender_names(); }) == CLK_SHUT);
+    CHECK(thrown_by([&] { router.queues(); }) == CLK_SHUT);
+}
+
 static void a_router_moves() {
     Router one(ONE);
     CHECK(one.offer(4, 9).accepted);
     Router other(std::move(one));
     CHECK(!one.is_open() && other.is_open());
     CHECK(thrown_by([&] { (void)one.offer(4, 1); }) == CLK_SHUT);
-    CHECK(one.devices() == 0 && one.accounts().empty() && one.sender_names().empty() && one.queues().empty());
+    a_shut_router_is_told(one);
     Router third("a :: Sender(1); q :: Queue; d :: ToDevice(link); a -> q -> d;");
     third = std::move(other);
     CHECK(third.left(0) == 1 && !other.is_open());
@@ -117,7 +128,7 @@ static void a_router_moves() {
     CHECK(third.left(0) == 1);
     third.shut();
     third.shut();
-    CHECK(thrown_by([&] { third.left(0); }) == CLK_SHUT);
+    a_shut_router_is_told(third);
 }
 
 static void a_router_tells_what_there_is() {
