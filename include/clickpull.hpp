@@ -67,12 +67,12 @@ public:
     TextFault(clk_fault fault, std::string_view text)
         : TextFault(fault, place_in(text.substr(0, fault.offset)), std::make_shared<const std::string>(explained(fault, text))) {}
 
-    // Its number, name and place, in bytes from 0, as in docs/FORMATS.md.
+    // Its number and name, as in docs/FORMATS.md, and its place, in bytes from 0. A fault without a place, NoDevice or TooLarge, has offset 0.
     std::uint32_t number() const noexcept { return fault_.number; }
     const char *name() const noexcept { return clk_fault_name(fault_.number); }
     std::uint32_t offset() const noexcept { return fault_.offset; }
 
-    // The same place by line and column, both from 1; columns are bytes.
+    // Its place by line and column, both from 1; columns are bytes. Both are 1 for a fault without a place.
     std::size_t line() const noexcept { return place_.line; }
     std::size_t column() const noexcept { return place_.column; }
 
@@ -102,8 +102,10 @@ private:
     }
 
     static std::string message(clk_fault fault, Place place) {
-        return "fault " + std::to_string(fault.number) + ": " + clk_fault_name(fault.number) + " at line " + std::to_string(place.line) +
-               ", column " + std::to_string(place.column);
+        const std::string named = "fault " + std::to_string(fault.number) + ": " + clk_fault_name(fault.number);
+        if (fault.number == 1 || fault.number == 11 || fault.number == 18)
+            return named; // these have no place
+        return named + " at line " + std::to_string(place.line) + ", column " + std::to_string(place.column);
     }
 
     clk_fault fault_;

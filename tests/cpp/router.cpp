@@ -2,6 +2,7 @@
 #include "check.hpp"
 
 #include <cstring>
+#include <string>
 
 using clickpull::Departure;
 using clickpull::Packet;
@@ -25,6 +26,26 @@ static void a_fault_is_thrown() {
         CHECK(it.explanation().find("2:6: there is no class 'Heap'\n    q :: Heap(3);\n         ^\nexpected Sender, ") == 0);
         CHECK(it.explanation().back() == '\n');
     }
+}
+
+static void a_fault_without_a_place_is_thrown() {
+    try {
+        Router router("");
+        CHECK(false);
+    } catch (const TextFault &it) {
+        CHECK(it.number() == 11 && it.offset() == 0 && it.line() == 1 && it.column() == 1);
+        CHECK(std::strcmp(it.what(), "fault 11: NoDevice") == 0);
+    }
+}
+
+// A message has a place if the explanation begins with one.
+static void faults_have_the_places_of_their_explanations() {
+    for (std::uint32_t number = 0; number < 32; number++)
+        if (*clk_fault_name(number) != '\0') {
+            const TextFault it({number, 0}, "");
+            const bool has_place = it.explanation().find("1:1: ") == 0;
+            CHECK((std::string(it.what()).find(" at line 1, column 1") != std::string::npos) == has_place);
+        }
 }
 
 static void packets_are_offered_and_pulled() {
@@ -145,6 +166,8 @@ static void a_router_tells_what_there_is() {
 
 void test_router() {
     a_fault_is_thrown();
+    a_fault_without_a_place_is_thrown();
+    faults_have_the_places_of_their_explanations();
     packets_are_offered_and_pulled();
     a_full_queue_refuses();
     bursts_go_together();
