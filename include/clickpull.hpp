@@ -20,6 +20,10 @@
 #ifndef CLICKPULL_HPP
 #define CLICKPULL_HPP
 
+#if __cplusplus < 201703L
+#error "clickpull.hpp needs C++17 or a later C++: compile with -std=c++17 or above"
+#endif
+
 #include "clickpull.h"
 
 #include <algorithm>
