@@ -78,7 +78,7 @@ fn live_in_bursts() {
     measure("live router, in bursts", || {
         for inlet in &mut inlets {
             let mut packets = (0..BURST as u64 / 2).map(|it| (1000, it));
-            black_box(inlet.offer_many(&mut packets).is_ok());
+            black_box(inlet.offer_many(&mut packets).1.is_ok());
         }
         black_box(router.take_in(BURST, BURST)).for_each(drop);
         let mut left = BURST;

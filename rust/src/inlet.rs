@@ -6,7 +6,7 @@ use crate::error::{Error, Rejected};
 use crate::ffi;
 use crate::layout::Item;
 
-/// How many packets are offered at once. The router's thread sees packets in groups of at most so many.
+/// How many packets one call of the C library offers at most.
 const MOST_OFFERED: usize = 64;
 
 /// The way of one sender's packets to a [`LiveRouter`](crate::LiveRouter): a ring with room for a fixed number of packets.
@@ -67,39 +67,50 @@ impl<T> Inlet<T> {
         Ok(number)
     }
 
-    /// Offers packets in order, each a length and a value, while the inlet has room. It asks `packets` for none that there is no room for.
-    /// Returns how many were accepted. One call of the C library offers up to 64 of them.
+    /// Offers packets in order, each a length and a value, up to the first that can't be offered, while the inlet has room. A packet that there
+    /// is no room for stays in `packets`. One call of the C library offers up to 64 of them.
+    ///
+    /// Returns how many were accepted. Also returns why the next packet can't be offered, with its value.
     ///
     /// ```
-    /// use clickpull::LiveRouter;
+    /// use clickpull::{Error, LiveRouter};
     ///
-    /// let mut router = LiveRouter::open("a :: Sender(0); q :: Queue(4); d :: ToDevice(eth0); a -> q -> d;", 2)?;
+    /// let mut router = LiveRouter::open("a :: Sender(0); q :: Queue(4); d :: ToDevice(eth0); a -> q -> d;", 3)?;
     /// let mut inlet = router.inlet(0)?;
-    /// let mut packets = ["first", "second", "third"].into_iter().map(|it| (1500, it));
-    /// assert_eq!(inlet.offer_many(&mut packets).unwrap(), 2);
-    /// assert_eq!(packets.next(), Some((1500, "third")));
-    /// # Ok::<(), clickpull::Error>(())
+    /// let (accepted, end) = inlet.offer_many(&mut [(1500, "first"), (0, "of no length")].into_iter());
+    /// assert_eq!(accepted, 1);
+    /// assert_eq!(end.unwrap_err().error, Error::BadLength);
+    ///
+    /// let mut packets = ["second", "third", "fourth"].into_iter().map(|it| (1500, it));
+    /// assert_eq!(inlet.offer_many(&mut packets), (2, Ok(())));
+    /// assert_eq!(packets.next(), Some((1500, "fourth")));
+    /// # Ok::<(), Error>(())
     /// ```
     ///
     /// # Errors
     ///
-    /// [`Error::BadLength`] with the value of the first packet whose length is not from 1 to 65,535. The packets before it were accepted.
+    /// [`Error::BadLength`] if the length of the next packet is not from 1 to 65,535, or [`Error::AtEnd`] once 4,294,967,295 packets were
+    /// accepted. The packets before it were accepted.
     #[must_use = "a value that is not accepted comes back"]
-    pub fn offer_many(&mut self, packets: &mut impl Iterator<Item = (u32, T)>) -> Result<usize, Rejected<T>> {
+    pub fn offer_many(&mut self, packets: &mut impl Iterator<Item = (u32, T)>) -> (usize, Result<(), Rejected<T>>) {
+        let before = self.accepted;
+        let end = self.offer_each(packets);
+        ((self.accepted - before) as usize, end)
+    }
+
+    /// Offers packets as `offer_many` does, and returns why the next one can't be offered.
+    fn offer_each(&mut self, packets: &mut impl Iterator<Item = (u32, T)>) -> Result<(), Rejected<T>> {
         let mut items = [Item::default(); MOST_OFFERED];
-        let mut accepted = 0;
         loop {
             let mut batch = Batch { items: &mut items, count: 0, inlet: self };
-            let most = batch.inlet.sure().min(MOST_OFFERED);
+            // At the end one more packet is asked for, which is rejected.
+            let most = if batch.inlet.accepted == u32::MAX { 1 } else { batch.inlet.sure().min(MOST_OFFERED) };
             for (length, value) in packets.by_ref().take(most) {
                 batch.items[batch.count] = batch.inlet.item(length, value)?;
                 batch.count += 1;
             }
-            let count = batch.count;
-            drop(batch);
-            accepted += count;
-            if count == 0 || count < most {
-                return Ok(accepted);
+            if batch.count == 0 || batch.count < most {
+                return Ok(());
             }
         }
     }
@@ -172,7 +183,7 @@ impl<T> Drop for Batch<'_, T> {
 #[cfg(test)]
 mod tests {
     use crate::ffi::table;
-    use crate::{Error, LiveRouter};
+    use crate::{Error, LiveRouter, Rejected};
 
     const TREE: &str = "a :: Sender(0); q :: Queue(8); d :: ToDevice(link); a -> q -> d;";
 
@@ -185,10 +196,11 @@ mod tests {
         assert_eq!(inlet.room(), 3);
         inlet.offer(1, 'a').unwrap();
         let mut packets = "bcd".chars().map(|it| (1, it));
-        assert_eq!(inlet.offer_many(&mut packets).unwrap(), 2);
-        assert_eq!(packets.next(), Some((1, 'd')));
-        let rejected = inlet.offer(1, 'e').unwrap_err();
-        assert_eq!((rejected.value, rejected.error), ('e', Error::AtEnd));
+        assert_eq!(inlet.offer_many(&mut packets), (2, Err(Rejected { value: 'd', error: Error::AtEnd })));
+        assert_eq!(inlet.offer(1, 'e'), Err(Rejected { value: 'e', error: Error::AtEnd }));
+        assert_eq!(inlet.offer_many(&mut [(1, 'f')].into_iter()), (0, Err(Rejected { value: 'f', error: Error::AtEnd })));
+        assert_eq!(inlet.offer_many(&mut [(0, 'g')].into_iter()), (0, Err(Rejected { value: 'g', error: Error::BadLength })));
+        assert_eq!(inlet.offer_many(&mut [].into_iter()), (0, Ok(())));
         assert_eq!(inlet.room(), 0);
         assert_eq!(router.take(0, 64).unwrap().len(), 3);
     }
@@ -200,10 +212,9 @@ mod tests {
         let mut inlet = router.inlet(0).unwrap();
         inlet.values = table(2).0;
         inlet.offer(1, 'a').unwrap();
-        let rejected = inlet.offer_many(&mut "bcd".chars().map(|it| (1, it))).unwrap_err();
-        assert_eq!((rejected.value, rejected.error), ('c', Error::Full));
-        let rejected = inlet.offer(1, 'd').unwrap_err();
-        assert_eq!((rejected.value, rejected.error), ('d', Error::Full));
+        let full = |value| Rejected { value, error: Error::Full };
+        assert_eq!(inlet.offer_many(&mut "bcd".chars().map(|it| (1, it))), (1, Err(full('c'))));
+        assert_eq!(inlet.offer(1, 'd'), Err(full('d')));
         assert_eq!(router.take(0, 64).unwrap().len(), 2);
     }
 }

@@ -90,18 +90,19 @@ impl Run {
         let length = |it| if it == bad { 0 } else { 1 + it as u32 };
         let (first, drops) = (self.values, &self.drops);
         let mut packets = (0..MANY).map(|it| (length(it), drops.value(first + it)));
-        let found = inlet.offer_many(&mut packets).map_err(|it| (number(it.value, drops), it.error));
+        let (count, end) = inlet.offer_many(&mut packets);
+        let found = (count, end.map_err(|it| (number(it.value, drops), it.error)));
         self.values += MANY - packets.len();
-        let mut wanted = Ok(0);
+        let mut wanted = (0, Ok(()));
         for it in 0..MANY {
             if self.model.room(at) == 0 {
                 break;
             }
             if let Err(error) = self.model.offer(at, length(it), first + it) {
-                wanted = Err((first + it, error));
+                wanted.1 = Err((first + it, error));
                 break;
             }
-            wanted = wanted.map(|count| count + 1);
+            wanted.0 += 1;
         }
         assert_eq!(found, wanted);
     }
