@@ -88,17 +88,17 @@ impl TextFault {
         NAMES.iter().find(|it| it.0 == self.number).map_or("", |it| it.1)
     }
 
-    /// At which byte of the text it is, from 0. It is 0 for a fault without a place: `NoDevice` and `TooLarge`.
+    /// At which byte of the text it is, from 0. It is 0 for a fault without a place: `NoDevice` or `TooLarge`.
     pub fn offset(&self) -> usize {
         self.offset
     }
 
-    /// At which line it is, from 1.
+    /// At which line it is, from 1. It is 1 for a fault without a place.
     pub fn line(&self) -> usize {
         self.line
     }
 
-    /// At which byte of its line it is, from 1.
+    /// At which byte of its line it is, from 1. It is 1 for a fault without a place.
     pub fn column(&self) -> usize {
         self.column
     }
@@ -111,7 +111,11 @@ impl TextFault {
 
 impl fmt::Display for TextFault {
     fn fmt(&self, f: &mut fmt::Formatter<'_>) -> fmt::Result {
-        write!(f, "fault {}: {} at line {}, column {}", self.number, self.name(), self.line, self.column)
+        write!(f, "fault {}: {}", self.number, self.name())?;
+        if WITHOUT_PLACE.contains(&self.number) {
+            return Ok(());
+        }
+        write!(f, " at line {}, column {}", self.line, self.column)
     }
 }
 
@@ -119,6 +123,9 @@ impl std::error::Error for TextFault {}
 
 /// The fault of a failed allocation.
 pub(crate) const MEMORY: u32 = 1;
+
+/// The faults that have no place in the text. A test compares them with explanations.
+const WITHOUT_PLACE: [u32; 3] = [MEMORY, 11, 18];
 
 /// The names of faults. A test compares them with those of the header.
 pub(crate) const NAMES: [(u32, &str); 13] = [
@@ -159,3 +166,26 @@ impl<T> fmt::Display for Rejected<T> {
 }
 
 impl<T> std::error::Error for Rejected<T> {}
+
+#[cfg(test)]
+mod tests {
+    use super::{TextFault, NAMES};
+    use crate::layout::Fault;
+    use crate::Router;
+
+    #[test]
+    fn a_fault_without_a_place_names_none() {
+        let it = Router::open("").unwrap_err();
+        assert_eq!(it.to_string(), "fault 11: NoDevice");
+    }
+
+    /// A fault has a place if its explanation begins with one.
+    #[test]
+    fn faults_have_the_places_of_their_explanations() {
+        for (number, name) in NAMES {
+            let it = TextFault::new(&Fault { number, offset: 0 }, "");
+            let has_place = it.explanation().starts_with("1:1: ");
+            assert_eq!(it.to_string().ends_with(" at line 1, column 1"), has_place, "{name}");
+        }
+    }
+}
