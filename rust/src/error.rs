@@ -11,7 +11,7 @@ use crate::layout::Fault;
 pub enum Error {
     /// The text makes no router.
     Text(TextFault),
-    /// An allocation failed while a router was opened, or a record grew.
+    /// An allocation of the C library failed while a router was opened, or a record couldn't grow.
     OutOfMemory,
     /// The tree has no sender with this number.
     UnknownSender,

@@ -89,7 +89,8 @@ impl<T> LiveRouter<T> {
     /// # Errors
     ///
     /// [`Error::BadRoom`] if `room` is not from 1 to [`MOST_ROOM`](crate::MOST_ROOM), [`Error::Text`] for the first fault of the text, and
-    /// [`Error::OutOfMemory`] for a failed allocation.
+    /// [`Error::OutOfMemory`] for an allocation of the C library that failed. This crate itself allocates a place for each sender, a buffer for
+    /// takes, and the explanation of a fault. It aborts if one of these allocations fails.
     pub fn open(text: &str, room: u32) -> Result<Self, Error> {
         let raw = ffi::Live::open(text, room)?;
         let line = |place| {

@@ -11,7 +11,8 @@ use crate::values::{Departure, Offer, Offered, Packet};
 /// A router: bounded queues, and a tree of schedulers for each device.
 ///
 /// It takes one call at a time. It may move to another thread, and it is not `Sync`; share it under a lock, or use a
-/// [`LiveRouter`](crate::LiveRouter). Dropping it frees all that it has. No call but [`Router::open`] allocates.
+/// [`LiveRouter`](crate::LiveRouter). Dropping it frees all that it has. No call but [`Router::open`] and
+/// [`Router::sender_names`] allocates.
 ///
 /// ```
 /// use clickpull::{Outcome, Router};
@@ -34,7 +35,8 @@ impl Router {
     ///
     /// # Errors
     ///
-    /// [`Error::Text`] is the first fault of the text, and [`Error::OutOfMemory`] a failed allocation.
+    /// [`Error::Text`] is the first fault of the text, and [`Error::OutOfMemory`] an allocation of the C library that failed. This crate itself
+    /// allocates the explanation of a fault, and aborts if that fails.
     pub fn open(text: &str) -> Result<Self, Error> {
         ffi::Router::open(text).map(|raw| Router { raw })
     }
@@ -123,7 +125,7 @@ impl Router {
         Ok(Drain { router: self, device, progress: Progress::at(moment) })
     }
 
-    /// The name of each sender's element in the tree, by rising numbers of senders.
+    /// The name of each sender's element in the tree, by rising numbers of senders. Each name is allocated as the iterator goes on.
     ///
     /// ```
     /// use clickpull::Router;
