@@ -667,7 +667,8 @@ CLK_MUST_USE CLK_API clk_status clk_inlet_offer(clk_inlet *inlet, uint32_t lengt
 
 /* Offers `count` packets in the order of `items`, up to the first that isn't accepted. `items` has `count` elements, and may be null where
  * that is 0. `done` is how many were accepted: the first `*done` elements of `items`. Their numbers follow one another. One call takes less
- * time than as many calls of clk_inlet_offer. The router's thread sees the packets in groups of at most 64.
+ * time than as many calls of clk_inlet_offer. It publishes the packets that fit at that moment together: the router's thread sees all of
+ * them or none.
  *
  * CLK_OK                                all were accepted.
  * CLK_FULL, CLK_BAD_LENGTH, CLK_AT_END  items[*done] was not accepted, for the reason that clk_inlet_offer has, and none after it was
