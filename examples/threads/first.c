@@ -1,4 +1,5 @@
 /* Two senders on threads of their own, and a router that loses nothing. This is C and no part of what is proved. */
+#define _DEFAULT_SOURCE 1 /* for usleep */
 #include <clickpull.h>
 #include <pthread.h>
 #include <stdio.h>

@@ -1,6 +1,7 @@
 /* Two senders on threads of their own, and a router whose run is recorded: recorded TREE > RECORD
  *
  * `clickpull script TREE RECORD` repeats the run. This is C and no part of what is proved. */
+#define _DEFAULT_SOURCE 1 /* for usleep */
 #include <clickpull.h>
 #include <pthread.h>
 #include <stdio.h>

@@ -49,7 +49,7 @@ def of_threads(setting: Setting, part: str, name: str) -> tuple[Path, str, str]:
     for it in parts.split("\n\n"):
         if it.strip("\n") not in source.read_text():
             raise Failed(f"docs/LIBRARY.md shows what isn't in {source}:\n{it}")
-    return program_of(setting, "cc", ["-std=gnu11", "-pthread", *WARNINGS, source], name), parts, answer
+    return program_of(setting, "cc", ["-std=c11", "-pthread", *WARNINGS, source], name), parts, answer
 
 
 def threads_are_right(setting: Setting) -> str:
