@@ -4,7 +4,7 @@ from collections.abc import AsyncIterator, Iterator
 from dataclasses import dataclass
 from queue import Empty
 from types import TracebackType
-from typing import Generic, TypeVar
+from typing import TYPE_CHECKING, Generic, TypeVar
 
 from clickpull.carrier import Carrier
 from clickpull.clock import SECOND, Clock
@@ -13,6 +13,9 @@ from clickpull.record import Record, Recorder
 from clickpull.router import Router
 from clickpull.takers import Taker, TaskTaker, ThreadTaker
 from clickpull.values import Packet
+
+if TYPE_CHECKING:
+    from asyncio import AbstractEventLoop
 
 T = TypeVar("T")
 
@@ -53,6 +56,7 @@ class Dispatcher(Generic[T]):
 
     A dispatcher is a context manager, which closes it, and an iterator of the jobs of device 0. Loops `for job in dispatcher` and, in
     asyncio, `async for job in dispatcher` end once it is closed and all jobs were given. Each job is given once, even if several iterate.
+    An event loop that is stopped or blocked delays no thread, and no task of another loop: they get its tasks' jobs.
 
     An interrupt, as by Ctrl-C, may come at any point of a call:
 
@@ -70,17 +74,17 @@ class Dispatcher(Generic[T]):
     `recording` is false, the record has the beginning of what happened, and the dispatcher goes on.
     """
 
-    # No wake-up is lost. The takers that wait for a device stand in its line. The first in line watches: it sleeps only until the
-    # moment that `due` returned. The others sleep until they are woken. Whoever wakes a taker takes it out of the line. This holds whenever
-    # the lock is free:
+    # No wake-up is lost. The takers that wait for a device stand in lines: the threads in one, and the tasks of each event loop in one of
+    # their own, since a loop may be stopped or blocked. The first in a line watches: it sleeps only until the moment that `due` returned.
+    # The others sleep until they are woken. Whoever wakes a taker takes it out of its line. This holds whenever the lock is free:
     #
-    #     If takers stand in the line of a device, and jobs are left for it or the dispatcher is closed, then the first in line watches, or
-    #     a taker that was in the line before is about to look.
+    #     If takers stand in a line of a device, and jobs are left for it or the dispatcher is closed, then the first in line watches, or
+    #     a taker that was in the line before is about to look. A task is about to look from when it was woken until its loop runs it.
     #
-    # - `submit` and `close` wake the first in line. They do so before they change anything, with the lock held. So no interrupt comes
-    #   between the change and the wake-up, and the woken taker looks after the change.
-    # - A taker that gets a job wakes the next in line if there is something left to do. A taker that ends with an error wakes it, too.
-    # - A taker that gets no job goes to the front of the line and watches. A new one goes to the back, if somebody watches already. A pull
+    # - `submit` and `close` wake the first in each line. They do so before they change anything, with the lock held. So no interrupt comes
+    #   between the change and the wake-up, and the woken takers look after the change.
+    # - A taker that gets a job wakes the next in each line if there is something left to do. A taker that ends with an error wakes it, too.
+    # - A taker that gets no job goes to the front of its line and watches. A new one goes to the back, if somebody watches already. A pull
     #   that gives none brings no job forward: none is due earlier than `due` returned to the first in line.
     #
     # Nobody tries again and again. A taker looks twice without sleeping only if a job is due and its pull gave none. Then a DRRSched saves
@@ -103,7 +107,7 @@ class Dispatcher(Generic[T]):
         self._closed = False
         queues = self._router.queues()
         self._devices = {it.sender: queues[it.queue].device for it in self._router.accounts()}
-        self._lines: list[deque[Taker[T]]] = [deque() for _ in range(self._router.devices)]
+        self._lines: list[dict[AbstractEventLoop | None, deque[Taker[T]]]] = [{} for _ in range(self._router.devices)]
         # What was pulled for a taker that left with an error, by sender and number.
         self._returned: list[dict[tuple[int, int], tuple[Packet, T]]] = [{} for _ in self._lines]
         self._start = self._clock.now()
@@ -261,7 +265,7 @@ class Dispatcher(Generic[T]):
         return _job(*taker.pair)
 
     def _leave(self, taker: Taker[T]) -> None:
-        """Takes a taker that ends with an error out of the line, keeps what was pulled for it, and wakes the next."""
+        """Takes a taker that ends with an error out of its line, keeps what was pulled for it, and wakes the next."""
         with self._lock:
             self._step_out(taker)
             if taker.pair is not None:
@@ -271,8 +275,8 @@ class Dispatcher(Generic[T]):
     # The lines. Their callers hold the lock.
 
     def _stand_in_line(self, taker: Taker[T]) -> bool:
-        """Puts a taker in line, at the front unless it is new, and returns whether it is the first."""
-        line = self._lines[taker.device]
+        """Puts a taker in its line, at the front unless it is new, and returns whether it is the first."""
+        line = self._lines[taker.device].setdefault(taker.loop, deque())
         if taker.is_new:
             line.append(taker)
         else:
@@ -281,24 +285,27 @@ class Dispatcher(Generic[T]):
         return line[0] is taker
 
     def _step_out(self, taker: Taker[T]) -> None:
-        """Takes a taker out of the line, unless whoever woke it did."""
-        line = self._lines[taker.device]
-        if taker in line:
+        """Takes a taker out of its line, unless whoever woke it did."""
+        line = self._lines[taker.device].get(taker.loop)
+        if line and taker in line:
             line.remove(taker)
 
     def _pass_on(self, device: int) -> None:
-        """Wakes the next in line if it has something to do: take a job that is left, or end."""
-        if self._lines[device] and (self._closed or self.left(device)):
+        """Wakes the next in each line if it has something to do: take a job that is left, or end."""
+        if any(self._lines[device].values()) and (self._closed or self.left(device)):
             self._wake(device)
 
     def _wake(self, device: int) -> None:
-        """Wakes the first in line that can still run, and then takes it out of the line. So an interrupt in between loses nothing."""
-        line = self._lines[device]
-        while line:
-            runs = line[0].wake()
-            line.popleft()
-            if runs:
-                return
+        """Wakes the first in each line, and then takes it out of the line. So an interrupt in between loses nothing.
+
+        Drops lines that are empty or whose loop is closed.
+        """
+        lines = self._lines[device]
+        for loop, line in list(lines.items()):
+            if line and line[0].wake():
+                line.popleft()
+            else:
+                del lines[loop]
 
     # Tests of arguments.
 

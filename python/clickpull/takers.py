@@ -1,8 +1,11 @@
 """Those who wait for a job of a dispatcher: threads, and tasks of asyncio. They stand outside what is proved."""
 from threading import Lock
-from typing import TypeVar
+from typing import TYPE_CHECKING, TypeVar
 
 from clickpull.carrier import Given
+
+if TYPE_CHECKING:
+    from asyncio import AbstractEventLoop
 
 T = TypeVar("T")
 
@@ -14,6 +17,8 @@ class Taker(Given[T]):
     """Whether it hasn't stood in line yet."""
     sleep: int | None = None
     """How many nanoseconds it may sleep unless it is woken; without end if this is None."""
+    loop: "AbstractEventLoop | None" = None
+    """The event loop of a task, or None for a thread."""
 
     def __init__(self, device: int) -> None:
         self.device = device
@@ -41,17 +46,19 @@ class ThreadTaker(Taker[T]):
 class TaskTaker(Taker[T]):
     """A task of asyncio, which sleeps until an event is set. Any thread may wake it."""
 
+    loop: "AbstractEventLoop"
+
     def __init__(self, device: int) -> None:
         import asyncio  # Importing it takes longer than all else here, and threads don't need it.
 
         super().__init__(device)
         self.woken = asyncio.Event()
-        self._loop = asyncio.get_running_loop()
+        self.loop = asyncio.get_running_loop()
 
     def wake(self) -> bool:
-        """Has the task's loop set the event. If the loop is closed, the task never runs again."""
+        """Has the task's loop set the event: at once, or when it runs again. If the loop is closed, the task never runs again."""
         try:
-            self._loop.call_soon_threadsafe(self.woken.set)
+            self.loop.call_soon_threadsafe(self.woken.set)
         except RuntimeError:
             return False
         return True

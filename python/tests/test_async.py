@@ -1,7 +1,7 @@
 """Tests of `clickpull.Dispatcher` with asyncio: tasks wait, are cancelled, and lose nothing. They stand outside what is proved."""
 import asyncio
 import random
-from collections.abc import Coroutine
+from collections.abc import Coroutine, Iterator
 from concurrent.futures import ThreadPoolExecutor
 from contextlib import suppress
 from queue import SimpleQueue
@@ -230,7 +230,7 @@ class Crowd:
         due = self.dispatcher.router.due()
         if due is not None and self.tasks:
             assert min(self.clock.sleepers.values(), default=None) == due * SECOND > self.clock.time
-        assert len(self.dispatcher._lines[0]) == len(self.tasks)
+        assert sum(map(len, self.dispatcher._lines[0].values())) == len(self.tasks)
 
     async def end(self) -> None:
         """Closes the dispatcher while more tasks wait than jobs are left. Each job is given once, and all tasks end."""
@@ -281,22 +281,98 @@ def test_a_cancelled_wait_wakes_the_next() -> None:
     run(test())
 
 
+class Submitting(ManualClock):
+    """Submits a job when a thread waits, unless one is left. Tasks sleep until they are woken."""
+
+    dispatcher: Dispatcher[str]
+
+    def wait(self, woken: Lock, nanoseconds: int | None) -> None:
+        if not self.dispatcher.left():
+            self.dispatcher.submit(0, "job")
+        super().wait(woken, nanoseconds)
+
+    async def wait_async(self, woken: asyncio.Event, nanoseconds: int | None) -> None:
+        await woken.wait()
+
+
+def submitting(tree: str) -> Dispatcher[str]:
+    """A dispatcher with such a clock, whose ticks take a second."""
+    clock = Submitting()
+    clock.dispatcher = Dispatcher[str](tree, tick=1, clock=clock)
+    return clock.dispatcher
+
+
 def test_a_task_whose_loop_is_closed_is_passed_over() -> None:
-    """A loop is closed while a task of it stands first in line. A job then wakes the thread that stands behind it."""
-
-    class Submitting(Clock):
-        """Submits a job while a thread waits."""
-
-        def wait(self, woken: Lock, nanoseconds: int | None) -> None:
-            dispatcher.submit(0, "job")
-            assert not woken.locked()
-            super().wait(woken, nanoseconds)
-
-    dispatcher = Dispatcher[str](ONE, clock=Submitting())
+    """A loop is closed while a task of it waits. A job then wakes the thread that came after it."""
+    dispatcher = submitting(ONE)
     loop = asyncio.new_event_loop()
     waiting = dispatcher.next_async()
     loop.create_task(waiting)._log_destroy_pending = False  # type: ignore[attr-defined]
     loop.run_until_complete(asyncio.sleep(0))
     loop.close()
-    assert dispatcher.next(PATIENCE).value == "job"
+    assert dispatcher.next().value == "job"
+    assert loop not in dispatcher._lines[0]
     waiting.close()
+
+
+@pytest.fixture
+def stopped() -> Iterator[asyncio.AbstractEventLoop]:
+    """A loop that runs only where a test says."""
+    loop = asyncio.new_event_loop()
+    yield loop
+    loop.close()
+
+
+def test_a_task_whose_loop_is_stopped_keeps_no_thread_waiting(stopped: asyncio.AbstractEventLoop) -> None:
+    """A loop is stopped while a task of it waits. A job then wakes the thread that came after it, and the task looks when its loop runs."""
+    dispatcher = submitting(ONE)
+    waiting = stopped.create_task(dispatcher.next_async())
+    stopped.run_until_complete(asyncio.sleep(0))
+    assert dispatcher.next().value == "job"
+    dispatcher.submit(0, "next")
+    assert stopped.run_until_complete(waiting).value == "next"
+
+
+def test_a_task_whose_loop_is_stopped_keeps_no_other_loop_waiting(stopped: asyncio.AbstractEventLoop) -> None:
+    dispatcher = submitting(ONE)
+    waiting = stopped.create_task(dispatcher.next_async())
+    stopped.run_until_complete(asyncio.sleep(0))
+
+    async def test() -> None:
+        other = asyncio.create_task(dispatcher.next_async())
+        await asyncio.sleep(0)
+        dispatcher.submit(0, "job")
+        assert (await other).value == "job"
+
+    run(test())
+    dispatcher.close()
+    with pytest.raises(Ended):
+        stopped.run_until_complete(waiting)
+
+
+def test_a_thread_watches_though_a_task_came_first(stopped: asyncio.AbstractEventLoop) -> None:
+    """A task waits for the next tick of a Shaper, and its loop is stopped. The thread that came after it wakes at that tick by itself."""
+    dispatcher = submitting(SHAPED)
+    for value in ("first", "second", "third"):
+        dispatcher.submit(0, value)
+    assert dispatcher.next(0).value == "first"
+    waiting = stopped.create_task(dispatcher.next_async())
+    stopped.run_until_complete(asyncio.sleep(0))
+    assert dispatcher.next().value == "second"
+    dispatcher.close()
+    assert dispatcher.next().value == "third"
+    with pytest.raises(Ended):
+        stopped.run_until_complete(waiting)
+
+
+def test_a_task_whose_loop_is_blocked_keeps_no_thread_waiting() -> None:
+    async def test() -> None:
+        dispatcher = submitting(ONE)
+        waiting = asyncio.create_task(dispatcher.next_async())
+        await asyncio.sleep(0)
+        with ThreadPoolExecutor(1) as pool:
+            assert pool.submit(dispatcher.next).result(PATIENCE).value == "job"
+        dispatcher.submit(0, "next")
+        assert (await waiting).value == "next"
+
+    run(test())
