@@ -34,6 +34,8 @@ class Record:
     `Router.pull_many` made as many pulls as it gave packets, and one more if these are fewer than `count`. `drain` made one pull at each
     moment from one tick after the device's latest on, up to its latest moment then. A `Dispatcher` adds the lines itself.
 
+    A copy by `copy` or `pickle` is a record of its own, with the text and the number of lines that there were.
+
     Threads may share a record. A call that raises has added nothing. One that an interrupt ended has added all of its lines or none, as
     `lines` tells.
     """
@@ -46,6 +48,19 @@ class Record:
         self._text = (ctypes.c_uint8 * _FIRST_ROOM)()
         self._used = ctypes.c_size_t()
         self._lines = ctypes.c_uint32()
+
+    def __getstate__(self) -> tuple[bytes, int]:
+        """What a copy has."""
+        with self._lock:
+            return self.text(), self.lines
+
+    def __setstate__(self, state: tuple[bytes, int]) -> None:
+        """Makes a copy of what it has."""
+        Record.__init__(self)
+        text, self._lines.value = state
+        self._text = (ctypes.c_uint8 * max(len(text), _FIRST_ROOM))()
+        ctypes.memmove(self._text, text, len(text))
+        self._used.value = len(text)
 
     # What was done.
 

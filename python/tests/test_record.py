@@ -1,4 +1,6 @@
 """Tests of `clickpull.Record`, and of dispatchers that have one. They stand outside what is proved."""
+import copy
+import pickle
 import random
 import re
 from collections.abc import Callable
@@ -46,6 +48,28 @@ def test_a_long_record_grows() -> None:
     assert record.text() == b"".join(b"send %d 65535\n" % it for it in range(lines))
     record.pulls(65_535, module.END_OF_RECORDED_MOMENTS - 1, 100_000)
     assert record.text().endswith(b"65535\n" + 100_000 * b"pull 1099511627775 65535\n") and record.lines == lines + 100_000
+
+
+def pickled(record: Record) -> Record:
+    """A copy that went through `pickle`."""
+    it = pickle.loads(pickle.dumps(record))
+    assert isinstance(it, Record)
+    return it
+
+
+@pytest.mark.parametrize("copied", [copy.copy, copy.deepcopy, pickled])
+@pytest.mark.parametrize("lines", [0, 3, 3000])
+def test_a_copy_is_a_record_of_its_own(copied: Callable[[Record], Record], lines: int) -> None:
+    record = Record()
+    record.drain(8)
+    record.clear()
+    record.pulls(7, 7, lines)
+    it, text = copied(record), lines * b"pull 7 7\n"
+    record.pulls(0, 9, 3000)
+    assert (it.text(), it.lines) == (text, lines + 1)
+    it.drain()
+    assert (it.text(), it.lines) == (text + b"drain 0\n", lines + 2)
+    assert (record.text(), record.lines) == (text + 3000 * b"pull 9\n", lines + 3001)
 
 
 WRONG: list[tuple[type[Exception], methodcaller]] = [
