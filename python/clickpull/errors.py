@@ -1,4 +1,5 @@
 """What calls raise. It stands outside what is proved."""
+from typing import Any
 
 # The faults that a text can have, by number, as docs/FORMATS.md has them. A test compares them with those of the library.
 FAULTS = {
@@ -73,3 +74,7 @@ class TextFault(Error, ValueError):
         self.column = offset - before.rfind(b"\n")
         self.explanation = explanation
         super().__init__(f"fault {number}: {self.name} at line {self.line}, column {self.column}")
+
+    def __reduce__(self) -> tuple[Any, ...]:
+        """What `copy` and `pickle` make a copy of. They don't call `__init__`, since the text isn't kept."""
+        return type(self).__new__, (type(self), *self.args), self.__dict__
