@@ -18,6 +18,9 @@ FAULTS = {
     18: "TooLarge",
 }
 
+# Those of them that have no place in the text. A test compares them with those of the library.
+WITHOUT_PLACE = (1, 11, 18)
+
 
 class Error(Exception):
     """A call that couldn't be made. Nothing has changed."""
@@ -51,19 +54,19 @@ class AtEnd(Error, OverflowError):
 
 
 class TextFault(Error, ValueError):
-    """A text makes no router."""
+    """A text makes no router. Faults 11 (NoDevice) and 18 (TooLarge) have no place in the text."""
 
     number: int
     """The fault's number, as docs/FORMATS.md has it."""
     name: str
     offset: int
-    """At which byte of the text, from 0; a text in characters is taken as UTF-8."""
+    """At which byte of the text, from 0, and 0 if the fault has no place. A text in characters is taken as UTF-8."""
     line: int
-    """At which line, from 1."""
+    """At which line, from 1, and 1 if the fault has no place."""
     column: int
-    """At which byte of the line, from 1."""
+    """At which byte of the line, from 1, and 1 if the fault has no place."""
     explanation: str
-    """Lines for a person: the place, the line of the text with a caret, what is wrong, and what was expected."""
+    """Lines for a person: what is wrong and what was expected; if the fault has a place, that too, and the line of the text with a caret."""
 
     def __init__(self, number: int, offset: int, text: bytes, explanation: str) -> None:
         before = text[:offset]
@@ -73,7 +76,8 @@ class TextFault(Error, ValueError):
         self.line = before.count(b"\n") + 1
         self.column = offset - before.rfind(b"\n")
         self.explanation = explanation
-        super().__init__(f"fault {number}: {self.name} at line {self.line}, column {self.column}")
+        place = "" if number in WITHOUT_PLACE else f" at line {self.line}, column {self.column}"
+        super().__init__(f"fault {number}: {self.name}{place}")
 
     def __reduce__(self) -> tuple[Any, ...]:
         """What `copy` and `pickle` make a copy of. They don't call `__init__`, since the text isn't kept."""
