@@ -8,9 +8,9 @@ from typing import TYPE_CHECKING, Generic, TypeVar
 
 from clickpull.carrier import Carrier
 from clickpull.clock import SECOND, Clock
-from clickpull.errors import Ended, Shut, UnknownDevice
+from clickpull.errors import AtEnd, Ended, Shut, UnknownDevice
 from clickpull.record import Record, Recorder
-from clickpull.router import Router
+from clickpull.router import END_OF_MOMENTS, Router
 from clickpull.takers import Taker, TaskTaker, ThreadTaker
 from clickpull.values import Packet
 
@@ -93,6 +93,9 @@ class Dispatcher(Generic[T]):
     def __init__(self, tree: str | bytes, *, tick: float = 0.001, clock: Clock | None = None, record: Record | None = None) -> None:
         """Opens a dispatcher from a tree's text. Its ticks take `tick` seconds and are counted from now.
 
+        It works for 2^44 ticks: about 557 years with a `tick` of 0.001, 204 days with 1e-6, and 4.9 hours with 1e-9. After that `submit`
+        raises `AtEnd`, and so does `next` if a job is left.
+
         Raises `TextFault` if the text makes no router, `ValueError` if a tick is shorter than a nanosecond, and `MemoryError`.
         """
         self._tick = round(tick * SECOND)
@@ -111,6 +114,7 @@ class Dispatcher(Generic[T]):
         # What was pulled for a taker that left with an error, by sender and number.
         self._returned: list[dict[tuple[int, int], tuple[Packet, T]]] = [{} for _ in self._lines]
         self._start = self._clock.now()
+        self._end = self._start + END_OF_MOMENTS * self._tick
 
     @property
     def router(self) -> Router:
@@ -138,11 +142,13 @@ class Dispatcher(Generic[T]):
         """Submits the sender's next job, and returns the outcome. Never waits.
 
         The size is what a DRRSched shares out: 1 to 65,535. Raises `Shut` if the dispatcher is closed, `UnknownSender`, `BadLength`, and
-        `AtEnd` if the sender has submitted 4,294,967,295 jobs. Then nothing was submitted.
+        `AtEnd` after 2^44 ticks or if the sender has submitted 4,294,967,295 jobs. Then nothing was submitted.
         """
         with self._lock:
             if self._closed:
                 raise Shut("the dispatcher is closed")
+            if self._clock.now() >= self._end:
+                raise AtEnd("the dispatcher has worked for 2^44 ticks, and gives no more jobs")
             if sender in self._devices:
                 self._wake(self._devices[sender])
             it = self._carrier.offer(sender, size, value)

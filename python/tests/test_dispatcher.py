@@ -5,7 +5,21 @@ from threading import Lock
 
 import pytest
 
-from clickpull import AtEnd, BadLength, Clock, Dispatcher, Ended, Error, Job, Shut, Submission, TextFault, UnknownDevice, UnknownSender
+from clickpull import (
+    END_OF_MOMENTS,
+    AtEnd,
+    BadLength,
+    Clock,
+    Dispatcher,
+    Ended,
+    Error,
+    Job,
+    Shut,
+    Submission,
+    TextFault,
+    UnknownDevice,
+    UnknownSender,
+)
 from clickpull.clock import SECOND
 from clocks import ManualClock
 
@@ -160,13 +174,22 @@ def test_closing_ends_a_wait() -> None:
     assert list(dispatcher) == []
 
 
-def test_moments_end() -> None:
+@pytest.mark.parametrize("tick", [1e-9, 1e-6, 1e-3])
+def test_moments_end(tick: float) -> None:
+    """After the last one no job is accepted, since none could be taken. An empty dispatcher still ends."""
     clock = ManualClock()
-    dispatcher = Dispatcher[int](SHAPED, tick=1e-9, clock=clock)
-    dispatcher.submit(0, 1)
-    clock.time = 1 << 44
+    left, empty = (Dispatcher[int](SHAPED, tick=tick, clock=clock) for _ in range(2))
+    clock.time = (END_OF_MOMENTS - 1) * round(tick * SECOND)
+    assert left.submit(0, 1).accepted and left.submit(0, 2).accepted
+    assert left.next(0).value == 1
+    clock.time += round(tick * SECOND)
+    for dispatcher in (left, empty):
+        with pytest.raises(AtEnd):
+            dispatcher.submit(0, 3)
+        dispatcher.close()
     with pytest.raises(AtEnd):
-        dispatcher.next(0)
+        left.next(0)
+    assert left.left() == 1 and list(empty) == []
 
 
 def test_a_very_long_wait_ends_when_it_is_woken() -> None:
