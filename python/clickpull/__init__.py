@@ -24,6 +24,9 @@ An interrupt, as by Ctrl-C, may come at any point of a call, and later calls wor
 the packet; the accounts of a `Router` tell. A signal handler must call no `Carrier` or `Dispatcher` that the interrupted code may be
 calling.
 """
+# The version of the library; tests/pages compares the two. Packages read it here, and so does what is imported below.
+__version__ = "0.1.0"
+
 from clickpull.carrier import Carried, Carrier, Evicted, Offer
 from clickpull.clock import Clock
 from clickpull.dispatcher import Dispatcher, Job, Submission
@@ -31,9 +34,6 @@ from clickpull.errors import AtEnd, BadLength, Ended, Error, Shut, TextFault, Un
 from clickpull.record import Record
 from clickpull.router import END_OF_MOMENTS, Router
 from clickpull.values import Account, Departure, Offered, Outcome, Packet, Queue, Total
-
-# The version of the library; tests/pages compares the two. Packages read it here.
-__version__ = "0.1.0"
 
 __all__ = [
     "END_OF_MOMENTS",

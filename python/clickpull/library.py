@@ -4,8 +4,11 @@ The structures and parameters are those of include/clickpull.h; tests/library co
 """
 import ctypes
 import os
-from ctypes import POINTER, Structure, c_size_t, c_uint8, c_uint16, c_uint32, c_uint64, c_void_p
+from ctypes import POINTER, Structure, c_char_p, c_size_t, c_uint8, c_uint16, c_uint32, c_uint64, c_void_p
 from pathlib import Path
+from typing import Any
+
+from clickpull import __version__
 
 NAME = "libclickpull.so"
 VARIABLE = "CLICKPULL_LIBRARY"
@@ -158,7 +161,7 @@ COUNT = POINTER(c_size_t)
 RECORD = [POINTER(c_uint8), c_size_t, COUNT, POINTER(c_uint32)]
 
 # The parameters and results of each call.
-CALLS = {
+CALLS: dict[str, tuple[list[Any], type[Any] | None]] = {
     "clk_router_open": ([POINTER(c_uint8), c_size_t, ROUTER, POINTER(Fault)], c_uint32),
     "clk_router_close": ([RouterHandle], None),
     "clk_router_explain": ([POINTER(c_uint8), c_size_t, POINTER(Fault), POINTER(c_uint8), c_size_t, COUNT], c_uint32),
@@ -218,6 +221,22 @@ def places() -> list[str]:
     return [*beside, NAME + ".0.1"]
 
 
+def interface(version: str) -> str:
+    """The part of a version that the module and the library have to have in common: MAJOR.MINOR."""
+    return version.rpartition(".")[0]
+
+
+def call_of(library: ctypes.PyDLL, name: str, parameters: list[Any], answer: type[Any] | None) -> Any:
+    """A call of the library that has this name, these parameters and this result."""
+    try:
+        call = getattr(library, name)
+    except AttributeError:
+        raise ImportError(f"clickpull: {library._name} isn't clickpull's shared library: it has no {name}") from None
+    call.argtypes = parameters
+    call.restype = answer
+    return call
+
+
 def loaded() -> ctypes.PyDLL:
     """The library. Its calls are short and hold the global lock, so two of them never run at once."""
     failures = []
@@ -229,10 +248,11 @@ def loaded() -> ctypes.PyDLL:
             failures.append(str(it))
     else:
         raise ImportError(f"clickpull: no shared library is found ({'; '.join(failures)}); {VARIABLE} may name it")
+    version = call_of(library, "clk_version", [], c_char_p)().decode()
+    if interface(version) != interface(__version__):
+        raise ImportError(f"clickpull: {library._name} has version {version}, and the module needs {interface(__version__)}")
     for name, (parameters, answer) in CALLS.items():
-        call = getattr(library, name)
-        call.argtypes = parameters
-        call.restype = answer
+        call_of(library, name, parameters, answer)
     return library
 
 
