@@ -151,10 +151,10 @@ out-alone (Err fault) follows P R Q is h = tt
 
 -- what is written with visits is written without them too
 pub writes-over : (tree input : Option (List ℕ)) (text visits : List ℕ) → WritesWithVisits tree input text visits → WritesOver tree input text
-writes-over tree input text visits w = (w.0, w.1, of-weaker input _ _ (λ script means. (w.2, means)) w.3)
+writes-over tree input text visits w = (w.0, w.1, of-weaker input _ _ (λ script means. (w.2.0, means)) w.2.1)
 
 pub lives-over : (tree trace : Option (List ℕ)) (pace : Pace) (text script visits : List ℕ) → LivesWithVisits tree trace pace text script visits → LivesOver tree trace pace true text script
-lives-over tree trace pace text script visits w = (w.0, w.1, w.2)
+lives-over tree trace pace text script visits w = (w.0, w.1, w.2.0)
 
 -- a run was done, as it was asked for
 pub does-run : (job : Job) (pace : Pace) (visits : Option (Bor (List ℕ))) (tree trace : Option (List ℕ)) (P : List ℕ → Type 0) → job ≡ Run pace visits

@@ -69,13 +69,13 @@ abbrev pub ReportsWithVisits : (tree trace : Option (List ℕ)) → (pace : Pace
 ReportsWithVisits tree trace pace text visits = OverPlan tree (λ plan. (logs : List (List Visit)) × RunWrites plan pace trace text logs × (visits ≡ visits_text logs))
 
 -- A trace that runs through inlets over a tree at a pace writes this report, and this script is the record of the run.
-abbrev pub LivesOver : (tree trace : Option (List ℕ)) → (pace : Pace) → (recording : Bool) → (text script : List ℕ) → Type 0
-LivesOver tree trace pace recording text script = OverPlan tree (λ plan. LiveWrites plan pace trace recording text script)
+abbrev pub LivesOver : (tree trace : Option (List ℕ)) → (pace : Pace) → (recording : Bool) → (text lines : List ℕ) → Type 0
+LivesOver tree trace pace recording text lines = OverPlan tree (λ plan. LiveWrites plan pace trace recording text lines)
 
 -- A run was recorded whose record is this script, which ends in the report, and this is the visit file of the record.
-abbrev pub LivesWithVisits : (tree trace : Option (List ℕ)) → (pace : Pace) → (text script visits : List ℕ) → Type 0
-LivesWithVisits tree trace pace text script visits =
-    OverPlan tree (λ plan. LiveWrites plan pace trace true text script × (logs : List (List Visit)) × EndsIn plan script text logs × (visits ≡ visits_text logs))
+abbrev pub LivesWithVisits : (tree trace : Option (List ℕ)) → (pace : Pace) → (text lines visits : List ℕ) → Type 0
+LivesWithVisits tree trace pace text lines visits =
+    OverPlan tree (λ plan. LiveWrites plan pace trace true text lines × (logs : List (List Visit)) × EndsIn plan lines text logs × (visits ≡ visits_text logs))
 
 -- A call writes a text and then a visit file to a sink of its own. If it succeeded, it wrote both. If a sink failed, it wrote a front of
 -- the text and no visits, or the text and a front of the visits. At any other fault it wrote nothing.

@@ -5,8 +5,9 @@ ghost use Rattle.std.specs.Prelude.{◌≡◌, ◌≢◌, ◌∷◌, [], None, S
 ghost use Rattle.clk_words.specs.Words.{go_to_file, task, work, text_of, writes_file, AreApart, GoApartFrom, IsApartFrom, MayClash, WritesApart};
 
 use clk_words::{Asked, DASH, Job, is_standard};
-use std::fs;
+use std::fs::{self, Metadata};
 use std::os::unix::fs::MetadataExt;
+use std::path::Path;
 use std::rt::Files;
 
 /// Why no task can have the files that the words name.
@@ -14,7 +15,9 @@ use std::rt::Files;
 pub enum Clash<'a> {
     /// Both inputs are standard input.
     TwoInputs,
-    /// The file at this path would be overwritten, though another of the words names it too, or the path stands for standard input.
+    /// A record would go to standard output.
+    RecordOut,
+    /// The file at this path would be overwritten, though another of the words names it too, or standard input or output leads to it.
     Overwritten(&'a str),
 }
 
@@ -30,12 +33,14 @@ pub fn clash_of<'a, H: Files>(rt: &H, asked: Asked<'a>) -> Option<Clash<'a>>
         return Some(Clash::TwoInputs);
     }
     match overwritten(rt, tree, input, job) {
+        // Visits may go to standard output, so this is the path of a record.
+        Some(path) if is_standard(path) => Some(Clash::RecordOut),
         Some(path) => Some(Clash::Overwritten(path)),
         None => None,
     }
 }
 
-/// The path of a file that would be overwritten, if there is one.
+/// The path of a file that would be overwritten, or that of a record which would go to standard output, if there is one.
 fn overwritten<'a, H: Files>(rt: &H, tree: &str, input: &str, job: Job<'a>) -> Option<&'a str>
     ensures apart { result ≡ None → WritesApart (work job.entry) (tree.now ∷ input.now ∷ []) }
     ensures writes { IsSome result → writes_file (work job.entry) ≡ true }
@@ -54,7 +59,7 @@ fn overwritten<'a, H: Files>(rt: &H, tree: &str, input: &str, job: Job<'a>) -> O
             visits,
             ..
         } => {
-            if is_among(rt, record, &[DASH, tree, input]) {
+            if is_among(rt, record, &[DASH, tree, input]) || is_redirected(rt, record) {
                 return Some(record);
             }
             visits_among(rt, visits, &[record, tree, input])
@@ -68,10 +73,15 @@ fn visits_among<'a, H: Files>(rt: &H, visits: Option<&'a str>, others: &[&str]) 
     ensures writes { IsSome result → go_to_file (option_map text_of visits.entry) ≡ true }
 {
     let path = visits?;
-    if !is_standard(path) && is_among(rt, path, others) {
+    if !is_standard(path) && (is_among(rt, path, others) || is_redirected(rt, path)) {
         return Some(path);
     }
     None
+}
+
+/// Whether a path leads to a regular file from which standard input is read, or to which standard output is written.
+fn is_redirected<H: Files>(rt: &H, path: &str) -> bool {
+    lead_to_one_file(rt, path, "/dev/stdin") || lead_to_one_file(rt, path, "/dev/stdout")
 }
 
 /// Whether a file is one of the files at other paths.
@@ -84,17 +94,41 @@ fn is_among<H: Files>(rt: &H, path: &str, others: &[&str]) -> bool
     is_one_file(rt, path, first) || is_among(rt, path, rest)
 }
 
-/// Whether two paths name one file: they are equal, or there is a regular file to which both lead.
+/// Whether two paths name one file: they are equal, or lead to one file.
 fn is_one_file<H: Files>(rt: &H, path: &str, other: &str) -> bool
     ensures apart { result ≡ false → path.now ≢ other.now }
 {
     path == other || lead_to_one_file(rt, path, other)
 }
 
-/// Whether there is a regular file to which both paths lead.
+/// Whether there is a regular file to which both paths lead; or none yet, and both name the same new one.
 fn lead_to_one_file<H: Files>(rt: &H, path: &str, other: &str) -> bool {
     match (fs::metadata(rt, path), fs::metadata(rt, other)) {
-        (Ok(one), Ok(two)) => one.is_file() && (one.dev(), one.ino()) == (two.dev(), two.ino()),
+        (Ok(one), Ok(two)) => one.is_file() && is_same(&one, &two),
+        (Err(_), Err(_)) => name_one_new_file(rt, Path::new(path), Path::new(other)),
         _ => false,
     }
+}
+
+/// Whether two paths end in one name, in one folder.
+fn name_one_new_file<H: Files>(rt: &H, path: Path<'_>, other: Path<'_>) -> bool {
+    if path.file_name() != other.file_name() {
+        return false;
+    }
+    match (folder_of(rt, path), folder_of(rt, other)) {
+        (Some(one), Some(two)) => is_same(&one, &two),
+        _ => false,
+    }
+}
+
+/// The folder of a file at a path, if it is there.
+fn folder_of<H: Files>(rt: &H, path: Path<'_>) -> Option<Metadata> {
+    let folder = path.parent()?;
+    let is_here = folder.as_os_str().is_empty();
+    fs::metadata(rt, if is_here { Path::new(".") } else { folder }).ok()
+}
+
+/// Whether these are of one file, or of one folder.
+fn is_same(one: &Metadata, two: &Metadata) -> bool {
+    (one.dev(), one.ino()) == (two.dev(), two.ino())
 }

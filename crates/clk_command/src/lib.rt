@@ -7,6 +7,7 @@ mod builtin;
 mod commands;
 mod examples;
 mod faults;
+mod jobs;
 mod kept;
 mod linting;
 mod live;

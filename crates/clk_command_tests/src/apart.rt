@@ -72,8 +72,12 @@ const TWICE: &[(&str, &str)] = &[
         "none.script",
     ),
     (
-        "live out/kept.click out/kept.trace --record - --visits -",
-        ": -\n",
+        "live out/kept.click out/kept.trace --record out/unmade.csv --visits ./out/unmade.csv",
+        "./out/unmade.csv",
+    ),
+    (
+        "live out/kept.click out/kept.trace --record unmade.csv --visits out/../unmade.csv",
+        "out/../unmade.csv",
     ),
 ];
 
@@ -94,6 +98,17 @@ fn no_file_that_is_named_twice_is_overwritten(rt: HostRuntime) {
     }
 }
 
+// A record is a script, which is to be read alone.
+#[test]
+fn a_record_is_not_written_to_standard_output(rt: HostRuntime) {
+    write_all(&rt, FILES).expect(&rt, "files");
+    let words = "live out/kept.click out/kept.trace --record - --visits -";
+    let begin = "error: a record can't be";
+    let is_so = is_said(&rt, words, 2, begin, "standard output\n");
+    assert!(rt; is_so.expect(&rt, "ample memory"));
+    assert_eq!(rt; compare_files(&rt, LEFT), None);
+}
+
 // Another file is overwritten, and a device loses nothing.
 #[test]
 fn other_files_are_overwritten(rt: HostRuntime) {
@@ -108,6 +123,25 @@ fn other_files_are_overwritten(rt: HostRuntime) {
         assert_eq!(rt; answered.outcome, Ok(0), "at {words}");
         let new = fs::read(&rt, "out/other.csv").expect(&rt, "a file");
         assert!(rt; new.as_slice() != b"old".as_slice(), "at {words}");
+    }
+}
+
+// A device may have two paths, and there may be files of one name in two folders, one of which isn't there.
+#[test]
+fn other_paths_are_taken(rt: HostRuntime) {
+    write_all(&rt, FILES).expect(&rt, "files");
+    for &(words, outcome) in &[
+        ("--record /dev/null --visits /dev/../dev/null", Ok(0)),
+        (
+            "--record none/unmade.csv --visits out/unmade.csv",
+            Err(Fault::Write),
+        ),
+    ] {
+        let words = format!(in rt.alloc(); "live out/kept.click out/kept.trace {words}");
+        let words = words.expect(&rt, "ample memory");
+        let answered = answer(&rt, &words, input(), AMPLE, AMPLE).expect(&rt, "ample memory");
+        assert_eq!(rt; answered.outcome, outcome, "at {words}");
+        assert_eq!(rt; compare_files(&rt, LEFT), None, "at {words}");
     }
 }
 

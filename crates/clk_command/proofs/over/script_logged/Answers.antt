@@ -9,5 +9,5 @@ returns-clause-wrote g c =
     wrote-last _ _ _ _ _ (λ text m. (
       visits_text m.0,
       IfOk-weaker c.run_script_logged.result _ _ (λ replay same. ap visits_text same) m.1,
-      (_, c.in_ok-plan.ensures.plan, m.0, m.2, refl),
+      (_, c.in_ok-plan.ensures.plan, (m.0, m.2, refl)),
     )) c.run_script_logged.ensures.wrote

@@ -1,6 +1,6 @@
 use Rattle.std.proofs.lemmas.Result.{on_ok_weaker}
 use Rattle.clk_command.proofs.TaskLemmas.{does-live, does-run}
-use Rattle.clk_command.proofs.commands.do_job.Goals as goal
+use Rattle.clk_command.proofs.jobs.do_job.Goals as goal
 
 pub returns-in-Run-clause-done : goal.returns-in-Run-clause-done
 returns-in-Run-clause-done g c = on_ok_weaker c.run_job.result (λ h. does-run _ _ _ _ _ _ c.in-Run.is h) c.run_job.ensures.written

@@ -1,4 +1,4 @@
-use Rattle.clk_command.proofs.commands.live_job.Goals as goal
+use Rattle.clk_command.proofs.jobs.live_job.Goals as goal
 
 pub returns-in-None-None-clause-written : goal.returns-in-None-None-clause-written
 returns-in-None-None-clause-written g c = rw (c.in-None-None.is-0, c.in-None-None.is-1) c.live_to.ensures.written

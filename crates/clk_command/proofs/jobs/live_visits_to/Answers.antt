@@ -1,7 +1,7 @@
 use Rattle.std.proofs.Common.{sym, ◌∙◌}
 use Rattle.std.proofs.lemmas.Result.{on_ok_weaker}
 use Rattle.clk_command.proofs.TaskLemmas.{goes-alone, goes-followed, lives-over}
-use Rattle.clk_command.proofs.commands.live_visits_to.Goals as goal
+use Rattle.clk_command.proofs.jobs.live_visits_to.Goals as goal
 
 pub returns-then-is_standard-clause-written : goal.returns-then-is_standard-clause-written
 returns-then-is_standard-clause-written g c =

@@ -2,7 +2,7 @@ use Rattle.std.proofs.Common.{option_map, sym, ◌∙◌}
 use Rattle.std.proofs.lemmas.Result.{on_ok_weaker}
 use Rattle.clk_words.specs.Words.{text_of, visits_follow}
 use Rattle.clk_command.proofs.TaskLemmas.{out-alone, writes-over}
-use Rattle.clk_command.proofs.commands.script_job.Goals as goal
+use Rattle.clk_command.proofs.jobs.script_job.Goals as goal
 
 pub returns-clause-written : goal.returns-clause-written
 returns-clause-written g c =
