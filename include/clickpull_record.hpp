@@ -46,14 +46,14 @@ public:
 
     ~Record() = default;
 
-    // Adds the line of a packet that was offered or taken.
+    // Adds the line of a packet that was offered or taken. Throws CLK_BAD_LENGTH for a packet without a length, which never was.
     void send(const Packet &packet) {
         const clk_offered it{packet, {}, CLK_ACCEPTED};
         offered(&it, 1);
     }
 
-    // Adds the lines of `count` packets that were offered, as Router::offer_many fills them in. Throws CLK_NULL for a null array that has
-    // any.
+    // Adds the lines of `count` packets that were offered, as Router::offer_many fills them in. Throws CLK_BAD_LENGTH as send does, and
+    // CLK_NULL for a null array that has any.
     void offered(const clk_offered *offered, std::size_t count) {
         add(count, [&](clk_record *it) { return clk_record_offered(it, offered, count); });
     }

@@ -61,7 +61,7 @@ impl Record {
     ///
     /// # Errors
     ///
-    /// As the type says.
+    /// As the type says, and [`Error::BadLength`] for a packet without a length, which never was.
     pub fn send(&mut self, packet: &Packet) -> Result<(), Error> {
         self.add(1, |script| script.send(*packet))
     }

@@ -56,6 +56,7 @@ fn lines_have_an_end() {
         record.clear();
     }
     assert_eq!(record.send(&Packet { number: 0, sender: 0, length: 1 }), Err(Error::AtEnd));
+    assert_eq!(record.send(&Packet { number: 0, sender: 0, length: 0 }), Err(Error::BadLength));
     assert_eq!(record.drain(0), Err(Error::AtEnd));
     assert_eq!((record.text(), record.lines()), (&b""[..], MOST_LINES));
 }

@@ -165,6 +165,17 @@ static void nothing_adds_nothing(void) {
     CHECK(clk_record_offered(&it, NULL, 0) == CLK_OK && clk_record_pulls(&it, 0, 9, 0) == CLK_OK);
 }
 
+/* A packet without a length was never offered: a script with its line would have a fault. That is told before a record is at its end. */
+static void a_length_of_0_is_told(void) {
+    const clk_offered offered[] = {offered_of(0, 1), offered_of(0, 0)};
+    const clk_taken taken[] = {taken_of(0, 1), taken_of(0, 0)};
+    clk_record it = record_of(ROOM);
+    CHECK(clk_record_offered(&it, offered, 2) == CLK_BAD_LENGTH && clk_record_taken(&it, taken, 2) == CLK_BAD_LENGTH);
+    CHECK(has(&it, "", 0) && buffer[0] == UNTOUCHED);
+    it.lines = CLK_MOST_LINES;
+    CHECK(clk_record_offered(&it, offered, 2) == CLK_BAD_LENGTH && clk_record_offered(&it, offered, 1) == CLK_AT_END);
+}
+
 static void nulls_are_told_by_records(void) {
     const clk_offered offered = offered_of(0, 1);
     const clk_taken taken = taken_of(0, 1);
@@ -202,6 +213,7 @@ void test_records(void) {
     moments_have_an_end();
     lines_have_an_end();
     nothing_adds_nothing();
+    a_length_of_0_is_told();
     nulls_are_told_by_records();
     a_router_is_recorded();
 }

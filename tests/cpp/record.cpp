@@ -48,6 +48,7 @@ static void lines_have_an_end() {
         record.clear();
     }
     CHECK(thrown_by([&] { record.send({0, 0, 1}); }) == CLK_AT_END);
+    CHECK(thrown_by([&] { record.send({0, 0, 0}); }) == CLK_BAD_LENGTH);
     CHECK(thrown_by([&] { record.drain(); }) == CLK_AT_END);
     CHECK(record.text().empty() && record.lines() == CLK_MOST_LINES);
 }

@@ -1,10 +1,12 @@
 -- Bytes that are added to a record, one line after another.
-use Rattle.std.proofs.Common.{◌≡◌, ℕ, ◌+◌, ◌-◌, ◌<◌, ◌≤◌, List, ◌++◌, length, take, drop, map, replicate, get_or, None, sym, ap, ◌∙◌, arith}
+use Rattle.std.proofs.Common.{◌≡◌, ℕ, ◌+◌, ◌-◌, ◌<◌, ◌≤◌, ◌||◌, List, [], ◌∷◌, ◌++◌, length, take, drop, map, replicate, get_or, None, refl, sym, ap, ◌∙◌, arith}
+use Rattle.std.specs.List.{list_any}
 use Rattle.std.proofs.lemmas.List.{take-append-le, take-append-drop, take-take, map-append, length-take-le, replicate-append-replicate}
 use Rattle.clk_script.specs.declared.script.Command.{Command}
 use Rattle.clk_script.specs.Record.{command_text, record_text}
 use Rattle.clk_script.proofs.Callers.Records.{command-more, front-shorter}
-use Rattle.clickpull_c.specs.Recording.{IsAdded}
+use Rattle.clickpull_c.specs.Recording.{IsAdded, lacks_length, send_of}
+use Rattle.clickpull_c.specs.declared.values.CPacket.{CPacket}
 use Rattle.clickpull_c.proofs.Fills.{front-more}
 
 -- the used bytes are as they were
@@ -37,3 +39,12 @@ pulls-front n m c low =
     let all = ap (λ l. length (record_text l None)) (replicate-append-replicate n (m - n) c ∙ ap (λ k. replicate k c) sum) in
     let front = front-shorter (replicate n c) (replicate (m - n) c) in
     omega (arith, all, front)
+
+-- the commands of some packets, and whether one has no length
+pub sends-mapped : {X : Type 0} (f : X → CPacket) (xs : List X) → map (λ x. send_of (f x)) xs ≡ map send_of (map f xs)
+sends-mapped f [] = refl
+sends-mapped f (x ∷ xs) = ap (λ l. send_of (f x) ∷ l) (sends-mapped f xs)
+
+pub lack-mapped : {X : Type 0} (f : X → CPacket) (xs : List X) → list_any (λ x. lacks_length (f x)) xs ≡ list_any lacks_length (map f xs)
+lack-mapped f [] = refl
+lack-mapped f (x ∷ xs) = ap (λ b. lacks_length (f x) || b) (lack-mapped f xs)

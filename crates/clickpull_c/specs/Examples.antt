@@ -103,3 +103,10 @@ line_room = replicate 12 0
 
 abbrev pub line_added : List ℕ
 line_added = a_line ++ replicate 3 0
+
+-- the packet of this line, and one without a length
+abbrev pub a_packet : List CPacket
+a_packet = record { number = 0; sender = 0; length = 7 } ∷ []
+
+abbrev pub no_length : List CPacket
+no_length = record { number = 0; sender = 0; length = 0 } ∷ []

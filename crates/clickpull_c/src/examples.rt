@@ -7,10 +7,10 @@ ghost use Rattle.clk_inlet.specs.declared.inlet.Inlet.{Inlet};
 ghost use Rattle.clickpull_c.specs.Answers.{RefusesOffer};
 ghost use Rattle.clickpull_c.specs.Calls.{IsDrained, IsPulledOften};
 ghost use Rattle.clickpull_c.specs.Explains.{TellsFault, opening_fault, opening_faults};
-ghost use Rattle.clickpull_c.specs.Recording.{AddsLines};
+ghost use Rattle.clickpull_c.specs.Recording.{AddsLines, AddsSends};
 ghost use Rattle.clickpull_c.specs.Values.{fault_in_c};
 ghost use Rattle.clickpull_c.specs.Inlets.{Accepts, AcceptsMany, EndsBatch, RefusesPacket};
-ghost use Rattle.clickpull_c.specs.Examples.{fresh, fresh_pulled, one_waits, one_out, one_out_pulled, two_wait, first_out, first_out_pulled, packet_before, packet_filled, departure_before, departure_filled, one_item, too_long, a_line, line_room, line_added};
+ghost use Rattle.clickpull_c.specs.Examples.{fresh, fresh_pulled, one_waits, one_out, one_out_pulled, two_wait, first_out, first_out_pulled, packet_before, packet_filled, departure_before, departure_filled, one_item, too_long, a_line, line_room, line_added, a_packet, no_length};
 ghost use Rattle.clickpull_c.specs.declared.statuses.TheConstants.{OK, NONE, AT_END, BAD_LENGTH, UNKNOWN_SENDER, FULL};
 
 /// A drain makes no pull if nothing is left, and none once its one place is filled, though it may make five pulls. Pulls at one moment end
@@ -52,7 +52,7 @@ pub fn inlet_examples()
 {}
 
 /// A line is added to a record only if it stands there and is counted, is left out only if it doesn't fit or may not follow, and whether it
-/// may is tested first.
+/// may is tested first. Before that, a packet without a length is told.
 pub fn record_examples()
     ensures adds { AddsLines a_line 1 None line_room line_added 0 9 0 1 OK }
     ensures not_unwritten { ¬ (AddsLines a_line 1 None line_room line_room 0 9 0 1 OK) }
@@ -65,6 +65,10 @@ pub fn record_examples()
     ensures long { AddsLines a_line 1 None line_room line_room 0 0 1000000 1000000 AT_END }
     ensures not_long { ¬ (AddsLines a_line 1 None line_room line_room 0 0 999999 999999 AT_END) }
     ensures not_full_first { ¬ (AddsLines a_line 1 (Some 1099511627776) line_room line_room 4 4 0 0 FULL) }
+    ensures no_length { AddsSends no_length line_room line_room 0 0 1000000 1000000 BAD_LENGTH }
+    ensures not_sent { ¬ (AddsSends no_length line_room line_added 0 9 0 1 OK) }
+    ensures not_at_end_first { ¬ (AddsSends no_length line_room line_room 0 0 1000000 1000000 AT_END) }
+    ensures not_without_length { ¬ (AddsSends a_packet line_room line_room 0 0 0 0 BAD_LENGTH) }
 {}
 
 /// Each fault that opening a router can have is known by what C sees of it, and a number that no opening has is none. An explanation has

@@ -1,12 +1,13 @@
 //! Lines are added to a record: the script of what a router did, at the front of a text of the caller's.
 
 ghost use Rattle.std.specs.Prelude.{◌≡◌, ◌<◌, ◌+◌, length, map, replicate, [], true, false, Some, None, IfSome};
+ghost use Rattle.std.specs.List.{list_any};
 ghost use Rattle.clk_script.specs.Record.{command_text, record_text};
 ghost use Rattle.clk_script.specs.declared.script.Command.TheVariants.{Pull};
-ghost use Rattle.clickpull_c.specs.Recording.{AddsLines, IsAdded, MayGoOn, send_of};
+ghost use Rattle.clickpull_c.specs.Recording.{AddsLines, AddsSends, IsAdded, MayGoOn, lacks_length, send_of};
 
 use crate::live::CTaken;
-use crate::statuses::{AT_END, FULL, OK};
+use crate::statuses::{AT_END, BAD_LENGTH, FULL, OK};
 use crate::values::{COffered, CPacket};
 use clk_script::{COMMAND_ROOM, Command, MAX_LINES, MAX_MOMENT, command_line, drain_line};
 
@@ -49,9 +50,9 @@ pub extern "C" fn clk_raw_record_offered(
     used: &mut usize,
     lines: &mut u32,
 ) -> u32
-    ensures answer { AddsLines (record_text (map (λ o. send_of o.packet) offered.now) None) (length offered.now) None text.old text.new used.old used.new lines.old lines.new result }
+    ensures answer { AddsSends (map (λ o. o.packet) offered.now) text.old text.new used.old used.new lines.old lines.new result }
 {
-    add_sends(offered, text, used, lines)
+    add_packets(offered, text, used, lines)
 }
 
 /// Adds the lines of packets that were taken from inlets, behind the bytes of the text that are used.
@@ -62,9 +63,9 @@ pub extern "C" fn clk_raw_record_taken(
     used: &mut usize,
     lines: &mut u32,
 ) -> u32
-    ensures answer { AddsLines (record_text (map (λ t. send_of t.packet) taken.now) None) (length taken.now) None text.old text.new used.old used.new lines.old lines.new result }
+    ensures answer { AddsSends (map (λ t. t.packet) taken.now) text.old text.new used.old used.new lines.old lines.new result }
 {
-    add_sends(taken, text, used, lines)
+    add_packets(taken, text, used, lines)
 }
 
 /// Adds the lines of so many pulls of the device with this number, each at this moment in ticks, behind the bytes of the text that are
@@ -122,6 +123,23 @@ pub extern "C" fn clk_raw_record_drain(
     *used = end;
     *lines += 1;
     OK
+}
+
+// Adds the lines of packets that were offered, if each has a length.
+fn add_packets<S: Sent>(sent: &[S], text: &mut [u8], used: &mut usize, lines: &mut u32) -> u32
+    ensures { AddsSends (map (λ s. S.Sent.packet s) sent.now) text.old text.new used.old used.new lines.old lines.new result }
+{
+    if lack_length(sent) {
+        return BAD_LENGTH;
+    }
+    add_sends(sent, text, used, lines)
+}
+
+// Whether one of these packets has no length.
+fn lack_length<S: Sent>(sent: &[S]) -> bool
+    ensures { result ≡ list_any (λ s. lacks_length (S.Sent.packet s)) sent.now }
+{
+    sent.iter().any(|it| it.packet().length == 0)
 }
 
 // Adds the lines of packets that were offered.

@@ -1,6 +1,9 @@
-use Rattle.std.proofs.Common.{◌≡◌, ℕ, ◌+◌, ◌<◌, List, length, Option, refl, arith}
-use Rattle.clickpull_c.specs.Recording.{AddsLines, IsAdded, MayGoOn, added, full, at_end}
-use Rattle.clickpull_c.specs.declared.statuses.TheConstants.{OK, FULL, AT_END}
+use Rattle.std.proofs.Common.{◌≡◌, ℕ, ◌+◌, ◌<◌, true, false, List, length, Option, refl, arith}
+use Rattle.std.proofs.lemmas.Bool.{true≢false, false≢true}
+use Rattle.std.specs.List.{list_any}
+use Rattle.clickpull_c.specs.declared.values.CPacket.{CPacket}
+use Rattle.clickpull_c.specs.Recording.{AddsLines, AddsSends, IsAdded, MayGoOn, added, full, at_end, bad_length, adds, lacks_length}
+use Rattle.clickpull_c.specs.declared.statuses.TheConstants.{OK, FULL, AT_END, BAD_LENGTH}
 use Rattle.clickpull_c.proofs.examples.record_examples.Goals as goal
 
 -- a call that returns OK has added its lines
@@ -20,6 +23,17 @@ when-at-end : {bytes before after : List ℕ} {count used used' lines lines' : �
 when-at-end (added e may its counted) = absurd (omega (arith, e))
 when-at-end (full e may long same end lines) = absurd (omega (arith, e))
 when-at-end (at_end e may same end lines) = may
+
+-- a call that returns another status than BAD_LENGTH has packets with lengths, and one that returns it has one without
+when-other : {packets : List CPacket} {before after : List ℕ} {used used' lines lines' status : ℕ} → AddsSends packets before after used used' lines lines' status → (status ≡ BAD_LENGTH → ⊥) → list_any lacks_length packets ≡ false
+when-other (bad_length e lacks same end lines) not_bad = absurd (not_bad e)
+when-other (adds fine its) not_bad = fine
+
+when-bad : {packets : List CPacket} {before after : List ℕ} {used used' lines lines' : ℕ} → AddsSends packets before after used used' lines lines' BAD_LENGTH → list_any lacks_length packets ≡ true
+when-bad (bad_length e lacks same end lines) = lacks
+when-bad (adds fine (added e may its counted)) = absurd (omega (arith, e))
+when-bad (adds fine (full e may long same end lines)) = absurd (omega (arith, e))
+when-bad (adds fine (at_end e may same end lines)) = absurd (omega (arith, e))
 
 pub returns-clause-adds : goal.returns-clause-adds
 returns-clause-adds c = added refl (record { few = omega arith; early = tt }) (record { is = refl; end_is = refl; within = omega arith }) refl
@@ -53,3 +67,15 @@ returns-clause-not_long c = λ h. when-at-end h (record { few = omega arith; ear
 
 pub returns-clause-not_full_first : goal.returns-clause-not_full_first
 returns-clause-not_full_first c = λ h. let early = (when-full h).0.early in omega (arith, early)
+
+pub returns-clause-no_length : goal.returns-clause-no_length
+returns-clause-no_length c = bad_length refl refl refl refl refl
+
+pub returns-clause-not_sent : goal.returns-clause-not_sent
+returns-clause-not_sent c = λ h. true≢false (when-other h (λ e. omega (arith, e)))
+
+pub returns-clause-not_at_end_first : goal.returns-clause-not_at_end_first
+returns-clause-not_at_end_first c = λ h. true≢false (when-other h (λ e. omega (arith, e)))
+
+pub returns-clause-not_without_length : goal.returns-clause-not_without_length
+returns-clause-not_without_length c = λ h. false≢true (when-bad h)
