@@ -436,6 +436,8 @@ public:
     // Pulls the device up to `count` times at this moment, up to the first pull that emits none. Hands each packet to `each`, and returns
     // how many were emitted. If `each` throws, no packet is held back.
     template <class Each> std::size_t pull_many(std::uint16_t device, std::uint64_t moment, std::size_t count, Each &&each) {
+        if (count == 0)
+            return router_.pull_many(device, moment, nullptr, 0); // throws as a pull does
         return detail::pull_each(count, [&] { return pull(device, moment); }, each);
     }
 

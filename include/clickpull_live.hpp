@@ -240,6 +240,9 @@ public:
     // Pulls the device up to `count` times at this moment, up to the first pull that emits none. Hands each packet to `each`, as an
     // Emitted, and returns how many were emitted. If `each` throws, no more pulls are made.
     template <class Each> std::size_t pull_many(std::uint16_t device, std::uint64_t moment, std::size_t count, Each &&each) {
+        std::size_t none = 0;
+        if (count == 0)
+            detail::is_none(clk_live_pull_many(live_.c(), device, moment, nullptr, 0, &none)); // throws as a pull does
         return detail::pull_each(count, [&] { return pull(device, moment); }, each);
     }
 

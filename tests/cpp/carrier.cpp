@@ -58,6 +58,8 @@ static void what_cannot_be_offered_leaves_no_value() {
     CHECK(carrier.kept(0) == 0);
     Carrier<int> other(std::move(carrier));
     CHECK(thrown_by([&] { (void)carrier.offer(0, 1, 5); }) == CLK_SHUT);
+    CHECK(thrown_by([&] { carrier.pull_many(0, 0, 0, [](const auto &) {}); }) == CLK_SHUT);
+    CHECK(thrown_by([&] { other.pull_many(1, 0, 0, [](const auto &) {}); }) == CLK_UNKNOWN_DEVICE);
     CHECK(other.offer(0, 1, 6).accepted() && other.pull(0, 0)->value == 6);
 }
 

@@ -105,6 +105,7 @@ static void both_halves_move() {
     CHECK(!inlet.is_open() && moved.is_open() && !one.is_open() && live.is_open());
     CHECK(thrown_by([&] { (void)inlet.offer(1, Counted(9)); }) == CLK_SHUT);
     CHECK(thrown_by([&] { one.take_in(1, 1, ignore); }) == CLK_SHUT);
+    CHECK(thrown_by([&] { one.pull_many(0, 0, 0, [](const auto &) {}); }) == CLK_SHUT);
     CHECK(thrown_by([&] { (void)one.inlet(4); }) == CLK_SHUT);
     asking_throws(CLK_SHUT, one);
     offer(moved, 2);
@@ -376,6 +377,7 @@ static void a_router_is_given_up() {
     } catch (int) {
         CHECK(thrown_by([&] { (void)live.pull(0, 0); }) == CLK_RECLAIMED);
         CHECK(thrown_by([&] { live.take_in(1, 1, ignore); }) == CLK_RECLAIMED);
+        CHECK(thrown_by([&] { live.pull_many(0, 0, 0, [](const auto &) {}); }) == CLK_RECLAIMED);
         CHECK(thrown_by([&] { (void)live.inlet(0); }) == CLK_RECLAIMED);
         asking_throws(CLK_RECLAIMED, live);
     }
