@@ -3,7 +3,7 @@ from collections.abc import Callable, Iterator
 from dataclasses import dataclass
 from threading import RLock
 from types import TracebackType
-from typing import Generic, TypeVar
+from typing import Generic, NoReturn, TypeVar
 
 from clickpull import library
 from clickpull.errors import Error, UnknownDevice, UnknownSender
@@ -99,6 +99,9 @@ class Carrier(Generic[T]):
 
     def __exit__(self, kind: type[BaseException] | None, error: BaseException | None, trace: TracebackType | None) -> None:
         self.close()
+
+    def __reduce__(self) -> NoReturn:
+        raise TypeError("a carrier can't be copied")
 
     def offer(self, sender: int, length: int, value: T) -> Offer[T]:
         """The sender offers its next packet, of `length` bytes, with this value."""

@@ -15,7 +15,9 @@ import interrupts
 from clickpull import (
     END_OF_MOMENTS,
     AtEnd,
+    Carrier,
     Departure,
+    Dispatcher,
     Error,
     BadLength,
     Outcome,
@@ -235,12 +237,13 @@ def test_a_shut_router() -> None:
             call()
 
 
-def test_a_router_is_not_copied() -> None:
-    with Router(ONE) as router:
-        calls: list[Callable[[Router], object]] = [copy.copy, copy.deepcopy, pickle.dumps]
-        for call in calls:
-            with pytest.raises(TypeError):
-                call(router)
+@pytest.mark.parametrize("kind", [Router, Carrier[int], Dispatcher[int]])
+def test_a_router_is_not_copied(kind: Callable[[str], object]) -> None:
+    it = kind(ONE)
+    calls: list[Callable[[object], object]] = [copy.copy, copy.deepcopy, pickle.dumps]
+    for call in calls:
+        with pytest.raises(TypeError, match="can't be copied$"):
+            call(it)
 
 
 def test_threads_may_share_a_router() -> None:
