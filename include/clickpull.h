@@ -749,7 +749,8 @@ CLK_API clk_status clk_inlet_close(clk_inlet *inlet) {
  * holder of each still closes it. Tokens that wait in the inlets don't come back. So close the inlets first, take what is in them, and then
  * close the router.
  *
- * No call waits, and no call but clk_live_open allocates memory.
+ * No call waits, and no call but clk_live_open allocates memory. clk_live_take_in, clk_live_take_what_fits and clk_live_ended may look at
+ * each sender, clk_live_drained at each device, and clk_live_due at what stands below its device: at 256 elements at most.
  *
  * SLEEPING. The library wakes nobody. An owner that finds nothing may pause, or sleep until a sender wakes it; the caller writes that part.
  * If the owner sleeps, keep this order, or a wake-up can be lost:
@@ -1089,7 +1090,7 @@ CLK_API clk_status clk_live_queue_at(const clk_live *live, uint16_t number, clk_
  * Unless it is CLK_OK, `used` and `lines` are as before. No call allocates memory. */
 
 /* Adds the lines of `count` packets that were offered, as clk_offer and clk_offer_many filled them in. `offered` may be null where `count` is
- * 0. */
+ * 0. Also returns CLK_BAD_LENGTH, if a packet's length is 0: it was never offered. */
 CLK_API clk_status clk_record_offered(clk_record *record, const clk_offered *offered, size_t count) {
     clk_offered unused = {{0, 0, 0}, {0, 0, 0}, 0};
     if (!record || !record->text || (count != 0 && !offered))
@@ -1099,7 +1100,7 @@ CLK_API clk_status clk_record_offered(clk_record *record, const clk_offered *off
 }
 
 /* Adds the lines of `count` packets that were taken, as clk_live_take, clk_live_take_in and clk_live_take_what_fits filled them in. `taken`
- * may be null where `count` is 0. */
+ * may be null where `count` is 0. Also returns CLK_BAD_LENGTH, if a packet's length is 0: it was never taken. */
 CLK_API clk_status clk_record_taken(clk_record *record, const clk_taken *taken, size_t count) {
     clk_taken unused = {{0, 0, 0}, 0, {0, 0, 0}, 0, 0};
     if (!record || !record->text || (count != 0 && !taken))
