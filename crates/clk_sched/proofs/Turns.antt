@@ -8,6 +8,7 @@ pub mod TurnShaper
 pub mod ShaperRow
 pub mod LooksDrr
 pub mod TurnDrr
+pub mod FirstLook
 pub mod PastIdle
 pub mod RestDrr
 pub mod Resting

@@ -48,7 +48,8 @@ pub fn closing_bound_is_enough()
     ensures { (tree : _) → IsSound (root tree) → leaves_distinct tree ≡ true → BoundIsEnough tree }
 {}
 
-/// No pull of a run emits a packet at a moment at which none could be emitted, as things stood.
+/// No pull of a run emits a packet at a moment at which none could be emitted, as things stood, if it gets packets from backlogged queues
+/// alone.
 pub fn pulls_emit_once_due()
     ensures { (tree : _) → EmitsOnceDue tree }
 {}

@@ -50,7 +50,7 @@ pub struct Session {
 }
 
 impl Model for Session {
-    ghost use Rattle.std.specs.Prelude.{◌≡◌, ◌<◌, ◌≤◌, true, drop, length};
+    ghost use Rattle.std.specs.Prelude.{◌≡◌, ◌<◌, ◌≤◌, true, false, [], drop, length};
     ghost use Rattle.clk_sched.specs.declared.limits.TheConstants.{END_OF_MOMENTS};
     ghost use Rattle.clk_sched.specs.Tree.{leaves_distinct};
     ghost use Rattle.clk_sched.specs.inside.Places.{edges_of};
@@ -75,7 +75,8 @@ impl Model for Session {
         × (s.emitted.keeps ≡ true → s.emitted.packets.items ≡ emitted_in s.nodes.log.items)
         × (s.emitted.count ≡ length (emitted_in s.nodes.log.items)) × (s.emitted.count ≤ s.nodes.pull)
         × (drop s.nodes.log.kind.start s.nodes.log.items ≡ latest_pull s.nodes.log.items)
-        × (s.nodes.log.kind.latest ≡ true → edges_of s.nodes.inputs.items 0 ≤ s.nodes.log.kind.room) };
+        × (s.nodes.log.kind.latest ≡ true → edges_of s.nodes.inputs.items 0 ≤ s.nodes.log.kind.room)
+        × (s.emitted.keeps ≡ false → s.emitted.packets.items ≡ []) };
 }
 
 impl Session {
@@ -94,7 +95,7 @@ impl Session {
     ghost use Rattle.clk_sched.specs.Session.{IsPulledOnce, counted_moment, elements, latest_pull, newly, progress_of, pulls_made};
     ghost use Rattle.clk_sched.specs.Departures.{departures_in, pulls_since, IsAddedTo};
     ghost use Rattle.clk_sched.specs.declared.session.departures.Departures.TheVariants.{Dropped};
-    ghost use Rattle.clk_sched.specs.Keeps.{grows, keeps_all, keeps_visits};
+    ghost use Rattle.clk_sched.specs.Keeps.{grows, keeps_all, keeps_emitted, keeps_visits};
     ghost use Rattle.clk_sched.specs.Due.{IsDue, tree_could_emit};
 
     /// A session of this tree, in which no queue stands twice, before its first pull. It keeps every visit and every packet that the device
@@ -284,18 +285,21 @@ impl Session {
         self.nodes.log.let_go();
     }
 
-    /// The visits that are kept as a list, in order: all but those that were dropped. All visits, kept or not, are a run of the tree.
+    /// The visits that are kept as a list, in order: all but those that were dropped, or none if they aren't kept. All visits, kept or not, are
+    /// a run of the tree.
     pub fn log(&self) -> &[Visit]
         ensures visits { self.now.keeps.visits ≡ true → result.now ≡ drop self.now.gone self.now.log }
+        ensures none { self.now.keeps.visits ≡ false → result.now ≡ [] }
         ensures run { IsRun self.now.tree self.now.log }
         ensures distinct { leaves_distinct self.now.tree ≡ true }
     {
         self.nodes.log.kept()
     }
 
-    /// The visits of the latest pull, in order, if these are kept. There are none before the first pull.
+    /// The visits of the latest pull, in order, if these are kept, and else none. There are none before the first pull.
     pub fn latest(&self) -> &[Visit]
-        ensures { self.now.keeps.latest ≡ true → result.now ≡ latest_pull self.now.log }
+        ensures visits { self.now.keeps.latest ≡ true → result.now ≡ latest_pull self.now.log }
+        ensures none { self.now.keeps.latest ≡ false → result.now ≡ [] }
     {
         self.nodes.log.latest()
     }
@@ -315,23 +319,25 @@ impl Session {
         self.nodes.pull
     }
 
-    /// The packets emitted at the device, in order, if they are kept.
+    /// The packets emitted at the device, in order, if they are kept, and else none.
     ///
     /// # Errors
     ///
     /// Fault 1 if an allocation fails.
     pub fn emitted(&self, alloc: Global) -> Result<Vec<Packet>, Fault>
         ensures packets { self.now.keeps.packets ≡ true → IfOk result (λ packets. packets.items ≡ emitted self.now.log) }
+        ensures none { self.now.keeps.packets ≡ false → IfOk result (λ packets. packets.items ≡ []) }
         ensures fault { IsOkUnless result Fault.Memory }
     {
         Ok(self.as_emitted().to_vec(alloc)?)
     }
 
-    /// The packets emitted at the device, in order, if they are kept, as the session keeps them.
+    /// The packets emitted at the device, in order, if they are kept, and else none, as the session keeps them.
     pub fn as_emitted(&self) -> &[Packet]
-        ensures { self.now.keeps.packets ≡ true → result.now ≡ emitted self.now.log }
+        ensures packets { self.now.keeps.packets ≡ true → result.now ≡ emitted self.now.log }
+        ensures none { self.now.keeps.packets ≡ false → result.now ≡ [] }
     {
-        // Reading a field brings the type invariant into scope: what is kept is what was emitted.
+        // Reading a field brings the type invariant into scope: what is kept is what was emitted, or nothing.
         let _ = &self.nodes;
         self.emitted.packets.as_slice()
     }
@@ -348,7 +354,9 @@ impl Session {
     /// The visits that are kept as a list, and the packets emitted at the device that are kept, in order. Does not allocate.
     pub fn into_parts(self) -> (Vec<Visit>, Vec<Packet>)
         ensures log { self.keeps.visits ≡ true → result.0.items ≡ drop self.gone self.log }
+        ensures no_log { self.keeps.visits ≡ false → result.0.items ≡ [] }
         ensures emitted { self.keeps.packets ≡ true → result.1.items ≡ emitted self.log }
+        ensures none_emitted { self.keeps.packets ≡ false → result.1.items ≡ [] }
     {
         let Session { nodes, emitted, .. } = self;
         (nodes.log.into_kept(), emitted.packets)
@@ -362,8 +370,10 @@ impl Session {
     /// Fault 1 if an allocation fails. A session that keeps its packets allocates nothing, and never fails.
     pub fn into_packed(self, alloc: Global) -> Result<(PackedLog, Vec<Packet>), Fault>
         ensures log { IfOk result (λ parts. keeps_visits self.keeps ≡ true → logged parts.0 ≡ drop self.gone self.log) }
+        ensures no_log { IfOk result (λ parts. keeps_visits self.keeps ≡ false → logged parts.0 ≡ []) }
         ensures emitted { IfOk result (λ parts. self.keeps.packets ≡ true → parts.1.items ≡ emitted self.log) }
         ensures told { IfOk result (λ parts. keeps_visits self.keeps ≡ true → self.gone ≡ 0 → parts.1.items ≡ emitted self.log) }
+        ensures untold { IfOk result (λ parts. keeps_emitted self.keeps ≡ false → parts.1.items ≡ []) }
         ensures fault { IsOkUnless result Fault.Memory }
         ensures takes_none { self.keeps.packets ≡ true → IsOk result }
     {

@@ -54,6 +54,7 @@ impl EmittedPackets {
         requires room { self.old.keeps ≡ true → vec_len self.old.packets < vec_capacity self.old.packets }
         requires few { self.old.count + 1 < 2 ^ 64 }
         ensures packets { self.old.keeps ≡ true → self.new.packets.items ≡ self.old.packets.items ++ cons_option got [] }
+        ensures unkept { self.old.keeps ≡ false → self.new.packets.items ≡ self.old.packets.items }
         ensures keeps { self.new.keeps ≡ self.old.keeps }
         ensures count { self.new.count ≡ self.old.count + length (cons_option got []) }
     {

@@ -29,7 +29,7 @@ pub struct Log {
 }
 
 impl Model for Log {
-    ghost use Rattle.std.specs.Prelude.{◌≡◌, ◌+◌, ◌≤◌, ◌||◌, true, drop, length};
+    ghost use Rattle.std.specs.Prelude.{◌≡◌, ◌+◌, ◌≤◌, ◌||◌, true, false, [], drop, length};
     ghost use Rattle.std.specs.Vec.{vec_len, vec_capacity};
     ghost use Rattle.clk_sched.specs.Packed.{logged, HasRoomFor};
     ghost use Rattle.clk_sched.specs.inside.Logged.{Logged};
@@ -47,7 +47,9 @@ impl Model for Log {
         × (l.packs ≡ true → (logged l.packed ≡ drop l.all.gone l.all.items) × HasRoomFor l.all.spare l.packed)
         × (l.all.start ≤ length l.all.items)
         × (l.keeps_latest ≡ true → (l.latest.items ≡ drop l.all.start l.all.items) × (vec_len l.latest + l.all.spare ≤ vec_capacity l.latest))
-        × (l.keeps_any ≡ (l.keeps || (l.packs || l.keeps_latest))) };
+        × (l.keeps_any ≡ (l.keeps || (l.packs || l.keeps_latest)))
+        × (l.keeps ≡ false → l.kept.items ≡ [])
+        × (l.keeps_latest ≡ false → l.latest.items ≡ []) };
 }
 
 impl Log {
@@ -226,31 +228,35 @@ impl Log {
         self.all.let_go();
     }
 
-    /// The visits that are kept as a list, in order.
+    /// The visits that are kept as a list, in order: none if they aren't.
     pub fn kept(&self) -> &[Visit]
-        ensures { self.now.kind.keeps ≡ true → result.now ≡ drop self.now.kind.gone self.now.items }
+        ensures kept { self.now.kind.keeps ≡ true → result.now ≡ drop self.now.kind.gone self.now.items }
+        ensures none { self.now.kind.keeps ≡ false → result.now ≡ [] }
     {
         self.kept.as_slice()
     }
 
-    /// The visits of the latest pull, if these are kept.
+    /// The visits of the latest pull, if these are kept, and else none.
     pub fn latest(&self) -> &[Visit]
-        ensures { self.now.kind.latest ≡ true → result.now ≡ drop self.now.kind.start self.now.items }
+        ensures kept { self.now.kind.latest ≡ true → result.now ≡ drop self.now.kind.start self.now.items }
+        ensures none { self.now.kind.latest ≡ false → result.now ≡ [] }
     {
         self.latest.as_slice()
     }
 
-    /// The visits that are kept as a list, in order. Does not allocate.
+    /// The visits that are kept as a list, in order: none if they aren't. Does not allocate.
     pub fn into_kept(self) -> Vec<Visit>
-        ensures { self.kind.keeps ≡ true → result.items ≡ drop self.kind.gone self.items }
+        ensures kept { self.kind.keeps ≡ true → result.items ≡ drop self.kind.gone self.items }
+        ensures none { self.kind.keeps ≡ false → result.items ≡ [] }
     {
         let Log { kept, .. } = self;
         kept
     }
 
-    /// The visits that are kept, in order, packed if they are kept packed. Does not allocate.
+    /// The visits that are kept, in order, packed if they are kept packed: none if they aren't. Does not allocate.
     pub fn into_packed(self, alloc: Global) -> PackedLog
-        ensures { self.kind.keeps || self.kind.packs ≡ true → logged result ≡ drop self.kind.gone self.items }
+        ensures kept { self.kind.keeps || self.kind.packs ≡ true → logged result ≡ drop self.kind.gone self.items }
+        ensures none { self.kind.keeps || self.kind.packs ≡ false → logged result ≡ [] }
     {
         let Log {
             kept,
@@ -300,6 +306,7 @@ fn reserve_packed(packed: &mut PackedLog, packs: bool, visits: usize) -> Result<
 fn keep(kept: &mut Vec<Visit>, keeps: bool, visit: Visit)
     requires { keeps ≡ true → vec_len kept.old < vec_capacity kept.old }
     ensures items { keeps ≡ true → kept.new.items ≡ kept.old.items ++ visit ∷ [] }
+    ensures unkept { keeps ≡ false → kept.new.items ≡ kept.old.items }
     ensures len { keeps ≡ true → vec_len kept.new ≡ vec_len kept.old + 1 }
     ensures capacity { vec_capacity kept.new ≡ vec_capacity kept.old }
 {

@@ -36,6 +36,8 @@ invariant_of-self-2 g c =
       subst (λ k. drop k.start n.log.items ≡ latest_pull n.log.items) (sym kind) (is-latest (progress tree a) (progress tree b) c.args.moment got gone.once),
       (λ latest. let room = c.self.invariant.7 (sym (ap (λ k. k.latest) kind) ∙ latest) in let more = ap (λ k. k.room) kind in let edges = ap (λ t. edges_of t 0) c.pull_device-got.ensures.keeps.inputs in
           omega (arith, room, more, edges)),
+      (λ unkept. let stays = sym c.add.ensures.keeps ∙ unkept in
+          c.add.ensures.unkept stays ∙ c.reserve.ensures.packets ∙ c.self.invariant.8 (sym c.reserve.ensures.keeps ∙ stays)),
     )
 
 pub returns-clause-pulled : goal.returns-clause-pulled

@@ -10,4 +10,6 @@ invariant_of-self-in_err-reserve_packed c = (
   c.self.invariant.3,
   c.self.invariant.4,
   c.self.invariant.5,
+  (λ keeps. c.reserve_kept.ensures.items ∙ c.self.invariant.6 keeps),
+  c.self.invariant.7,
 )

@@ -15,4 +15,6 @@ invariant_of-self c =
       c.self.invariant.3,
       c.self.invariant.4,
       c.self.invariant.5,
+      (λ keeps. c.clear.ensures.items),
+      c.self.invariant.7,
     )
