@@ -4,15 +4,15 @@ use Rattle.std.specs.Option.{option_map}
 use Rattle.std.specs.List.{AllByRecursion, list_any}
 use Rattle.std.proofs.lemmas.List.{length-map}
 use Rattle.std.proofs.lemmas.Option.{slice_get-map, slice_get_within, slice_get_read}
-use Rattle.clk_sched.specs.Session.{counted_moment, progress_of}
+use Rattle.clk_sched.specs.Session.{counted_moment, progress_of, pulls_made}
 use Rattle.clk_tree.specs.PlanParts.{SendsWithin, number_of}
 use Rattle.clk_router.specs.declared.senders.Sender.{Sender}
 use Rattle.clk_router.specs.declared.devices.RouterDevice.{RouterDevice}
 use Rattle.clk_router.specs.declared.parts.Parts.{Parts}
-use Rattle.clk_router.specs.Course.{sender_at, device_at, its_device, room_device, moment_at, CanOffer}
+use Rattle.clk_router.specs.Course.{sender_at, device_at, its_device, room_device, moment_at, pulls_at, CanOffer}
 use Rattle.clk_router.specs.Events.{Setup, Event, numbers_of}
 use Rattle.clk_router.specs.inside.Parts.{HasSentFew, Stand}
-use Rattle.clk_router.proofs.ClosingLemmas.{its-latest}
+use Rattle.clk_router.proofs.ClosingLemmas.{its-latest, its-pulls}
 use Rattle.clk_router.proofs.NeverFull.{never-full}
 use Rattle.clk_router.proofs.PartsLemmas.{all-there, IsHere, device-here}
 use Rattle.clk_router.proofs.SenderLemmas.{IsSpecAt, spec-at}
@@ -35,6 +35,9 @@ module _ (setup : Setup) (events : List Event) (parts : Parts) (stand : Stand se
 
     pub moment-is : counted_moment (progress_of its.session) ≡ moment_at (course setup events parts) d
     moment-is = its-latest setup events d its there
+
+    pub pulls-is : pulls_made (progress_of its.session) ≡ pulls_at (course setup events parts) d
+    pulls-is = its-pulls setup events d its there
 
   -- a sender that is there
   module _ (place : ℕ) (s : Sender) (here : slice_get parts.senders.items place ≡ Some s) where

@@ -1,8 +1,8 @@
 -- How a device of a router closes.
-use Rattle.std.proofs.Common.{◌≡◌, ℕ, ◌+◌, ◌<◌, ◌==◌, zero, suc, Bool, true, false, List, [], ◌∷◌, ◌++◌, length, drop, map, reverse, max, fold, append-nil, Option, Some, MatchOption, slice_get, refl, sym, ap, ap₂, ◌∙◌, subst, arith}
+use Rattle.std.proofs.Common.{◌≡◌, ℕ, ◌+◌, ◌<◌, ◌==◌, zero, suc, Bool, true, false, List, [], ◌∷◌, ◌++◌, length, drop, map, reverse, max, fold, append-nil, length-append, ◌≤◌, Result, Ok, Err, OnErr, Option, Some, None, MatchOption, slice_get, refl, sym, ap, ap₂, ◌∙◌, subst, arith}
 use Rattle.std.specs.Bool.{⊤}
 use Rattle.std.specs.List.{filter_map, flat_map, range_with_len, AllByRecursion}
-use Rattle.std.proofs.lemmas.List.Elements.{filter-append}
+use Rattle.std.proofs.lemmas.List.Elements.{filter-append, filter_map-append}
 use Rattle.std.proofs.Math.Seq.{drop-append_seam}
 use Rattle.std.proofs.lemmas.List.Concat.{flat_map-append}
 use Rattle.std.proofs.lemmas.Option.{slice_get_within}
@@ -15,21 +15,37 @@ use Rattle.clk_sched.specs.Log.{pulls, moment_of}
 use Rattle.clk_sched.specs.Run.{IsRun}
 use Rattle.clk_sched.specs.Answers.{Answers, tree_queue}
 use Rattle.clk_sched.specs.Results.{emitted}
-use Rattle.clk_sched.specs.Drain.{GivesAll}
-use Rattle.clk_sched.specs.Session.{given_in, IsDrained, newly, latest_moment, counted_moment, progress_of}
+use Rattle.clk_sched.specs.Bound.{closing_bound}
+use Rattle.clk_sched.specs.Drain as drain
+use Rattle.clk_sched.specs.Drain.{GivesAll, HasDrained, after_pulls, drain_start}
+use Rattle.clk_sched.specs.Session.{given_in, IsDrained, SessionLists, newly, latest_moment, counted_moment, progress_of, pulls_made}
+use Rattle.clk_packet.specs.declared.packet.Packet.{Packet}
+use Rattle.clk_packet.specs.declared.fault.Fault.{Fault}
+use Rattle.clk_packet.specs.declared.fault.Fault.TheVariants.{Memory, TooManyPulls}
+use Rattle.clk_router.specs.inside.Past.{made_shown}
+use Rattle.clk_router.proofs.Callers.Emitted.{its-given}
 use Rattle.clk_sched.specs.Departures.{departures_in, pulls_since}
 use Rattle.clk_sched.specs.declared.session.departures.Departure.{Departure}
 use Rattle.clk_router.specs.declared.devices.RouterDevice.{RouterDevice}
 use Rattle.clk_router.specs.declared.parts.Parts.{Parts}
-use Rattle.clk_router.specs.Events.{Setup, Event, pulled, happens_at, events_at, moment_in, accepted_in, evicted_in, visits_in, log_of, at_queue, history, RunsTree, closing_pulls}
-use Rattle.clk_router.specs.inside.Parts.{AreQueuesAt, IsDeviceAt, AreDevicesAt, KeepsAsAt, HasSentFew, IsAt, CanPullAt, CanCloseAt, LeadsOnByPulls, ClosesBy}
-use Rattle.clk_router.proofs.Callers.Events.{events-pulls, pulls-elsewhere, pulls-log, pulls-add_none, pulls-history, latest-moment, RunsTree-pulls, CanHappen-pulls}
+use Rattle.clk_router.specs.Events.{Setup, Event, pulled, happens_at, events_at, moment_in, pull_in, accepted_in, evicted_in, emitted_in, visits_in, log_of, at_queue, history, RunsTree, closing_pulls}
+use Rattle.clk_router.specs.inside.Parts.{AreQueuesAt, IsDeviceAt, AreDevicesAt, KeepsAsAt, HasSentFew, IsAt, CanPullAt, CanCloseAt, IsAnyLeft, LeadsOnByPulls, ClosesBy, StopsBy}
+use Rattle.clk_router.proofs.Callers.Events.{events-pulls, pulls-elsewhere, pulls-log, pulls-add_none, pulls-given, pulls-history, latest-moment, RunsTree-pulls, CanHappen-pulls}
 use Rattle.clk_router.proofs.SenderLemmas.{senders-closed}
 use Rattle.clk_router.proofs.PartsLemmas.{its-history, StandAt, gives, queues-answered, IsHere, device-here, devices-same, IsSetAt, kinds-set}
+
+-- what is there is one thing
+abbrev or_else : Tree → Option Tree → Tree
+or_else t None = t
+or_else t (Some u) = u
 
 -- the moment after which the closing of a device begins
 pub its-latest : (setup : Setup) (events : List Event) (d : ℕ) (device : RouterDevice) → IsHere setup events d device → counted_moment (progress_of device.session) ≡ fold max 0 (filter_map moment_in (events_at setup d events))
 its-latest setup events d device here = ap (λ l. latest_moment (reverse (pulls l))) here.is.log ∙ latest-moment here.tree (events_at setup d events) here.runs
+
+-- how often a device was pulled
+pub its-pulls : (setup : Setup) (events : List Event) (d : ℕ) (device : RouterDevice) → IsHere setup events d device → pulls_made (progress_of device.session) ≡ length (filter_map pull_in (events_at setup d events))
+its-pulls setup events d device here = ap (λ l. length (pulls l)) here.is.log ∙ ap length here.runs.pull_by_pull
 
 -- What is accepted at a device was put out, came out before, or is left, as the device counts it.
 its-left : (setup : Setup) (events : List Event) (d : ℕ) (device : RouterDevice) → IsHere setup events d device → (left : ℕ) → length (emitted device.session.log) + left ≡ device.kept
@@ -135,6 +151,35 @@ module _ (calls : CallsAreHistory) (setup : Setup) (events : List Event) (old ne
       → new.paths ≡ old.paths → new.keeps ≡ old.keeps → LeadsOnByPulls setup new d moment events
   LeadsOnByPulls-closed answers senders numbers paths keeps =
       record { its = after; here = set.is; leads = subst (λ more. IsAt setup (events ++ closing_pulls d moment its more) new) (sym shown) (IsAt-closed answers senders numbers paths keeps) }
+
+  -- It stopped short.
+  pub stops-short : (left : ℕ) → length (emitted before.session.log) + left ≡ before.kept → made ≤ closing_bound before.session.tree left → given < left → StopsBy setup events d moment after.session
+  stops-short left counted few fewer =
+      record {
+        within = λ tree other there same.
+            let all = its-left setup events d before here left counted in
+            let one : left ≡ other = omega (arith, all, same) in
+            let trees : before.session.tree ≡ tree = here.is.tree_is ∙ ap (or_else here.tree) (sym here.its ∙ there) in
+            subst (λ n. length (made_shown setup events d after.session) ≤ n) (λ i. closing_bound (trees i) (one i)) (subst (λ n. n ≤ closing_bound before.session.tree left) (sym (ap length shown ∙ dr.made_are)) few);
+        short =
+            let all = its-left setup events d before here left counted in
+            let out : length (emitted (log_of (its ++ last))) ≡ length (emitted (log_of its)) + length (given_in dr.more) = ap length emitted-more ∙ length-append (emitted (log_of its)) (given_in dr.more) in
+            let came = dr.given_are in
+            let refused : length (filter_map evicted_in (its ++ last)) ≡ length (filter_map evicted_in its) = ap length (pulls-add_none evicted_in (λ k n visits. refl) its d start dr.more) in
+            let taken : length (filter_map accepted_in (its ++ last)) ≡ length (filter_map accepted_in its) = ap length (pulls-add_none accepted_in (λ k n visits. refl) its d start dr.more) in
+            subst (λ more. IsAnyLeft (events_at setup d (events ++ closing_pulls d moment its more))) (sym shown) (subst IsAnyLeft (sym (events-pulls setup d events start dr.more)) (omega (arith, all, out, came, refused, taken, fewer)));
+      }
+    where
+      emitted-more : emitted (log_of (its ++ last)) ≡ emitted (log_of its) ++ given_in dr.more
+      emitted-more = its-given here.tree (its ++ last) runs ∙ filter_map-append emitted_in its last ∙ ap₂ (λ l m. l ++ m) (sym (its-given here.tree its here.runs)) (pulls-given d start dr.more)
+
+-- a drain that failed stopped short
+pub failed-short : {T S R : Type 0} {gives : S → ℕ → Option Packet → S → Type 0} {holds : S → ℕ → ℕ} {before after : S} {old new : SessionLists} {left moment : ℕ} (made : ℕ) (r : Result T Fault)
+    → HasDrained gives holds before after old new left moment (after_pulls made r) → ((n : ℕ) → drain.StopsShort (progress_of old) (progress_of new) (drain_start old moment) n left → R) → OnErr r R
+failed-short made (Ok x) h step = tt
+failed-short made (Err Memory) h step = step h.short.0 h.short.1
+failed-short made (Err (TooManyPulls n)) h step = step n h.short.1
+failed-short made (Err fault) h step = absurd h.short
 
 -- what came out in a whole closing
 pub closes-by : CallsAreHistory → (setup : Setup) (events : List Event) (old new : Parts) (d moment made left : ℕ) (before after : RouterDevice) (departures : List Departure) → IsAt setup events old

@@ -8,7 +8,7 @@ use Rattle.clk_sched.specs.Conservation.{ConservesCounts}
 use Rattle.clk_sched.specs.declared.session.departures.Departure.{Departure}
 use Rattle.clk_sched.specs.Session.{SessionLists, progress_of, pulls_made}
 use Rattle.clk_sched.specs.declared.limits.TheConstants.{END_OF_PULLS, END_OF_DRAINS}
-use Rattle.clk_sched.specs.Log.{pulls, visits_of, result_of}
+use Rattle.clk_sched.specs.Log.{visits_of, result_of}
 use Rattle.clk_sched.specs.Results.{emitted}
 use Rattle.clk_sched.specs.Run.{IsRun}
 use Rattle.clk_sched.specs.Tree.{Tree, leaves_distinct}
@@ -20,9 +20,10 @@ use Rattle.clk_router.specs.declared.parts.Parts.{Parts}
 use Rattle.clk_router.specs.declared.past.Past.{Past}
 use Rattle.clk_router.specs.Course.{Course, after, IsClosed, pulls_at, accepted_at, evicted_at, emitted_at, room_device, its_device, CanOffer, CanClose}
 use Rattle.clk_router.specs.Events.{Room, Setup, sender_numbers, Event}
-use Rattle.clk_router.specs.inside.Past.{device_tree, trees_in, visits_shown, pull_shown, pulls_shown}
-use Rattle.clk_router.specs.inside.Parts.{sender_after, KeepsAs, KeepsAsAt, IsAt, CanCount, CanSendOn, CanOfferAt, CanPullAt, CanCloseAt, CountsLeft, LeadsOnByPull, LeadsOnByPulls, ClosesBy, Stand}
-use Rattle.clk_router.proofs.ClosingLemmas.{its-latest}
+use Rattle.clk_router.specs.Drains.{HasLeft, StopsShort}
+use Rattle.clk_router.specs.inside.Past.{device_tree, trees_in, visits_shown, pull_shown, made_shown, pulls_shown}
+use Rattle.clk_router.specs.inside.Parts.{sender_after, KeepsAs, KeepsAsAt, IsAt, CanCount, CanSendOn, CanOfferAt, CanPullAt, CanCloseAt, CountsLeft, LeadsOnByPull, LeadsOnByPulls, ClosesBy, StopsBy, Stand}
+use Rattle.clk_router.proofs.ClosingLemmas.{its-latest, its-pulls}
 use Rattle.clk_router.proofs.NeverShort.{kept-is}
 use Rattle.clk_router.proofs.PartsLemmas.{IsMember, member-at, all-there, IsHere, device-here}
 use Rattle.clk_router.proofs.SenderLemmas.{alike-its}
@@ -43,7 +44,7 @@ module _ (setup : Setup) (events : List Event) (parts : Parts) (stand : Stand se
   keeps = subst (KeepsAsAt parts.keeps) its.here (stand.at.kinds d)
 
   made : pulls_made (progress_of its.member.session) ≡ pulls_at (course setup events parts) d
-  made = ap (λ l. length (pulls l)) there.is.log ∙ ap length there.runs.pull_by_pull
+  made = its-pulls setup events d its.member there
 
   pub pulls-when : pulls_at (course setup events parts) d < END_OF_PULLS → CanPullAt parts.keeps (slice_get parts.devices.items d)
   pulls-when few = subst (CanPullAt parts.keeps) (sym its.here) (keeps, let m = made in omega (arith, m, few))
@@ -167,17 +168,26 @@ module _ (setup : Setup) (events : List Event) (old new : Parts) (d moment : ℕ
   closes-read i read departures led closes same is =
       subst (λ (x : RouterDevice). ClosesBy setup events d moment x.session departures) (read-there new.devices.items d i led.its read led.here same is) (closes led.its led.here)
 
+  pub stops-read : (i : ℕ) (read : RouterDevice) → LeadsOnByPulls setup new d moment events → ((its : RouterDevice) → slice_get new.devices.items d ≡ Some its → StopsBy setup events d moment its.session) → i ≡ d
+      → read ≡ get_or new.devices.items i read → StopsBy setup events d moment read.session
+  stops-read i read led stops same is = subst (λ (x : RouterDevice). StopsBy setup events d moment x.session) (read-there new.devices.items d i led.its read led.here same is) (stops led.its led.here)
+
 -- a device was closed, by what its session shows
 pub IsClosed-shown : (old new : Course) (d moment : ℕ) (session : SessionLists) (departures : List Departure) → ClosesBy old.setup old.events d moment session departures
     → new ≡ after old (pulls_shown old.setup old.events d moment session) → IsClosed old new d moment departures
 IsClosed-shown old new d moment session departures by goes_on =
     record { last = pulls_shown old.setup old.events d moment session; closes = by.closes; emitted = by.emitted; moments = by.moments; goes_on = goes_on }
 
--- what follows from what a success says, and what holds of each failure
+-- and so if its drain stopped short
+pub StopsShort-shown : (old new : Course) (d moment : ℕ) (session : SessionLists) → StopsBy old.setup old.events d moment session → new ≡ after old (pulls_shown old.setup old.events d moment session) → StopsShort old new d moment
+StopsShort-shown old new d moment session by goes_on =
+    record { made = made_shown old.setup old.events d session; goes_on = goes_on; within = by.within; short = subst (λ (c : Course). HasLeft c d) (sym goes_on) by.short }
+
+-- what follows from what a success says, and from what a failure does
 pub ok-weaker : {T E : Type 0} {P Q : T → Type 0} (r : Result T E) → ((x : T) → P x → Q x) → IfOk r P → IfOk r Q
 ok-weaker (Ok x) step h = step x h
 ok-weaker (Err e) step h = tt
 
-pub of-err : {T E : Type 0} {Q : Type 0} (r : Result T E) → Q → OnErr r Q
-of-err (Ok x) q = tt
-of-err (Err e) q = q
+pub err-weaker : {T E : Type 0} {P Q : Type 0} (r : Result T E) → (P → Q) → OnErr r P → OnErr r Q
+err-weaker (Ok x) step h = tt
+err-weaker (Err e) step h = step h

@@ -15,7 +15,7 @@ abbrev pub IsDeviceDue : Course → ℕ → Option ℕ → Type 0
 IsDeviceDue c device due =
     MatchOption (slice_get c.setup.trees device) ⊥ (λ tree. IsDue (tree_could_emit tree (log_of (events_of c device)) (is_backlogged c.setup c.events)) (moment_at c device) due)
 
--- No pull of the device emits a packet before the due moment.
+-- If the next event is a pull of the device before the due moment, it emits no packet.
 abbrev pub EmitsNoneBefore : Course → ℕ → Option ℕ → Type 0
 EmitsNoneBefore c device due =
     (new : Course) (moment : ℕ) (got : Option Packet) → IsPulled c new device moment got → CanHappen new.setup new.events → has_come due (max (moment_at c device) moment) ≡ false → got ≡ None

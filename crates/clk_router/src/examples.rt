@@ -5,6 +5,7 @@ ghost use Rattle.std.specs.Prelude.{◌≡◌, [], ◌∷◌};
 ghost use Rattle.clk_sched.specs.Examples.Priority.{p0_0};
 ghost use Rattle.clk_router.specs.Events.{CanHappen};
 ghost use Rattle.clk_router.specs.Examples.{one_queue, sender_offers, stranger_offers};
+ghost use Rattle.clk_router.specs.Drains.{StopsShort};
 ghost use Rattle.clk_router.specs.InsideQueues.{AreOutOrInside, QueuesGoOn, heads_of, inside_of};
 ghost use Rattle.clk_router.specs.Settled.{IsCourseAccounted, IsCourseSettled, AreOutOnce, AreAllOut, IsDrained};
 ghost use Rattle.clk_router.specs.SettledExamples.{two_devices, one_drr, crossed, without_tree, without_queue, course_of, p0_1, emitted_there, emitted_elsewhere, left_inside, emitted_twice, never_offered, swapped, two_in_a_pull, refused_emitted, refused_held, evicted_emitted, queue_evicts, front_drop_refuses, stranger_emitted, lost, got_not_emitted, head_held, stranger_held};
@@ -17,7 +18,8 @@ pub fn event_examples()
 
 /// A course is settled if its one packet is emitted by the device of its queue. It is not settled if the packet is emitted elsewhere or not
 /// at all, if a refused packet is emitted, or if packets are swapped. Nor is it if a queue of either kind does what only the other kind
-/// does. Nor is it if a packet of an unknown sender is emitted or held, or if a log is no run.
+/// does. Nor is it if a packet of an unknown sender is emitted or held, or if a log is no run. A drain stopped short only if a packet is
+/// left.
 pub fn settled_examples()
     ensures emitted_there { IsCourseSettled two_devices emitted_there }
     ensures not_emitted_elsewhere { ¬ (IsCourseSettled two_devices emitted_elsewhere) }
@@ -31,6 +33,8 @@ pub fn settled_examples()
     ensures not_stranger_held { ¬ (IsCourseSettled one_drr stranger_held) }
     ensures drained { IsDrained (course_of emitted_there) }
     ensures not_drained { ¬ (IsDrained (course_of left_inside)) }
+    ensures short { StopsShort (course_of left_inside) (course_of left_inside) 0 0 }
+    ensures not_short { ¬ (StopsShort (course_of left_inside) (course_of emitted_there) 0 0) }
 {}
 
 /// A course is accounted for if one packet is held as a head and one in the queue. It is not accounted for if a packet is emitted

@@ -38,7 +38,7 @@ impl Parts {
     ghost use Rattle.clk_sched.specs.Results.{emitted};
     ghost use Rattle.clk_tree.specs.PlanParts.{queued, HasCapacity};
     ghost use Rattle.clk_router.specs.Events.{Setup, Event, offered};
-    ghost use Rattle.clk_router.specs.inside.Parts.{CanStand, CanOfferAt, CanPullAt, CanCloseAt, CountsLeft, IsAt, IsWhole, LeadsOnByPull, LeadsOnByPulls, ClosesBy, Stand, IsSessionDue, setup_of};
+    ghost use Rattle.clk_router.specs.inside.Parts.{CanStand, CanOfferAt, CanPullAt, CanCloseAt, CountsLeft, IsAt, IsWhole, LeadsOnByPull, LeadsOnByPulls, ClosesBy, StopsBy, Stand, IsSessionDue, setup_of};
 
     /// The parts of a router before anything has happened. `keeps` says what its devices keep of the past. Fault 1 if an allocation fails.
     pub fn new(
@@ -137,6 +137,8 @@ impl Parts {
         ensures leads { (setup : Setup) (events : _) → IsAt setup events self.old → LeadsOnByPulls setup self.new device moment events }
         ensures closed { IfOk result (λ departures. (setup : Setup) (events : _) → IsAt setup events self.old
             → (its : _) → slice_get self.new.devices.items device ≡ Some its → ClosesBy setup events device moment its.session departures.items) }
+        ensures short { OnErr result ((setup : Setup) (events : _) → IsAt setup events self.old
+            → (its : _) → slice_get self.new.devices.items device ≡ Some its → StopsBy setup events device moment its.session) }
         ensures keeps { self.new.keeps ≡ self.old.keeps }
         ensures fault { IsOkUnless result Fault.Memory }
     {

@@ -13,8 +13,8 @@ use crate::queue_state::QueueState;
 use crate::senders::{are_few, place_of};
 use clk_packet::{Fault, Offered, Packet};
 use clk_sched::{
-    Departure, END_OF_MOMENTS, END_OF_PULLS, Keeps, Tree, Visit, closing_bound_is_enough,
-    pulls_emit_once_due, runs_conserve_packets, runs_go_on,
+    Departure, END_OF_DRAINED_PULLS, END_OF_DRAINS, END_OF_MOMENTS, END_OF_PULLS, Keeps, MAX_LEFT,
+    Tree, Visit, closing_bound_is_enough, pulls_emit_once_due, runs_conserve_packets, runs_go_on,
 };
 use clk_tree::Plan;
 use std::alloc::Global;
@@ -43,18 +43,18 @@ impl Model for Router {
 }
 
 impl Router {
-    ghost use Rattle.std.specs.Prelude.{◌≡◌, ℕ, ◌+◌, ◌^◌, ◌<◌, ◌≤◌, List, ◌∷◌, [], Some, None, true, false, map, length, IfSome, IfOk, OnErr, IsOk, IsOkUnless};
+    ghost use Rattle.std.specs.Prelude.{◌≡◌, ℕ, ◌+◌, ◌^◌, ◌<◌, ◌≤◌, ◌∷◌, [], Some, None, true, false, map, length, IfSome, IfOk, OnErr, IsOk, IsOkUnless};
     ghost use Rattle.clk_packet.specs.declared.limits.TheConstants.{MAX_ELEMENTS, MAX_CAPACITY};
     ghost use Rattle.clk_sched.specs.declared.visit.Visit.{Visit};
     ghost use Rattle.clk_sched.specs.Keeps.{grows};
     ghost use Rattle.clk_sched.specs.declared.limits.TheConstants.{END_OF_MOMENTS};
     ghost use Rattle.clk_sched.specs.Results.{emitted};
     ghost use Rattle.clk_packet.specs.Lists.{AreRising};
-    ghost use Rattle.clk_router.specs.Course.{after, events_of, sender_at, accepted_at, evicted_at, emitted_at, moment_at, latest_visits, device_at, CanOffer, CanPull, CanClose, IsOpened, IsPulled, IsClosed, IsQueueState};
-    ghost use Rattle.clk_router.specs.Events.{offered, sender_numbers, numbers_of, log_of, CanHappen, closing_pulls};
+    ghost use Rattle.clk_router.specs.Course.{after, events_of, sender_at, accepted_at, evicted_at, emitted_at, moment_at, pulls_at, latest_visits, device_at, CanOffer, CanPull, CanClose, IsOpened, IsPulled, IsClosed, IsQueueState};
+    ghost use Rattle.clk_router.specs.Events.{offered, sender_numbers, numbers_of, log_of, CanHappen};
     ghost use Rattle.clk_router.specs.InsideQueues.{QueuesGoOn, AreOutOrInside};
     ghost use Rattle.clk_router.specs.Due.{IsDeviceDue, EmitsNoneBefore};
-    ghost use Rattle.clk_router.specs.Drains.{DrainsEnd};
+    ghost use Rattle.clk_router.specs.Drains.{DrainsEnd, StopsShort};
     ghost use Rattle.clk_router.specs.Settled.{IsCourseAccounted, IsCourseSettled, AreOutOnce, AreAllOut, IsDrained, offered_of};
 
     /// Opens the router of a plan, before anything has happened. `keeps` says what its devices keep of the past. Visits that they keep
@@ -239,17 +239,19 @@ impl Router {
         Ok(got)
     }
 
-    /// The visits of a device's latest pull, in order, if the devices keep these. There are none before its first pull.
+    /// The visits of a device's latest pull, in order, if the devices keep these, and else none. There are none before its first pull.
     pub fn latest(&self, device: u16) -> &[Visit]
         requires { device < length self.now.setup.trees }
-        ensures { self.now.keeps.latest ≡ true → result.now ≡ latest_visits self.now device }
+        ensures visits { self.now.keeps.latest ≡ true → result.now ≡ latest_visits self.now device }
+        ensures none { self.now.keeps.latest ≡ false → result.now ≡ [] }
     {
         self.parts.devices[usize::from(device)].session.latest()
     }
 
     /// The earliest moment, in ticks, at which a pull of a device could emit a packet, as things stand. It is the device's latest moment,
-    /// or the next tick if every packet is below a Shaper that has no token for it yet. `None` if no packet is left for the device. No pull
-    /// before that moment emits a packet. A pull at that moment may still emit none, while a DRRSched saves up for the packet.
+    /// or the next tick if every packet is below a Shaper that has no token for it yet. `None` if no packet is left for the device. If the
+    /// next event is a pull before that moment, it emits nothing. A pull at that moment may still emit none, while a DRRSched saves up for
+    /// the packet.
     pub fn due(&self, device: u16) -> Option<u64>
         requires { device < length self.now.setup.trees }
         ensures due { IsDeviceDue self.now device result }
@@ -260,12 +262,26 @@ impl Router {
         self.parts.due(device)
     }
 
-    /// Drains a device: pulls it one tick apart until all packets that were accepted at it are evicted or emitted. The first pull is one
-    /// tick after the later of this moment and the device's latest. Returns the packets that these pulls emitted, each with its moment.
+    /// Whether a device can be closed at this moment, in ticks: it exists, at most 1,000,000 packets are left for it, the moment and the
+    /// device's latest are below 2^43 - 1, and it was pulled fewer than 2^62 times.
+    pub fn can_close(&self, device: u16, moment: u64) -> bool
+        ensures yes { result ≡ true → CanClose self.now device moment }
+        ensures no { result ≡ false → CanClose self.now device moment → ⊥ }
+    {
+        if usize::from(device) >= self.devices() || self.left(device) > MAX_LEFT {
+            return false;
+        }
+        self.moment(device).max(moment) < END_OF_DRAINS && self.pulls(device) < END_OF_DRAINED_PULLS
+    }
+
+    /// Drains a device, if it can be closed: pulls it one tick apart until all packets that were accepted at it are evicted or emitted. The
+    /// first pull is one tick after the later of this moment, in ticks, and the device's latest. Returns the packets that these pulls
+    /// emitted, each with its moment.
     ///
     /// # Errors
     ///
-    /// Fault 1 if an allocation fails. Then it holds the pulls that were made.
+    /// Fault 1 if an allocation fails. Then it holds the pulls that were made, packets are left for the device, and those that were emitted
+    /// aren't returned.
     pub fn close(
         &mut self,
         alloc: Global,
@@ -274,7 +290,7 @@ impl Router {
     ) -> Result<Vec<Departure>, Fault>
         requires can { CanClose self.old device moment }
         ensures closed { IfOk result (λ departures. IsClosed self.old self.new device moment departures.items) }
-        ensures stopped { OnErr result ((made : List (List Visit)) × (self.new ≡ after self.old (closing_pulls device moment (events_of self.old device) made))) }
+        ensures stopped { OnErr result (StopsShort self.old self.new device moment) }
         ensures fault { IsOkUnless result Fault.Memory }
     {
         // The empty log is a run, and what queues and heads hold is what is left, by these laws, which do nothing.
@@ -293,6 +309,14 @@ impl Router {
         ensures limit { result < END_OF_MOMENTS }
     {
         self.parts.devices[usize::from(device)].session.now()
+    }
+
+    /// How often a device was pulled.
+    pub fn pulls(&self, device: u16) -> u64
+        requires { device < length self.now.setup.trees }
+        ensures { result ≡ pulls_at self.now device }
+    {
+        self.parts.devices[usize::from(device)].session.pulls()
     }
 
     /// How many queues it has.
@@ -348,18 +372,20 @@ impl Router {
         true
     }
 
-    /// The visits of a device's pulls, in order, if the devices keep all as a list.
+    /// The visits of a device's pulls, in order, if the devices keep all as a list, and else none.
     pub fn log(&self, device: u16) -> &[Visit]
         requires { device < length self.now.setup.trees }
-        ensures { self.now.keeps.visits ≡ true → result.now ≡ log_of (events_of self.now device) }
+        ensures visits { self.now.keeps.visits ≡ true → result.now ≡ log_of (events_of self.now device) }
+        ensures none { self.now.keeps.visits ≡ false → result.now ≡ [] }
     {
         self.parts.devices[usize::from(device)].session.log()
     }
 
-    /// The packets that a device emitted, in order, if the devices keep these.
+    /// The packets that a device emitted, in order, if the devices keep these, and else none.
     pub fn emitted(&self, device: u16) -> &[Packet]
         requires { device < length self.now.setup.trees }
-        ensures { self.now.keeps.packets ≡ true → result.now ≡ emitted (log_of (events_of self.now device)) }
+        ensures packets { self.now.keeps.packets ≡ true → result.now ≡ emitted (log_of (events_of self.now device)) }
+        ensures none { self.now.keeps.packets ≡ false → result.now ≡ [] }
     {
         self.parts.devices[usize::from(device)].session.as_emitted()
     }

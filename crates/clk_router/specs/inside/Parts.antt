@@ -10,6 +10,7 @@ use Rattle.clk_ring.specs.QueueHistory.{QueueEvent}
 use Rattle.clk_ring.specs.Laws.{LeadsTo}
 use Rattle.clk_sched.specs.declared.session.departures.Departure.{Departure}
 use Rattle.clk_sched.specs.declared.session.keeps.Keeps.{Keeps}
+use Rattle.clk_sched.specs.Bound.{closing_bound}
 use Rattle.clk_sched.specs.Departures.{departures_in}
 use Rattle.clk_sched.specs.Due.{IsDue, tree_could_emit}
 use Rattle.clk_sched.specs.declared.limits.TheConstants.{MAX_LEFT, END_OF_DRAINS, END_OF_PULLS, END_OF_DRAINED_PULLS}
@@ -27,7 +28,7 @@ use Rattle.clk_router.specs.inside.Closable.{HasLowBound, IsClosable}
 use Rattle.clk_router.specs.Course.{room_device}
 use Rattle.clk_router.specs.declared.limits.TheConstants.{END_OF_PACKETS}
 use Rattle.clk_router.specs.inside.Queues.{packets_at}
-use Rattle.clk_router.specs.inside.Past.{visits_shown, pull_shown, pulls_shown}
+use Rattle.clk_router.specs.inside.Past.{visits_shown, pull_shown, made_shown, pulls_shown}
 use Rattle.clk_router.specs.Events.{Room, Setup, Event, CanHappen, numbers_of, moment_in, accepted_in, evicted_in, history, log_of, events_at, sender_numbers, Closes}
 
 -- the number of the device that emits a queue's packets
@@ -206,11 +207,22 @@ pub record LeadsOnByPulls (setup : Setup) (new : Parts) (device moment : ℕ) (e
   pub here : slice_get new.devices.items device ≡ Some its
   pub leads : IsAt setup (events ++ pulls_shown setup events device moment its.session) new
 
+-- packets are left for a device after its events
+abbrev pub IsAnyLeft : List Event → Type 0
+IsAnyLeft its = length (filter_map evicted_in its) + length (emitted (log_of its)) < length (filter_map accepted_in its)
+
 -- The pulls that the session shows are a whole drain of the device from a moment on. It emitted these packets, at these moments.
 pub record ClosesBy (setup : Setup) (events : List Event) (device moment : ℕ) (session : SessionLists) (departures : List Departure) : Type 0 where
   pub closes : Closes device moment (events_at setup device events) (pulls_shown setup events device moment session)
   pub emitted : departures ≡ departures_in closes.closing
   pub moments : map moment_of closes.closing ≡ range_with_len (max (fold max 0 (filter_map moment_in (events_at setup device events))) moment + 1) (length closes.closing)
+
+-- The pulls that the session shows are a drain of the device that stopped while packets were left, within the closing bound.
+pub record StopsBy (setup : Setup) (events : List Event) (device moment : ℕ) (session : SessionLists) : Type 0 where
+  pub within : (tree : Tree) (left : ℕ) → slice_get setup.trees device ≡ Some tree
+      → length (filter_map accepted_in (events_at setup device events)) ≡ length (filter_map evicted_in (events_at setup device events)) + length (emitted (log_of (events_at setup device events))) + left
+      → length (made_shown setup events device session) ≤ closing_bound tree left
+  pub short : IsAnyLeft (events_at setup device (events ++ pulls_shown setup events device moment session))
 
 -- The parts of a router are where its course led.
 pub record Stand (setup : Setup) (events : List Event) (parts : Parts) : Type 0 where

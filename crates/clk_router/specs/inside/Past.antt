@@ -28,7 +28,10 @@ visits_shown setup events device session = drop (length (log_of (events_at setup
 abbrev pub pull_shown : Setup → List Event → ℕ → ℕ → SessionLists → List Event
 pull_shown setup events device moment session = pulled device moment (visits_shown setup events device session) ∷ []
 
+-- the pulls of a device after these events, each with its visits
+abbrev pub made_shown : Setup → List Event → ℕ → SessionLists → List (List Visit)
+made_shown setup events device session = drop (length (pulls (log_of (events_at setup device events)))) (pulls session.log)
+
 -- the pulls of a drain of a device after these events
 abbrev pub pulls_shown : Setup → List Event → ℕ → ℕ → SessionLists → List Event
-pulls_shown setup events device moment session =
-    closing_pulls device moment (events_at setup device events) (drop (length (pulls (log_of (events_at setup device events)))) (pulls session.log))
+pulls_shown setup events device moment session = closing_pulls device moment (events_at setup device events) (made_shown setup events device session)

@@ -1,4 +1,4 @@
-use Rattle.std.proofs.Common.{[], ◌∷◌, length, map, ap, arith}
+use Rattle.std.proofs.Common.{[], ◌∷◌, length, map, refl, ap, arith}
 use Rattle.std.proofs.lemmas.Bool.{false≢true}
 use Rattle.clk_packet.specs.declared.packet.Packet.{Packet}
 use Rattle.clk_sched.specs.Examples.Priority.{p0_0}
@@ -17,3 +17,9 @@ returns-clause-not_got_not_emitted c = λ s. absurd (false≢true (s.devices 0).
 
 pub returns-clause-not_stranger_held : goal.returns-clause-not_stranger_held
 returns-clause-not_stranger_held c = λ s. let none = (s.devices 0).no_heads in absurd (omega (arith, ap length none))
+
+pub returns-clause-short : goal.returns-clause-short
+returns-clause-short c = record { made = []; goes_on = refl; within = λ tree left is all. omega arith; short = omega arith }
+
+pub returns-clause-not_short : goal.returns-clause-not_short
+returns-clause-not_short c = λ s. absurd (omega (arith, s.short))

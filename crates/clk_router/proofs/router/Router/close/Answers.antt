@@ -1,9 +1,8 @@
-use Rattle.std.proofs.Common.{◌≡◌, length, drop, sym, subst}
-use Rattle.clk_sched.specs.Log.{pulls}
-use Rattle.clk_router.specs.Course.{Course, CanClose, IsClosed, after, events_of}
-use Rattle.clk_router.specs.Events.{closing_pulls, events_at, log_of}
+use Rattle.std.proofs.Common.{sym, subst}
+use Rattle.clk_router.specs.Course.{Course, CanClose, IsClosed}
+use Rattle.clk_router.specs.Drains.{StopsShort}
 use Rattle.clk_router.specs.inside.Past.{pulls_shown}
-use Rattle.clk_router.proofs.RouterLemmas.{closes-when, pulls-read, closes-read, course-told, Stand-told, IsClosed-shown, ok-weaker, of-err}
+use Rattle.clk_router.proofs.RouterLemmas.{closes-when, pulls-read, closes-read, stops-read, course-told, Stand-told, IsClosed-shown, StopsShort-shown, ok-weaker, err-weaker}
 use Rattle.clk_router.proofs.router.Router.close.Goals as goal
 
 pub close-departures-requires-clause-can : goal.close-departures-requires-clause-can
@@ -43,7 +42,9 @@ returns-clause-stopped c =
     let session = c.index.result.now.session in
     let told = course-told past.setup past.events (pulls_shown past.setup past.events c.args.device c.args.moment session) old new c.closed.new.self c.closed.ensures c.close-departures.ensures.keeps in
     let now : Course = record { setup = c.closed.new.self.setup; events = c.closed.new.self.events; keeps = new.keeps } in
-    of-err c.close-departures.result (
-      drop (length (pulls (log_of (events_at past.setup c.args.device past.events)))) (pulls session.log),
-      subst (λ (k : Course). now ≡ after k (closing_pulls c.args.device c.args.moment (events_of k c.args.device) (drop (length (pulls (log_of (events_at past.setup c.args.device past.events)))) (pulls session.log)))) c.self.view_is told,
-    )
+    let led = c.close-departures.ensures.leads past.setup past.events c.self.invariant.at in
+    err-weaker c.close-departures.result
+    (λ stops. subst (λ (k : Course). StopsShort k now c.args.device c.args.moment) c.self.view_is
+    (StopsShort-shown (record { setup = past.setup; events = past.events; keeps = old.keeps }) now c.args.device c.args.moment session
+    (stops-read past.setup past.events old new c.args.device c.args.moment c.from.result c.index.result.now led (stops past.setup past.events c.self.invariant.at) c.from.ensures c.index.ensures) told))
+    c.close-departures.ensures.short
