@@ -40,7 +40,7 @@ impl Outlet {
     }
 
     #[tactic(auto, using(crate::proofs::Order::one_more_allowed))]
-    /// Takes the next packet. Returns `None` if none has come, or if the end has. The end itself is never returned.
+    /// Takes the next packet. Returns `None` if it sees none, or if the end has come. The end itself is never returned.
     pub fn take(&mut self) -> Option<Item>
         ensures popped { IfSome result (λ x. popped self.new ≡ popped self.old ++ x ∷ []) }
         ensures taken { IfSome result (λ x. taken self.new ≡ taken self.old ++ x ∷ []) }
@@ -114,7 +114,7 @@ impl Outlet {
     }
 
     #[tactic(auto, using(crate::proofs::Order::whole))]
-    /// Returns whether the end has come. Every packet that was ever sent has then been taken.
+    /// Returns whether the end has come. Nothing can come after it.
     pub fn is_ended(&self) -> bool
         ensures ended { result ≡ has_end (popped self.now) }
         ensures whole { result ≡ true → IsWhole (popped self.now) }

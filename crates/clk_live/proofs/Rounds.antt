@@ -1,5 +1,5 @@
 -- How many packets a sweep over senders takes from each.
-use Rattle.std.proofs.Common.{◌≡◌, ℕ, zero, suc, ◌+◌, ◌<◌, ◌≤◌, ◌==◌, nat_lt, ◌⊎◌, inl, inr, Bool, true, false, if◌then◌else◌, List, [], ◌∷◌, ◌++◌, length, length-append, take, drop, take-append-drop, filter, Some, slice_get, refl, sym, ap, ◌∙◌, subst, arith, ◌-◌, Option, None, MatchOption, get_or, ap₂}
+use Rattle.std.proofs.Common.{◌≡◌, ℕ, zero, suc, ◌+◌, ◌<◌, ◌≤◌, ◌==◌, nat_lt, ◌⊎◌, inl, inr, Bool, true, false, if◌then◌else◌, List, [], ◌∷◌, ◌++◌, length, length-append, take, drop, take-append-drop, filter, Some, slice_get, refl, sym, ap, ◌∙◌, subst, arith, ◌-◌, Option, None, IfSome, MatchOption, get_or, ap₂}
 use Rattle.std.specs.List.{AllByRecursion}
 use Rattle.std.proofs.lemmas.Bool.{eqb-true}
 use Rattle.std.proofs.lemmas.Bool.Decides.{nat_tests}
@@ -13,7 +13,7 @@ use Rattle.clk_sched.specs.Examples.Priority.{p0_0}
 use Rattle.clk_live.specs.declared.taking.OfferOutcome.TheVariants.{Refused}
 use Rattle.clk_live.specs.declared.taking.Taken.{Taken}
 use Rattle.clk_live.specs.State.{LiveState, starts_at}
-use Rattle.clk_live.specs.Taking.{AreOf, AreSharesOr, StartsNext, after_place, count_of}
+use Rattle.clk_live.specs.Taking.{AreOf, AreSharesOr, AreSharesBefore, StartsNext, after_place, count_of, steps_to}
 use Rattle.clk_live.specs.inside.Each.{IsEach, AreEach, GaveSharesOr, IsLast}
 use Rattle.clk_live.proofs.Steps.{one-place}
 
@@ -132,6 +132,17 @@ lt-or a b = by_test (nat_lt a b) refl
 pub shares-none : (Otherwise : ℕ → Type 0) (setup : Setup) (first each : ℕ) (ts : List Taken) → GaveSharesOr Otherwise setup first first each ts ts
 shares-none Otherwise setup first each ts = λ place s low high at. absurd (omega (arith, low, high))
 
+-- after packets of one sender were taken, the shares of the senders at places before it stay
+pub shares-keep : (Was Now : ℕ → Type 0) (setup : Setup) (first place n each from result : ℕ) (start old new : List Taken) → ((k : ℕ) → Was k → Now k) → AreRising (sender_numbers setup) → sender_at setup place ≡ Some n → take from new ≡ take from old → from ≤ result
+    → result ≤ length new → result ≤ from + each → AreOf setup place (drop from (take result new)) → GaveSharesOr Was setup first place each start (take from old) → GaveSharesOr Now setup first place each start (take result new)
+shares-keep Was Now setup first place n each from result start old new later rising at front up within few of shares = λ k s from_first low its. stays k s low its (shares k s from_first low its)
+  where
+    stays : (k s : ℕ) → k < place → sender_at setup k ≡ Some s → (count_of s (take from old) ≡ count_of s start + each) ⊎ Was k → (count_of s (take result new) ≡ count_of s start + each) ⊎ Now k
+    stays k s low its (inr x) = inr (later k x)
+    stays k s low its (inl x) =
+        let apart : (k == place) ≡ false = grind (arith, nat_tests) in
+        inl (fill-others setup place n from result each old new at front up within few of s (two-senders setup place n k s rising at its apart) ∙ x)
+
 pub shares-more : (Was Now : ℕ → Type 0) (setup : Setup) (first place n each from result most : ℕ) (start old new : List Taken) → ((k : ℕ) → Was k → Now k) → AreRising (sender_numbers setup) → first ≤ place → sender_at setup place ≡ Some n → take from new ≡ take from old
     → from ≤ result → result ≤ length new → result ≤ from + each → AreOf setup place (drop from (take result new)) → (result < most → Now place) → (result ≡ from + each) ⊎ (result < most)
     → AreEach setup first place each start (take from old) → GaveSharesOr Was setup first place each start (take from old) → GaveSharesOr Now setup first (place + 1) each start (take result new)
@@ -155,13 +166,12 @@ shares-more Was Now setup first place n each from result most start old new late
             let front_many = length-take-le from new (omega (arith, up, within)) in
             inl (omega (arith, all, ours, parts, was, many, both_parts, sum, taken, front_many))
 
-        theirs : (k == place) ≡ false → (count_of s (take from old) ≡ count_of s start + each) ⊎ Was k → (count_of s (take result new) ≡ count_of s start + each) ⊎ Now k
-        theirs e (inr x) = inr (later k x)
-        theirs e (inl x) = inl (fill-others setup place n from result each old new at front up within few of s (two-senders setup place n k s rising at its e) ∙ x)
+        before : GaveSharesOr Now setup first place each start (take result new)
+        before = shares-keep Was Now setup first place n each from result start old new later rising at front up within few of shares
 
         by_place : (b : Bool) → (k == place) ≡ b → (count_of s (take result new) ≡ count_of s start + each) ⊎ Now k
         by_place true e = mine (eqb-true k place e) share
-        by_place false e = theirs e (shares k s from_first (let other = e in grind (arith, nat_tests)) its)
+        by_place false e = before k s from_first (let other = e in grind (arith, nat_tests)) its
 
 -- what a read of a slot gives where none is
 no_taken : Taken
@@ -203,6 +213,89 @@ last-of setup place from count filled t some all of at =
     let many : length (drop from filled) ≡ count - 1 - from + 1 = (let parts = length-drop from filled in omega (arith, parts, some, all)) in
     let e : from + (count - 1 - from) ≡ count - 1 = omega (arith, some) in
     last-has (λ (u : Taken). sender_at setup place ≡ Some u.packet.sender) (drop from filled) t (count - 1 - from) of_rest many (drop-get from (count - 1 - from) filled ∙ ap (slice_get filled) e ∙ at)
+
+-- where each sender gave its share, so did those before any
+pub shares-before : (Otherwise : ℕ → Type 0) (setup : Setup) (start many each : ℕ) (last : Option Taken) (taken : List Taken) → AreSharesOr Otherwise setup each taken → AreSharesBefore Otherwise setup start many each last taken
+shares-before Otherwise setup start many each None taken shares = tt
+shares-before Otherwise setup start many each (Some t) taken shares = λ end place s its_end before its. shares place s its
+
+-- In a round that filled all slots, each sender before that of the last packet gave its share.
+pub round-before : (First Second Now : ℕ → Type 0) (setup : Setup) (start places each from size count next again : ℕ) (mid filled : List Taken) → ((k : ℕ) → First k → Now k) → ((k : ℕ) → Second k → Now k) → AreRising (sender_numbers setup)
+    → places ≡ length (sender_numbers setup) → AreEach setup start places each [] (take from mid) → AreEach setup 0 start each (take from mid) (take count filled) → (from < size → GaveSharesOr First setup start places each [] (take from mid))
+    → (from ≡ size → GaveSharesOr First setup start (next - 1) each [] (take from mid)) → GaveSharesOr Second setup 0 (again - 1) each (take from mid) (take count filled) → from ≤ count → count ≡ size → length filled ≡ size
+    → (from ≡ size → IsLast setup start 0 mid from next) → IsLast setup 0 from filled count again → (from ≡ size → filled ≡ mid) → again ≤ start → AreSharesBefore Now setup start places each (slice_get filled (count - 1)) (take count filled)
+round-before First Second Now setup start places each from size count next again mid filled of_first of_second rising many first second first_shares first_before second_before up full sizes first_last second_last untouched again_low = by_last (slice_get filled (count - 1)) refl
+  where
+    Share : ℕ → ℕ → Type 0
+    Share place s = (count_of s (take count filled) ≡ each) ⊎ Now place
+
+    -- a sender that only the first sweep visited, or only the second
+    from-first : (place s : ℕ) → start ≤ place → sender_at setup place ≡ Some s → (count_of s (take from mid) ≡ count_of s [] + each) ⊎ First place → Share place s
+    from-first place s high its (inl e) = let stays = (second.0 place s its).others (inr high) in inl (omega (arith, e, stays))
+    from-first place s high its (inr g) = inr (of_first place g)
+
+    from-second : (place s : ℕ) → place < start → sender_at setup place ≡ Some s → (count_of s (take count filled) ≡ count_of s (take from mid) + each) ⊎ Second place → Share place s
+    from-second place s low its (inl e) = let none = (first.0 place s its).others (inl low) in inl (omega (arith, e, none))
+    from-second place s low its (inr g) = inr (of_second place g)
+
+    steps-low : (place : ℕ) → place < start → steps_to start places place ≡ place + places - start
+    steps-low place low = let yes : nat_lt place start ≡ true = grind (arith, nat_tests) in ap (λ b. if b then place + places - start else place - start) yes
+
+    steps-high : (place : ℕ) → start ≤ place → steps_to start places place ≡ place - start
+    steps-high place high = let no : nat_lt place start ≡ false = grind (arith, nat_tests) in ap (λ b. if b then place + places - start else place - start) no
+
+    within-places : (place s : ℕ) → sender_at setup place ≡ Some s → place < places
+    within-places place s its = let low = slice_get_within (sender_numbers setup) place s its in omega (arith, low, many)
+
+    -- the last packet's sender stands at `end`, which the second sweep visited last
+    in-second : (end place s : ℕ) → from < size → again ≡ end + 1 → sender_at setup place ≡ Some s → steps_to start places place < steps_to start places end → Share place s
+    in-second end place s fewer here its before = by_place (lt-or place start)
+      where
+        at_end : steps_to start places end ≡ end + places - start
+        at_end = steps-low end (omega (arith, here, again_low))
+
+        by_place : (place < start) ⊎ (start ≤ place) → Share place s
+        by_place (inl low) =
+            let steps = steps-low place low in
+            let there = within-places place s its in
+            from-second place s low its (second_before place s (omega arith) (omega (arith, before, at_end, steps, here)) its)
+        by_place (inr high) = from-first place s high its (first_shares fewer place s high (within-places place s its) its)
+
+    -- it stands at `end`, which the first sweep visited last
+    in-first : (end place s : ℕ) → from ≡ size → start ≤ end → end < places → next ≡ end + 1 → sender_at setup place ≡ Some s → steps_to start places place < steps_to start places end → Share place s
+    in-first end place s all high_end low_end here its before = by_place (lt-or place start)
+      where
+        at_end : steps_to start places end ≡ end - start
+        at_end = steps-high end high_end
+
+        by_place : (place < start) ⊎ (start ≤ place) → Share place s
+        by_place (inl low) = let steps = steps-low place low in absurd (omega (arith, before, at_end, steps, low, low_end, high_end))
+        by_place (inr high) = let steps = steps-high place high in from-first place s high its (first_before all place s high (omega (arith, before, at_end, steps, here, high)) its)
+
+    at-last : (t : Taken) → slice_get filled (count - 1) ≡ Some t → (end place s : ℕ) → sender_at setup end ≡ Some t.packet.sender → steps_to start places place < steps_to start places end → sender_at setup place ≡ Some s → Share place s
+    at-last t at end place s its_end before its = by_from (lt-or from count)
+      where
+        by_from : (from < count) ⊎ (count ≤ from) → Share place s
+        by_from (inl more) =
+            let last = second_last.some more t at in
+            let here = one-place (sender_numbers setup) (again - 1) end t.packet.sender rising last.1 its_end in
+            let positive = last.0 in
+            in-second end place s (omega (arith, more, full)) (omega (arith, here, positive)) its before
+        by_from (inr all) =
+            let filled_first : from ≡ size = omega (arith, all, up, full) in
+            let same = untouched filled_first in
+            let at_mid : slice_get mid (from - 1) ≡ Some t = ap (λ l. slice_get l (from - 1)) (sym same) ∙ ap (λ n. slice_get filled (n - 1)) (omega (arith, all, up)) ∙ at in
+            let within_mid = slice_get_within mid (from - 1) t at_mid in
+            let same_size = ap length same in
+            let last = (first_last filled_first).some (omega (arith, within_mid, same_size, sizes, filled_first)) t at_mid in
+            let here = one-place (sender_numbers setup) (next - 1) end t.packet.sender rising last.1 its_end in
+            let positive = last.0 in
+            in-first end place s filled_first (omega (arith, here, positive)) (within-places end t.packet.sender its_end) (omega (arith, here, positive)) its before
+
+    by_last : (o : Option Taken) → slice_get filled (count - 1) ≡ o
+        → IfSome o (λ t. (end place s : ℕ) → sender_at setup end ≡ Some t.packet.sender → steps_to start places place < steps_to start places end → sender_at setup place ≡ Some s → Share place s)
+    by_last None e = tt
+    by_last (Some t) e = at-last t e
 
 -- the next round starts where it should
 pub starts-next : (old new : LiveState) (places start next again from size count : ℕ) (mid filled : List Taken) → AreRising (sender_numbers old.course.setup) → places ≡ length old.outlets → length new.outlets ≡ length old.outlets → start ≡ starts_at old → start ≤ places

@@ -1,5 +1,5 @@
 -- What takes of packets from inlets do.
-use Rattle.std.specs.Prelude.{◌≡◌, ℕ, ◌⊎◌, filter, ◌==◌, ◌≤◌, false, List, [], ◌∷◌, ◌++◌, length, slice_set as set, take, drop, ⊤, Some, slice_get, ◌+◌, ◌<◌, nat_lt, if◌then◌else◌, Option, MatchOption}
+use Rattle.std.specs.Prelude.{◌≡◌, ℕ, ◌⊎◌, filter, ◌==◌, ◌≤◌, false, List, [], ◌∷◌, ◌++◌, length, slice_set as set, take, drop, ⊤, Some, slice_get, ◌+◌, ◌-◌, ◌<◌, nat_lt, if◌then◌else◌, Option, IfSome, MatchOption}
 use Rattle.std.specs.List.{AllByRecursion}
 use mathlib.Core.List.{IsPrefix}
 use Rattle.clk_packet.specs.declared.packet.Packet.{Packet}
@@ -87,6 +87,16 @@ AreAtMost most taken = (s : ℕ) → count_of s taken ≤ most
 -- Each sender gave `each` of these packets, or `Otherwise` holds of its place.
 abbrev pub AreSharesOr : (ℕ → Type 0) → Setup → ℕ → List Taken → Type 0
 AreSharesOr Otherwise setup each taken = (place s : ℕ) → sender_at setup place ≡ Some s → (count_of s taken ≡ each) ⊎ Otherwise place
+
+-- how many steps a round that starts at a place takes to another, of `many` places; the first comes after the last
+abbrev pub steps_to : (start many place : ℕ) → ℕ
+steps_to start many place = if nat_lt place start then place + many - start else place - start
+
+-- In a round that starts at a place, of `many` places, each sender before that of the last of these packets gave `each` of them, or
+-- `Otherwise` holds of its place.
+abbrev pub AreSharesBefore : (ℕ → Type 0) → Setup → (start many each : ℕ) → Option Taken → List Taken → Type 0
+AreSharesBefore Otherwise setup start many each last taken =
+    IfSome last (λ t. (end place s : ℕ) → sender_at setup end ≡ Some t.packet.sender → steps_to start many place < steps_to start many end → sender_at setup place ≡ Some s → (count_of s taken ≡ each) ⊎ Otherwise place)
 
 -- the place after this one, of `many` places; the first comes after the last
 abbrev pub after_place : ℕ → ℕ → ℕ

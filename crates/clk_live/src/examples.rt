@@ -1,11 +1,11 @@
 //! What the definitions of tokens, takes, pulls and rounds say of worked examples. The functions do nothing.
 
-ghost use Rattle.std.specs.Prelude.{[], None};
+ghost use Rattle.std.specs.Prelude.{[], None, slice_get};
 ghost use Rattle.clk_sched.specs.Examples.Priority.{p0_0, p1_0};
 ghost use Rattle.clk_router.specs.SettledExamples.{two_devices, p0_1, p1_1, p7_0};
 ghost use Rattle.clk_live.specs.declared.taking.OfferOutcome.TheVariants.{Accepted, Refused, Evicted};
 ghost use Rattle.clk_live.specs.State.{IsTokenOf};
-ghost use Rattle.clk_live.specs.Taking.{IsTaken, IsQueueFull, AreSharesOr};
+ghost use Rattle.clk_live.specs.Taking.{IsTaken, IsQueueFull, AreSharesOr, AreSharesBefore};
 ghost use Rattle.clk_live.specs.Pulling.{IsPulledLive};
 ghost use Rattle.clk_live.specs.Examples.{two_and_one, nothing_taken, one_taken, one_kept, told, before_eviction, after_eviction, one_emitted, emitted_with, one_held, two_held, one_left, one_of_each, two_of_first, filled, with_room};
 
@@ -52,11 +52,15 @@ pub fn full_examples()
     ensures not_of_other_sender { ¬ (IsQueueFull two_held 1) }
 {}
 
-/// In a round each sender gives its share, or its queue is full. It does not give fewer packets while its queue has room, and never more.
+/// In a round each sender gives its share, or its queue is full. It does not give fewer packets while its queue has room, and never more. A
+/// round that ends at a sender took the shares of all before it, from the sender on at which it started.
 pub fn share_examples()
     ensures shares { AreSharesOr (λ place. ⊥) two_devices 1 one_of_each }
     ensures or_full { AreSharesOr (IsQueueFull filled) two_devices 2 two_of_first }
     ensures not_fewer { ¬ (AreSharesOr (λ place. ⊥) two_devices 2 two_of_first) }
     ensures not_more { ¬ (AreSharesOr (λ place. ⊥) two_devices 1 two_of_first) }
     ensures not_with_room { ¬ (AreSharesOr (IsQueueFull with_room) two_devices 2 two_of_first) }
+    ensures in_turn { AreSharesBefore (λ place. ⊥) two_devices 0 2 2 (slice_get two_of_first 2) two_of_first }
+    ensures not_skipped { ¬ (AreSharesBefore (λ place. ⊥) two_devices 1 2 2 (slice_get two_of_first 0) two_of_first) }
+    ensures not_cut_short { ¬ (AreSharesBefore (λ place. ⊥) two_devices 0 2 3 (slice_get two_of_first 2) two_of_first) }
 {}

@@ -64,7 +64,7 @@ impl Live {
         self.router.has_account();
     }
 
-    /// Whether every inlet has ended, and every packet that was ever sent through it was taken.
+    /// Whether every inlet has ended, so that nothing more can come through it.
     pub fn is_ended(&self) -> bool
         ensures ended { result ≡ true → AreAllEnded self.now.outlets }
         ensures not_ended { result ≡ false → AreAllEnded self.now.outlets → ⊥ }

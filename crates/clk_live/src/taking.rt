@@ -47,12 +47,12 @@ impl Live {
     ghost use Rattle.std.specs.Prelude.{◌≡◌, ◌+◌, ◌-◌, ◌<◌, ◌≤◌, ℕ, List, true, false, None, length, take, drop, slice_get, IfSome};
     ghost use Rattle.clk_router.specs.Course.{sender_at};
     ghost use Rattle.clk_live.specs.State.{Seen, seen, starts_at, IsTokenOf, AllGoOn};
-    ghost use Rattle.clk_live.specs.Taking.{IsTaken, AreTaken, AreOf, AreAtMost, AreSharesOr, StartsNext, AllAccepted, HasNone, GaveAll, GaveAllThatFits, IsQueueFull};
+    ghost use Rattle.clk_live.specs.Taking.{IsTaken, AreTaken, AreOf, AreAtMost, AreSharesOr, AreSharesBefore, StartsNext, AllAccepted, HasNone, GaveAll, GaveAllThatFits, IsQueueFull};
     ghost use Rattle.clk_live.specs.inside.Each.{AreEach, GaveAllWanted, GaveSharesOr, IsLast};
     ghost use Rattle.clk_live.specs.inside.Room.{StayFull};
 
-    /// Takes the next packet from the inlet of the sender at this place, and offers it to the sender's queue. Returns `None` if no packet
-    /// waits there.
+    /// Takes the next packet from the inlet of the sender at this place, and offers it to the sender's queue. Returns `None` if it sees no
+    /// packet there.
     pub fn take(&mut self, place: usize) -> Option<Taken>
         requires there { place < length self.old.outlets }
         ensures taken { IfSome result (λ t. IsTaken place (seen self.old) t (seen self.new)) }
@@ -246,11 +246,12 @@ impl Live {
     }
 
     /// Takes packets from all inlets in one round over the senders, at most `each` from each, into the start of `taken`. Offers each to its
-    /// sender's queue. Returns how many. The round ends early if `taken` is full, and the next round starts at the next sender.
+    /// sender's queue. Returns how many. The round ends early if `taken` is full, and the next one starts after the sender of its last packet.
     pub fn take_in(&mut self, each: usize, taken: &mut [Taken]) -> usize
         ensures taken { AreTaken (seen self.old) (seen self.new) taken.old taken.new result }
         ensures each { AreAtMost each (take result taken.new) }
         ensures shares { result < length taken.old → AreSharesOr (GaveAll self.old.outlets self.new.outlets) self.old.course.setup each (take result taken.new) }
+        ensures in_turn { AreSharesBefore (GaveAll self.old.outlets self.new.outlets) self.old.course.setup (starts_at self.old) (length self.old.outlets) each (slice_get taken.new (result - 1)) (take result taken.new) }
         ensures turn { StartsNext self.old self.new (length taken.old) result (slice_get taken.new (result - 1)) }
         ensures outlets { AllGoOn self.old.outlets self.new.outlets }
     {
@@ -263,6 +264,7 @@ impl Live {
         ensures taken { AreTaken (seen self.old) (seen self.new) taken.old taken.new result }
         ensures each { AreAtMost each (take result taken.new) }
         ensures shares { result < length taken.old → AreSharesOr (GaveAllThatFits self.old self.new) self.old.course.setup each (take result taken.new) }
+        ensures in_turn { AreSharesBefore (GaveAllThatFits self.old self.new) self.old.course.setup (starts_at self.old) (length self.old.outlets) each (slice_get taken.new (result - 1)) (take result taken.new) }
         ensures accepted { AllAccepted (take result taken.new) }
         ensures turn { StartsNext self.old self.new (length taken.old) result (slice_get taken.new (result - 1)) }
         ensures outlets { AllGoOn self.old.outlets self.new.outlets }
@@ -275,6 +277,7 @@ impl Live {
         ensures taken { AreTaken (seen self.old) (seen self.new) taken.old taken.new result }
         ensures each { AreAtMost each (take result taken.new) }
         ensures shares { result < length taken.old → AreSharesOr (GaveAllWanted only_fitting self.old self.new) self.old.course.setup each (take result taken.new) }
+        ensures in_turn { AreSharesBefore (GaveAllWanted only_fitting self.old self.new) self.old.course.setup (starts_at self.old) (length self.old.outlets) each (slice_get taken.new (result - 1)) (take result taken.new) }
         ensures accepted { only_fitting ≡ true → AllAccepted (take result taken.new) }
         ensures turn { StartsNext self.old self.new (length taken.old) result (slice_get taken.new (result - 1)) }
         ensures outlets { AllGoOn self.old.outlets self.new.outlets }
@@ -321,6 +324,7 @@ impl Live {
         ensures front { take from taken.new ≡ take from taken.old }
         ensures each { AreEach self.old.course.setup first end each (take from taken.old) (take result.0 taken.new) }
         ensures shares { result.0 < length taken.old → GaveSharesOr (GaveAllWanted only_fitting self.old self.new) self.old.course.setup first end each (take from taken.old) (take result.0 taken.new) }
+        ensures in_turn { result.0 ≡ length taken.old → GaveSharesOr (GaveAllWanted only_fitting self.old self.new) self.old.course.setup first (result.1 - 1) each (take from taken.old) (take result.0 taken.new) }
         ensures full { StayFull self.old.course self.new.course }
         ensures ended { result.0 < length taken.old → result.1 ≡ end }
         ensures last { result.0 ≡ length taken.old → IsLast self.old.course.setup first from taken.new result.0 result.1 }

@@ -7,11 +7,11 @@ use Rattle.clk_router.specs.Events.{Setup, sender_numbers}
 use Rattle.clk_tree.specs.PlanParts.{number_of}
 use Rattle.clk_live.specs.State.{LiveState, GoesOn}
 use Rattle.clk_live.specs.Taking.{AreOf}
-use Rattle.clk_live.specs.inside.Each.{GaveAllWanted}
+use Rattle.clk_live.specs.inside.Each.{GaveAllWanted, GaveSharesOr}
 use Rattle.clk_live.proofs.Fitting.{wanted-later, wanted-before}
 use Rattle.clk_live.proofs.Lists.{member, zip-length}
 use Rattle.clk_live.proofs.Outlets.{all-same, all-then}
-use Rattle.clk_live.proofs.Rounds.{lt-or, each-none, each-more, shares-none, shares-more, last-of}
+use Rattle.clk_live.proofs.Rounds.{lt-or, each-none, each-more, shares-none, shares-keep, shares-more, last-of}
 use Rattle.clk_live.proofs.live.Live.sweep.Goals as goal
 
 -- a sender at whose place a sweep had room for all gave as many as it may, or fewer than were asked of it
@@ -33,6 +33,7 @@ loop-place-init c =
       (λ full. record { none = λ e. refl; some = λ more t at. absurd (omega (arith, more)) }),
       refl,
       (λ place is. is),
+      (λ full place s from_first low at. absurd (omega (arith, from_first, low))),
     )
 
 pub loop-place-preserved : goal.loop-place-preserved
@@ -74,4 +75,8 @@ loop-place-preserved c =
       }),
       sym (take-take c.args.from l.count f.new.taken inv.1.0) ∙ ap (take c.args.from) f.ensures.front ∙ take-take c.args.from l.count l.taken inv.1.0 ∙ inv.9,
       (λ place is. f.ensures.full place (inv.10 place is)),
+      (λ full.
+          subst (λ (end : ℕ). GaveSharesOr (GaveAllWanted c.args.only_fitting old f.new.self) old.course.setup c.args.first end c.args.each (take c.args.from c.args.taken.now) (take f.result f.new.taken)) (omega arith)
+          (shares-keep (GaveAllWanted c.args.only_fitting old l.self) (GaveAllWanted c.args.only_fitting old f.new.self) old.course.setup c.args.first l.place n.0 c.args.each l.count f.result (take c.args.from c.args.taken.now) l.taken f.new.taken
+          (wanted-later old l.self f.new.self inv.5 f.ensures.outlets c.args.only_fitting f.ensures.full) rising n.1 f.ensures.front f.ensures.count.0 within few of (inv.7 c.if-count-taken.true))),
     )

@@ -22,3 +22,4 @@ invariant-loop-place l =
     × (l.count ≡ length l.taken → IsLast l.initial.self.course.setup l.first l.from l.taken l.count l.place)
     × (take l.from l.taken ≡ take l.from l.initial.taken)
     × StayFull l.initial.self.course l.self.course
+    × (l.count ≡ length l.taken → GaveSharesOr (GaveAllWanted l.only_fitting l.initial.self l.self) l.initial.self.course.setup l.first (l.place - 1) l.each (take l.from l.initial.taken) (take l.count l.taken))
