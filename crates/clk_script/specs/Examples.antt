@@ -1,5 +1,5 @@
 -- Events that cannot happen, and pulls that are no drain; each is wrong in one thing.
-use Rattle.std.specs.Prelude.{ℕ, List, [], ◌∷◌, codes, Option, Some, None, Result, Err}
+use Rattle.std.specs.Prelude.{ℕ, false, List, [], ◌∷◌, codes, Option, Some, None, Result, Err}
 use Rattle.std.proofs.Common.{lit≤}
 use Rattle.clk_packet.specs.declared.fault.Fault.{Fault}
 use Rattle.clk_packet.specs.declared.packet.Packet.{Packet}
@@ -163,4 +163,4 @@ one_pull = Pull 0 3 ∷ []
 
 -- a writer of a record that holds these bytes, after so many lines
 abbrev pub holding : List ℕ → ℕ → ScriptWriter
-holding bytes lines = record { held = bytes; lines = lines }
+holding bytes lines = record { held = bytes; lines = lines; ended = false }

@@ -1,7 +1,7 @@
 //! Lines, fields and numbers in the bytes of a script.
 
 ghost use Rattle.std.specs.Prelude.{◌≡◌, ℕ, ◌<◌, ◌≤◌, ◌==◌, ◌^◌, ◌∷◌, length, drop, not, None, Some, MatchOption};
-ghost use Rattle.std.specs.List.{position_or_len, prefix_len};
+ghost use Rattle.std.specs.List.{position_or_len, prefix_len, after_first};
 ghost use Rattle.std.specs.Str.Lines.{lines, strip_carriage_return};
 ghost use Rattle.clk_packet.specs.Numbers.{number_in};
 ghost use Rattle.clk_script.specs.Script.{is_blank, fields};
@@ -67,6 +67,7 @@ pub fn first_line(text: &[u8]) -> (&[u8], &[u8])
     requires { 0 < length text.now }
     ensures line { lines text.now ≡ result.0.now ∷ lines result.1.now }
     ensures rest { length result.1.now < length text.now }
+    ensures after { result.1.now ≡ after_first (λ byte. byte == 10) text.now }
 {
     let (line, rest) = text.split_at(line_len(text));
     match rest {

@@ -1,6 +1,6 @@
 //! What the definitions of scripts say. Each law is a function that does nothing and whose contract is the law.
 
-ghost use Rattle.std.specs.Prelude.{◌≡◌, ℕ, ◌≤◌, ◌<◌, ◌^◌, List, [], ◌∷◌, ◌++◌, length, map, None, Some, codes};
+ghost use Rattle.std.specs.Prelude.{◌≡◌, ℕ, ◌≤◌, ◌<◌, ◌^◌, List, [], ◌∷◌, ◌++◌, length, map, None, Some, codes, true};
 ghost use Rattle.std.specs.List.{AllByRecursion};
 ghost use Rattle.clk_packet.specs.Bytes.{Takes, AppendsFront};
 ghost use Rattle.clk_packet.specs.declared.fault.Fault.TheVariants.{Memory, TooLarge, Write};
@@ -16,7 +16,7 @@ ghost use Rattle.clk_script.specs.Meaning.{CloseFirst, IsMeaning, MeansOver, Mea
 ghost use Rattle.clk_router.specs.Setups.{IsWired, IsApart};
 ghost use Rattle.clk_script.specs.OneMeaning.{HasAtMostOneMeaning, HasAtMostOneLog, DevicesAreApart};
 ghost use Rattle.clk_script.specs.inside.Replay.{DevicesGoAlike};
-ghost use Rattle.clk_script.specs.Record.{command_text, drain_text, record_text, FitsLimits, FitsScript, RecordsMeanTheirCourse, PlanRecordsMeanTheirCourse, IsSmall, OnlyFittingRecordsMean};
+ghost use Rattle.clk_script.specs.Record.{command_text, drain_text, record_text, FitsLimits, FitsScript, HasRoom, RecordsMeanTheirCourse, PlanRecordsMeanTheirCourse, IsSmall, OnlyFittingRecordsMean};
 ghost use Rattle.clk_script.specs.OneDevice.{HasOneDevice, IsMeaningAlone};
 ghost use Rattle.clk_script.specs.Examples.{two_queues, two_devices, shaped, moment_not_counted, moment_ahead, second_first, number_left_out, refused_early, never_sent, other_refused, swapped, moment_shared, no_device, one_left, closed_at_once, closed_without_a_pull, closed_a_tick_early, closed_a_pull_late, one_at_each, closed_in_turn, closed_last_first, closed_on, pulled_at, great_sender, from_great, failed, one_pull, holding};
 ghost use Rattle.clk_script.specs.Records.{Records};
@@ -165,10 +165,14 @@ pub fn word_examples()
 {}
 
 /// A record byte for byte, and events that fit at the greatest moments. The near misses are an unknown sender, a sender or a device above
-/// 65,535, a pull or a drain at 2^40, and line 1,000,001. The record of each near miss means nothing, though that pull can happen.
+/// 65,535, a pull or a drain at 2^40, and line 1,000,001. The record of each near miss means nothing, though that pull can happen. A writer
+/// has room for line 1,000,000 at the greatest moment, and for no later line or moment.
 pub fn record_examples()
     ensures lines { record_text (map command_of (pulled_at 3)) (Some 4) ≡ codes "send 1 50\npull 3\npull 3 1\ndrain 4\n" }
     ensures fits { FitsScript two_devices (pulled_at 1099511627775) (Some 1099511627775) }
+    ensures has_room { HasRoom 999999 (Some 1099511627775) }
+    ensures no_line_left { ¬ (HasRoom 1000000 None) }
+    ensures no_late_room { ¬ (HasRoom 0 (Some 1099511627776)) }
     ensures not_unknown_sender { ¬ (FitsScript shaped one_left None) }
     ensures no_unknown_sender { (text : List ℕ) → ¬ (IsMeaning shaped (record_text (map command_of one_left) None) text) }
     ensures not_great_sender { ¬ (FitsScript great_sender from_great None) }
@@ -189,7 +193,8 @@ pub fn record_examples()
     records_mean_their_course();
 }
 
-/// What a writer of a record has written and holds is its whole record, each line once, and it counts the lines.
+/// What a writer of a record has written and holds is its whole record, each line once, and it counts the lines. No writer whose sink failed
+/// meets `Records`.
 pub fn writer_examples()
     ensures holds { Records (Some []) (Some []) one_pull (holding (codes "pull 3\n") 1) }
     ensures wrote { Records (Some []) (Some (codes "pull 3\n")) one_pull (holding [] 1) }
@@ -198,4 +203,5 @@ pub fn writer_examples()
     ensures not_twice { ¬ (Records (Some []) (Some (codes "pull 3\n")) one_pull (holding (codes "pull 3\n") 1)) }
     ensures not_another { ¬ (Records (Some []) (Some []) one_pull (holding (codes "pull 4\n") 1)) }
     ensures not_uncounted { ¬ (Records (Some []) (Some []) one_pull (holding (codes "pull 3\n") 0)) }
+    ensures not_ended { ¬ (Records (Some []) (Some []) one_pull (record (holding (codes "pull 3\n") 1) { ended = true })) }
 {}

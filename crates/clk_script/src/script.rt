@@ -26,15 +26,17 @@ pub enum ScriptLine {
 }
 
 impl ScriptLine {
-    ghost use Rattle.std.specs.Prelude.{◌≡◌, ◌<◌, ◌∷◌, ◌++◌, codes, length, IfSome};
+    ghost use Rattle.std.specs.Prelude.{◌≡◌, ◌<◌, ◌==◌, ◌∷◌, ◌++◌, codes, length, IfSome};
+    ghost use Rattle.std.specs.List.{after_first};
     ghost use Rattle.clk_script.specs.Script.{fields, line_of, lines_of, line_of_fields, only_moment};
 
-    /// Reads the first line of a text that isn't empty. Returns it, and the text that follows it.
+    /// Reads the first line of a text that isn't empty. Returns it, and the text that follows its line feed.
     #[inline(always)]
     pub fn next(text: &[u8]) -> (ScriptLine, &[u8])
         requires { 0 < length text.now }
         ensures line { lines_of text.now ≡ result.0 ∷ lines_of result.1.now }
         ensures rest { length result.1.now < length text.now }
+        ensures after { result.1.now ≡ after_first (λ byte. byte == 10) text.now }
     {
         // Most lines are plain: one space between fields, and a line feed right after the last field. These are read number by number.
         if let [b'p', b'u', b'l', b'l', b' ', rest @ ..] = text {
@@ -55,7 +57,8 @@ impl ScriptLine {
     /// anything else than a line feed follows the number.
     #[inline(always)]
     fn plain_pull(text: &[u8]) -> Option<(ScriptLine, &[u8])>
-        ensures { IfSome result (λ r. (lines_of (codes "pull " ++ text.now) ≡ r.0 ∷ lines_of r.1.now) × (length r.1.now < length text.now)) }
+        ensures { IfSome result (λ r. (lines_of (codes "pull " ++ text.now) ≡ r.0 ∷ lines_of r.1.now) × (length r.1.now < length text.now)
+            × (r.1.now ≡ after_first (λ byte. byte == 10) (codes "pull " ++ text.now))) }
     {
         let (moment, rest) = number_before(text, b'\n', 0, MAX_MOMENT)?;
         Some((
@@ -68,7 +71,8 @@ impl ScriptLine {
     /// anything else than one space and a line feed follows the numbers.
     #[inline(always)]
     fn plain_send(text: &[u8]) -> Option<(ScriptLine, &[u8])>
-        ensures { IfSome result (λ r. (lines_of (codes "send " ++ text.now) ≡ r.0 ∷ lines_of r.1.now) × (length r.1.now < length text.now)) }
+        ensures { IfSome result (λ r. (lines_of (codes "send " ++ text.now) ≡ r.0 ∷ lines_of r.1.now) × (length r.1.now < length text.now)
+            × (r.1.now ≡ after_first (λ byte. byte == 10) (codes "send " ++ text.now))) }
     {
         let (sender, rest) = number_before(text, b' ', 0, MAX_SENDER)?;
         let (length, rest) = number_before(rest, b'\n', 1, MAX_LENGTH)?;

@@ -16,13 +16,15 @@ use clk_packet::{Fault, Sink};
 
 /// Writes the record of a router: the script of the commands that were carried out, line by line.
 ///
-/// Commands are held until there are 1,024 of them, and their lines are then written at once. `finish` writes those that are left. No call
-/// allocates.
+/// Commands are held until there are 1,024 of them, and their lines are then written at once. `finish` writes those that are left. If the
+/// sink fails, the record has ended: every later call returns fault 20 and writes nothing. No call allocates.
 #[derive(Drop)]
 pub struct ScriptWriter {
     held: HeldCommands,
     /// How many lines the record has.
     lines: u32,
+    /// Whether the sink has failed. It has a front of the record, and nothing more is written.
+    ended: bool,
 }
 
 impl ScriptWriter {
@@ -33,15 +35,17 @@ impl ScriptWriter {
         ScriptWriter {
             held: HeldCommands::new(),
             lines: 0,
+            ended: false,
         }
     }
 
-    /// Adds the line of a command. After a fault 20 the record ends.
+    /// Adds the line of a command.
     ///
     /// # Errors
     ///
     /// Fault 18 if the record has as many lines as a script may have, or if the moment of a pull is 2^40 or later. Nothing changes then.
-    /// Fault 20 if the sink fails. It has then taken a front of the record.
+    /// Fault 20 if the sink fails. It has then taken a front of the record, which has ended. Fault 20 also if the record had ended before;
+    /// nothing is written then.
     pub fn record<W: Sink>(&mut self, command: Command, sink: &mut W) -> Result<(), Fault>
         ensures records { OnOk result ((start : Option (List ℕ)) (commands : List Command) → Records start (W.Sink.taken sink.old) commands self.old
             → Records start (W.Sink.taken sink.new) (commands ++ command ∷ []) self.new) }
@@ -49,13 +53,21 @@ impl ScriptWriter {
             → AppendsFront start (W.Sink.taken sink.new) (record_text (commands ++ command ∷ []) None) }
         ensures too_large { IsErrOf result TooLarge → (self.new ≡ self.old) × (sink.new ≡ sink.old) }
         ensures has_room { HasRoom self.old.lines (handed_in command) → IsOkUnless result Write }
-        ensures has_none { (HasRoom self.old.lines (handed_in command) → ⊥) → IsErrOf result TooLarge }
-        ensures failures { W.Sink.failures sink.new ≡ write_failures result (W.Sink.failures sink.old) }
+        ensures has_none { self.old.ended ≡ false → (HasRoom self.old.lines (handed_in command) → ⊥) → IsErrOf result TooLarge }
+        ensures failures { self.old.ended ≡ false → W.Sink.failures sink.new ≡ write_failures result (W.Sink.failures sink.old) }
+        ensures ended { IsErrOf result Write → self.new.ended ≡ true }
+        ensures refuses { self.old.ended ≡ true → IsErrOf result Write × (self.new ≡ self.old) × (sink.new ≡ sink.old) }
     {
+        if self.ended {
+            return Err(Fault::Write);
+        }
         if !self.has_room(handed_in(command)) {
             return Err(Fault::TooLarge);
         }
-        self.held.add(command, sink)?;
+        if let Err(fault) = self.held.add(command, sink) {
+            self.ended = true;
+            return Err(fault);
+        }
         self.lines += 1;
         Ok(())
     }
@@ -72,19 +84,33 @@ impl ScriptWriter {
         is_early && self.lines < MAX_LINES
     }
 
+    /// Whether the record has a line left for a drain from this moment on, in ticks, and the moment is below 2^40. `finish_by_drain` then
+    /// returns no fault 18.
+    pub fn can_drain(&self, moment: u64) -> bool
+        ensures yes { result ≡ true → HasRoom self.now.lines (Some moment) }
+        ensures no { result ≡ false → HasRoom self.now.lines (Some moment) → ⊥ }
+    {
+        self.has_room(Some(moment))
+    }
+
     /// Ends the record without a drain, and writes what is held.
     ///
     /// # Errors
     ///
-    /// Fault 20 if the sink fails. It has then taken a front of the record.
+    /// Fault 20 if the sink fails. It has then taken a front of the record. Fault 20 also if the record had ended before; nothing is
+    /// written then.
     pub fn finish<W: Sink>(self, sink: &mut W) -> Result<(), Fault>
         ensures whole { OnOk result ((start : Option (List ℕ)) (commands : List Command) → Records start (W.Sink.taken sink.old) commands self
             → Appends start (W.Sink.taken sink.new) (record_text commands None)) }
         ensures front { IsErrOf result Write → (start : Option (List ℕ)) (commands : List Command) → Records start (W.Sink.taken sink.old) commands self
             → AppendsFront start (W.Sink.taken sink.new) (record_text commands None) }
         ensures fault { IsOkUnless result Write }
-        ensures failures { W.Sink.failures sink.new ≡ write_failures result (W.Sink.failures sink.old) }
+        ensures failures { self.ended ≡ false → W.Sink.failures sink.new ≡ write_failures result (W.Sink.failures sink.old) }
+        ensures refuses { self.ended ≡ true → IsErrOf result Write × (sink.new ≡ sink.old) }
     {
+        if self.ended {
+            return Err(Fault::Write);
+        }
         let mut held = self.held;
         held.write(sink)
     }
@@ -93,7 +119,9 @@ impl ScriptWriter {
     ///
     /// # Errors
     ///
-    /// Fault 18 as for `record`, and nothing is written then. Fault 20 if the sink fails. It has then taken a front of the record.
+    /// Fault 18 as for `record`. Nothing is written then, and the lines that are held are lost: ask `can_drain` before, and if it returns
+    /// false call `finish`. Fault 20 if the sink fails. It has then taken a front of the record. Fault 20 also if the record had ended
+    /// before; nothing is written then.
     pub fn finish_by_drain<W: Sink>(self, moment: u64, sink: &mut W) -> Result<(), Fault>
         ensures whole { OnOk result ((start : Option (List ℕ)) (commands : List Command) → Records start (W.Sink.taken sink.old) commands self
             → Appends start (W.Sink.taken sink.new) (record_text commands (Some moment))) }
@@ -101,10 +129,14 @@ impl ScriptWriter {
             → AppendsFront start (W.Sink.taken sink.new) (record_text commands (Some moment)) }
         ensures too_large { IsErrOf result TooLarge → sink.new ≡ sink.old }
         ensures has_room { HasRoom self.lines (Some moment) → IsOkUnless result Write }
-        ensures has_none { (HasRoom self.lines (Some moment) → ⊥) → IsErrOf result TooLarge }
-        ensures failures { W.Sink.failures sink.new ≡ write_failures result (W.Sink.failures sink.old) }
+        ensures has_none { self.ended ≡ false → (HasRoom self.lines (Some moment) → ⊥) → IsErrOf result TooLarge }
+        ensures failures { self.ended ≡ false → W.Sink.failures sink.new ≡ write_failures result (W.Sink.failures sink.old) }
+        ensures refuses { self.ended ≡ true → IsErrOf result Write × (sink.new ≡ sink.old) }
     {
-        if !self.has_room(Some(moment)) {
+        if self.ended {
+            return Err(Fault::Write);
+        }
+        if !self.can_drain(moment) {
             return Err(Fault::TooLarge);
         }
         let mut held = self.held;

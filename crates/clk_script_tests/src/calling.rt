@@ -35,6 +35,10 @@ fn a_packet_goes_through_a_router(rt: HostRuntime) -> Result<(), Fault> {
     assert_eq!(rt; router.devices(), 1);
     assert_eq!(rt; router.moment(0), 3);
     assert_eq!(rt; router.left(0), 0);
+    assert_eq!(rt; router.pulls(0), 1);
+    assert!(rt; router.can_close(0, 3));
+    assert!(rt; !router.can_close(1, 3));
+    assert!(rt; !router.can_close(0, (1 << 43) - 1));
     for account in router.accounts() {
         assert_eq!(rt; account.counts.accepted.packets, 1);
         assert_eq!(rt; account.counts.emitted.bytes, 64);

@@ -5,7 +5,7 @@ ghost use Rattle.std.specs.Io.KnownBytes.{Appends};
 ghost use Rattle.clk_script.specs.Record.{record_text};
 
 use crate::row::assert_ends;
-use clk_packet::{FailingSink, Fault, Sink};
+use clk_packet::{Failed, FailingSink, Failures, Fault, Sink};
 use clk_rows::trees::PRIO_OVER_ROOM_FOR_TWO;
 use clk_script::{Command, ScriptWriter};
 
@@ -85,6 +85,8 @@ fn a_late_moment_is_not_recorded(rt: HostRuntime) -> Result<(), Fault> {
         Err(Fault::TooLarge)
     );
     writer.record(pull(1, 7), &mut sink)?;
+    assert!(rt; writer.can_drain((1 << 40) - 1));
+    assert!(rt; !writer.can_drain(1 << 40));
     writer.finish(&mut sink)?;
     assert_eq!(rt; sink.taken(), b"send 3 9\npull 7 1\n".as_slice());
     let late = ScriptWriter::new().finish_by_drain(1 << 40, &mut sink);
@@ -101,7 +103,9 @@ fn a_record_has_a_million_lines_at_most(rt: HostRuntime) -> Result<(), Fault> {
     for _ in 0..999_999 {
         writer.record(pull(0, 1), &mut sink)?;
     }
+    assert!(rt; writer.can_drain(1));
     writer.record(send(0, 1), &mut sink)?;
+    assert!(rt; !writer.can_drain(1));
     assert_eq!(rt; writer.record(send(0, 1), &mut sink), Err(Fault::TooLarge));
     assert_eq!(rt; writer.finish_by_drain(1, &mut sink), Err(Fault::TooLarge));
     Ok(())
@@ -138,5 +142,67 @@ fn a_long_record_is_written_as_it_grows(rt: HostRuntime) -> Result<(), Fault> {
             .chunks(9)
             .all(|line| line == b"send 0 1\n".as_slice())
     );
+    Ok(())
+}
+
+// A sink that fails once, at the end of `before`, and then takes bytes into `after`.
+#[derive(Drop)]
+struct Recovers {
+    before: FailingSink,
+    after: FailingSink,
+    failed: bool,
+    failures: Failures,
+}
+
+impl Sink for Recovers {
+    ghost use Rattle.std.specs.Prelude.{None};
+
+    ghost taken = { λ s. None };
+
+    ghost failures = { λ s. s.failures.count };
+
+    fn write(&mut self, bytes: &[u8]) -> Result<usize, Failed> {
+        let written = if self.failed {
+            self.after.write(bytes)
+        } else {
+            self.before.write(bytes)
+        };
+        if written.is_err() {
+            self.failed = true;
+            self.failures.add_one();
+        }
+        written
+    }
+}
+
+/// If the sink fails as held lines are written, the record has ended: later calls fail and write nothing, even if the sink recovers.
+#[test]
+fn a_record_has_ended_once_its_sink_failed(rt: HostRuntime) -> Result<(), Fault> {
+    for by_drain in [false, true] {
+        let mut sink = Recovers {
+            before: FailingSink::new(vec![in rt.alloc(); 0; 100]?),
+            after: FailingSink::new(vec![in rt.alloc(); 0; 40_000]?),
+            failed: false,
+            failures: Failures::none(),
+        };
+        let mut writer = ScriptWriter::new();
+        for _ in 0..1_024 {
+            writer.record(send(0, 1), &mut sink)?;
+        }
+        for moment in [7, 8, 1 << 40] {
+            assert_eq!(rt;
+                writer.record(pull(0, moment), &mut sink),
+                Err(Fault::Write)
+            );
+        }
+        let ended = if by_drain {
+            writer.finish_by_drain(1 << 40, &mut sink)
+        } else {
+            writer.finish(&mut sink)
+        };
+        assert_eq!(rt; ended, Err(Fault::Write));
+        assert_eq!(rt; sink.before.taken().len(), 100);
+        assert!(rt; sink.after.taken().is_empty());
+    }
     Ok(())
 }

@@ -1,18 +1,18 @@
 -- The record of events that fit is a script with nothing wrong, and means what happened.
-use Rattle.std.proofs.Common.{◌≡◌, ℕ, zero, suc, ◌+◌, ◌*◌, ◌≤◌, false, nat_lt, List, [], ◌∷◌, ◌++◌, length, map, decimal, Option, Some, None, IfSome, slice_get, refl, sym, ap, subst, ◌∙◌, length-append, arith, rules}
+use Rattle.std.proofs.Common.{◌≡◌, ℕ, ◌+◌, ◌*◌, ◌≤◌, false, nat_lt, List, [], ◌∷◌, ◌++◌, length, map, Option, Some, None, IfSome, slice_get, refl, sym, ap, subst, ◌∙◌, length-append, arith, rules}
 use Rattle.std.specs.List.{filter_map, flat_map, AllByRecursion}
 use Rattle.std.proofs.lemmas.List.{length-map}
 use Rattle.std.proofs.lemmas.Bool.Decides.{nat_tests}
-use Rattle.std.proofs.lemmas.Fmt.{length-decimal-le}
-use Rattle.clk_packet.specs.declared.limits.TheConstants.{MAX_SENDER, MAX_LENGTH}
 use Rattle.clk_router.specs.Events.{Setup, Event, offered, pulled, moment_in, IsOfDevice}
 use Rattle.clk_script.specs.declared.script.Command.{Command}
+use Rattle.clk_script.specs.declared.script.Command.TheVariants.{Send, Pull}
 use Rattle.clk_script.specs.declared.script.ScriptLine.TheVariants as line
 use Rattle.clk_script.specs.Script.{Names, command_fault, first_fault, lines_of, script_fault, command_in, commands_of, drain_in, closing_moment}
-use Rattle.clk_script.specs.declared.limits.TheConstants.{MAX_SCRIPT_BYTES, MAX_LINES, MAX_MOMENT, MAX_DEVICE}
+use Rattle.clk_script.specs.declared.limits.TheConstants.{MAX_SCRIPT_BYTES, MAX_LINES, MAX_MOMENT}
 use Rattle.clk_script.specs.Meaning.{names_of, command_of, course_text, IsClosed}
 use Rattle.clk_script.specs.inside.ScriptRouter.{IsSound}
-use Rattle.clk_script.specs.Record.{named_device, command_text, drain_text, record_text, drain_count, FitsNames, RecordsMeanTheirCourse}
+use Rattle.clk_script.specs.Record.{command_text, drain_text, record_text, drain_count, FitsNames, RecordsMeanTheirCourse}
+use Rattle.clk_script.proofs.Callers.Records.{send-short, pull-short, drain-short}
 use Rattle.clk_script.proofs.Record.Lines.{CanSay, all-small, drain-small, drain_lines, lines-record, lines-again}
 
 -- the commands and the drain of such lines
@@ -38,28 +38,17 @@ no-fault names number [] (Some moment) sound few = rw (in-number number (omega (
 no-fault names number (command ∷ more) drain sound few = search (rules, in-number, no-command_fault, (no-fault names (number + 1) more drain sound.1 (omega (arith, few))))
 
 -- a line has at most 25 bytes
-sender-short : (n : ℕ) → n ≤ MAX_SENDER → length (decimal n) ≤ 5
-sender-short n few = length-decimal-le 5 n (omega arith) (omega (arith, few)) (omega (arith, few))
-
-length-short : (n : ℕ) → n ≤ MAX_LENGTH → length (decimal n) ≤ 5
-length-short n few = length-decimal-le 5 n (omega arith) (omega (arith, few)) (omega (arith, few))
-
-moment-short : (n : ℕ) → n ≤ MAX_MOMENT → length (decimal n) ≤ 13
-moment-short n few = length-decimal-le 13 n (omega arith) (omega (arith, few)) (omega (arith, few))
-
-device-short : (d : ℕ) → d ≤ MAX_DEVICE → length (named_device d) ≤ 6
-device-short zero few = omega arith
-device-short (suc d) few = let short = length-decimal-le 5 (suc d) (omega arith) (omega (arith, few)) (omega (arith, few)) in omega (arith, short)
-
 command-short : (command : Command) → CanSay command → length (command_text command) ≤ 25
-command-short command can = search (rules, sender-short, length-short, length-append, moment-short, device-short)
+command-short (Send sender size) can = send-short sender size can.0 can.2
+command-short (Pull device moment) can = pull-short device moment can.0 can.1
 
-drain-short : (drain : Option ℕ) → IfSome drain (λ moment. moment ≤ MAX_MOMENT) → length (drain_text drain) ≤ 25 * drain_count drain
-drain-short drain fits = search (rules, moment-short, length-append)
+ending-short : (drain : Option ℕ) → IfSome drain (λ moment. moment ≤ MAX_MOMENT) → length (drain_text drain) ≤ 25 * drain_count drain
+ending-short None fits = omega arith
+ending-short (Some moment) fits = drain-short moment fits
 
 record-short : (commands : List Command) (drain : Option ℕ) → AllByRecursion CanSay commands → IfSome drain (λ moment. moment ≤ MAX_MOMENT)
     → length (record_text commands drain) ≤ 25 * (length commands + drain_count drain)
-record-short [] drain can fits = let short = drain-short drain fits in omega (arith, short)
+record-short [] drain can fits = let short = ending-short drain fits in omega (arith, short)
 record-short (command ∷ more) drain can fits =
     let one = command-short command can.0 in
     let rest = record-short more drain can.1 fits in

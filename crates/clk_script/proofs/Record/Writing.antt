@@ -1,7 +1,7 @@
 -- Records that are written as they grow.
 use Rattle.std.proofs.lemmas.Bool.Decides.{nat_tests}
 use Rattle.std.proofs.lemmas.Grind.{common_steps, elements}
-use Rattle.std.proofs.Common.{◌≡◌, ℕ, ◌+◌, List, [], ◌∷◌, ◌++◌, Option, Some, None, Result, Ok, Err, IsErrOf, sym, ap, subst, ◌∙◌, append_assoc, length-append, arith, rules}
+use Rattle.std.proofs.Common.{◌≡◌, ℕ, ◌+◌, false, List, [], ◌∷◌, ◌++◌, Option, Some, None, Result, Ok, Err, IsErrOf, sym, ap, subst, ◌∙◌, append_assoc, length-append, arith, rules}
 use Rattle.std.specs.Io.KnownBytes.{Appends}
 use Rattle.clk_packet.specs.declared.fault.Fault.{Fault}
 use Rattle.clk_packet.specs.declared.fault.Fault.TheVariants.{Write}
@@ -39,14 +39,15 @@ module _ (start old : Option (List ℕ)) (commands : List Command) (writer : Scr
 
 -- A line more was recorded.
 pub records-more : (start old new : Option (List ℕ)) (f g : ℕ) (commands : List Command) (command : Command) (writer after : ScriptWriter) → Records start old commands writer
-    → PassesOn old new f g (Ok tt) writer.held (command_text command) after.held → after.lines ≡ writer.lines + 1 → Records start new (commands ++ command ∷ []) after
-records-more start old new f g commands command writer after its p counted =
+    → PassesOn old new f g (Ok tt) writer.held (command_text command) after.held → after.lines ≡ writer.lines + 1 → after.ended ≡ false → Records start new (commands ++ command ∷ []) after
+records-more start old new f g commands command writer after its p counted going =
     let has = passed-on start old commands writer its new f g (command_text command) after.held p in
     record {
       written = has.written;
       split = command-more commands command ∙ has.split;
       appends = has.appends;
       lines = counted ∙ ap (λ n. n + 1) its.lines ∙ sym (length-append commands (command ∷ []));
+      going = going;
     }
 
 -- Its line was cut short.

@@ -1,13 +1,16 @@
 -- Lines that are as they are written without need: a word, and numbers each after one space, up to a line feed.
 use Rattle.std.proofs.lemmas.Grind.{common_steps}
-use Rattle.std.proofs.Common.{◌≡◌, ℕ, ◌==◌, Bool, true, false, nat_lt, List, [], ◌∷◌, ◌++◌, length, filter, map, codes, refl, sym, ap, ◌∙◌, append_assoc, arith, rules}
-use Rattle.std.specs.List.{slice_split, list_all, All, AllByRecursion}
+use Rattle.std.proofs.Common.{◌≡◌, ℕ, ◌==◌, Bool, true, false, nat_lt, List, [], ◌∷◌, ◌++◌, length, filter, map, codes, refl, sym, ap, ◌∙◌, append_assoc, length-append, arith, rules}
+use Rattle.std.specs.List.{slice_split, list_all, All, AllByRecursion, position_or_len, after_first}
 use Rattle.std.specs.Char.{is_ascii_digit}
 use Rattle.std.specs.Str.{all_ascii_digits}
 use Rattle.std.specs.Str.Lines.{lines, lines_of_parts, strip_carriage_return}
 use Rattle.std.proofs.lemmas.Bool.{and_parts}
 use Rattle.std.proofs.lemmas.Bool.Decides.{nat_tests}
 use Rattle.std.proofs.lemmas.List.Elements.{All-cons, All-append}
+use Rattle.std.proofs.Math.Seq.{drop-append-add, get_or-append_seam}
+use Rattle.std.proofs.lemmas.List.{get_or_append_left}
+use Rattle.std.proofs.lemmas.List.Sums.{position_or_len_is}
 use Rattle.std.proofs.lemmas.List.Splits.{slice_split_at, slice_split_none, length-slice_split}
 use Rattle.clk_packet.specs.declared.limits.TheConstants.{MAX_SENDER, MAX_LENGTH}
 use Rattle.clk_script.specs.declared.script.Command.TheVariants.{Send, Pull}
@@ -87,6 +90,20 @@ line-spaced field more rest is are =
     ap (map line_of) (lines-plain (spaced field more) rest (spaced-fails (λ b. b == 10) no-feed refl field more is are) (spaced-fails (λ b. b == 13) no-return refl field more is are))
     ∙ ap (λ l. line_of_fields l ∷ lines_of rest) (fields-spaced field more is are)
 
+-- what follows a line before a line feed, in which there is no other
+after-plain : (xs rest : List ℕ) → All (λ d. (d == 10) ≡ false) xs → after_first (λ byte. byte == 10) (xs ++ 10 ∷ rest) ≡ rest
+after-plain xs rest none = rw first-feed (drop-append-add xs (10 ∷ rest) 1)
+  where
+    first-feed : position_or_len (λ byte. byte == 10) (xs ++ 10 ∷ rest) ≡ length xs
+    first-feed =
+        position_or_len_is (λ byte. byte == 10) (xs ++ 10 ∷ rest) (length xs) 0 (let all = length-append xs (10 ∷ rest) in omega (arith, all))
+        (λ k lt. rw (get_or_append_left xs (10 ∷ rest) 0 k lt) (none k 0 lt))
+        (λ lt. rw (get_or-append_seam xs 10 rest 0) refl)
+
+-- what follows fields with a space between two, and a line feed
+after-spaced : (field : List ℕ) (more : List (List ℕ)) (rest : List ℕ) → IsField field → AllByRecursion IsField more → after_first (λ byte. byte == 10) (spaced field more ++ 10 ∷ rest) ≡ rest
+after-spaced field more rest is are = after-plain (spaced field more) rest (spaced-fails (λ b. b == 10) no-feed refl field more is are)
+
 -- `pull M` and a line feed
 pub plain-pull : (text : List ℕ) (moment : ℕ) (rest : List ℕ) → BeginsWithNumber text 10 0 MAX_MOMENT moment rest → lines_of (codes "pull " ++ text) ≡ line.Command (Pull 0 moment) ∷ lines_of rest
 plain-pull text moment rest h =
@@ -113,3 +130,17 @@ plain-send text middle rest sender size h k =
 
     is : line_of_fields (codes "send" ∷ h.digits ∷ k.digits ∷ []) ≡ line.Command (Send sender size)
     is = rw (h.number_is, k.number_is) refl
+
+-- what follows `pull M` and a line feed
+pub after-pull : (text : List ℕ) (moment : ℕ) (rest : List ℕ) → BeginsWithNumber text 10 0 MAX_MOMENT moment rest → rest ≡ after_first (λ byte. byte == 10) (codes "pull " ++ text)
+after-pull text moment rest h =
+    sym (ap (λ t. after_first (λ byte. byte == 10) (codes "pull " ++ t)) h.text_is
+    ∙ after-spaced (codes "pull") (h.digits ∷ []) rest (record { some = refl; all = refl }) (digits-field h.digits (number-digits 0 MAX_MOMENT h.digits moment h.number_is), tt))
+
+-- what follows `send S L` and a line feed
+pub after-send : (text middle rest : List ℕ) (sender size : ℕ) → BeginsWithNumber text 32 0 MAX_SENDER sender middle → BeginsWithNumber middle 10 1 MAX_LENGTH size rest
+    → rest ≡ after_first (λ byte. byte == 10) (codes "send " ++ text)
+after-send text middle rest sender size h k =
+    sym (ap (λ t. after_first (λ byte. byte == 10) (codes "send " ++ t)) (h.text_is ∙ ap (λ t. h.digits ++ 32 ∷ t) k.text_is ∙ sym (append_assoc h.digits (32 ∷ k.digits) (10 ∷ rest)))
+    ∙ after-spaced (codes "send") (h.digits ∷ k.digits ∷ []) rest (record { some = refl; all = refl })
+    (digits-field h.digits (number-digits 0 MAX_SENDER h.digits sender h.number_is), (digits-field k.digits (number-digits 1 MAX_LENGTH k.digits size k.number_is), tt)))

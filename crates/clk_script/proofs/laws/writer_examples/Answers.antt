@@ -8,13 +8,13 @@ record-is : record_text one_pull None ≡ codes "pull 3\n"
 record-is = rw (decimal_digit 3 (omega arith)) refl
 
 pub returns-clause-holds : goal.returns-clause-holds
-returns-clause-holds c = record { written = []; split = record-is; appends = refl; lines = refl }
+returns-clause-holds c = record { written = []; split = record-is; appends = refl; lines = refl; going = refl }
 
 pub returns-clause-wrote : goal.returns-clause-wrote
-returns-clause-wrote c = record { written = codes "pull 3\n"; split = record-is; appends = refl; lines = refl }
+returns-clause-wrote c = record { written = codes "pull 3\n"; split = record-is; appends = refl; lines = refl; going = refl }
 
 pub returns-clause-wrote_some : goal.returns-clause-wrote_some
-returns-clause-wrote_some c = record { written = codes "pul"; split = record-is; appends = refl; lines = refl }
+returns-clause-wrote_some c = record { written = codes "pul"; split = record-is; appends = refl; lines = refl; going = refl }
 
 pub returns-clause-not_twice : goal.returns-clause-not_twice
 returns-clause-not_twice c r =

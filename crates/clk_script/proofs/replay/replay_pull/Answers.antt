@@ -8,7 +8,7 @@ pub returns : goal.returns
 returns g c =
     let pulled : IsPulled c.args.again.now c.pull.new.self c.args.device c.args.moment c.unwrap.result = rw c.unwrap.ensures at c.pull.ensures.pulled in
     let keeps = ap (λ k. k.keeps) pulled.goes_on ∙ c.requires.keeps in
-    let latest = c.latest.ensures (ap (λ k. k.latest) keeps) ∙ latest-pulled c.args.again.now c.pull.new.self c.args.device c.args.moment pulled.visits pulled.goes_on in
+    let latest = c.latest.ensures.visits (ap (λ k. k.latest) keeps) ∙ latest-pulled c.args.again.now c.pull.new.self c.args.device c.args.moment pulled.visits pulled.goes_on in
     record {
       pulled = (
         pulled.visits,
