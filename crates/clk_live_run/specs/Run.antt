@@ -1,5 +1,5 @@
 -- What a run through inlets returns, and why it fails (this project's own definition).
-use Rattle.std.specs.Prelude.{◌≡◌, ℕ, ◌+◌, ◌*◌, ◌<◌, ◌≤◌, Bool, true, List, ◌++◌, length, map, ⊤, Some}
+use Rattle.std.specs.Prelude.{◌≡◌, ℕ, ◌+◌, ◌*◌, ◌<◌, ◌≤◌, Bool, true, List, ◌++◌, length, map, ⊤, Some, None}
 use Rattle.std.specs.List.{filter_map, range_with_len, AllByRecursion}
 use Rattle.clk_packet.specs.declared.packet.Packet.{Packet}
 use Rattle.clk_packet.specs.declared.fault.Fault.{Fault}
@@ -62,9 +62,9 @@ abbrev pub MayBeTooLong : List Planned → List (List Packet) → ℕ → Type 0
 MayBeTooLong plan traces limit = MAX_LINES < sent_in traces (senders_in plan) + device_count plan * limit + 1
 
 -- Why a run fails: an allocation or the start of a thread failed, the plan lacks a sender of the trace, or its record may be too long.
--- Fault 15 names the least sender that the plan lacks. Only a run that is to be recorded has a record.
+-- Fault 15 names the least sender that the plan lacks, and comes before fault 18. Only a run that is to be recorded has a record.
 abbrev pub IsFaultOfLive : List Planned → List (List Packet) → ℕ → Bool → Fault → Type 0
 IsFaultOfLive plan traces limit recording Memory = ⊤
 IsFaultOfLive plan traces limit recording (UnknownSender s) = first_unknown (senders_in plan) traces ≡ Some s
-IsFaultOfLive plan traces limit recording TooLarge = (recording ≡ true) × MayBeTooLong plan traces limit
+IsFaultOfLive plan traces limit recording TooLarge = (recording ≡ true) × MayBeTooLong plan traces limit × (first_unknown (senders_in plan) traces ≡ None)
 IsFaultOfLive plan traces limit recording fault = ⊥

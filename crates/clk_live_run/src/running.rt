@@ -1,8 +1,9 @@
 //! Runs of a plan over a trace, through inlets.
 
-ghost use Rattle.std.specs.Prelude.{◌≡◌, ◌≢◌, ◌+◌, ◌*◌, ◌<◌, ◌≤◌, true, ℕ, List, map, length, IfOk, IfErr, OnOk, IsErrOf};
+ghost use Rattle.std.specs.Prelude.{◌≡◌, ◌≢◌, ◌+◌, ◌*◌, ◌<◌, ◌≤◌, true, ℕ, List, map, length, None, IfOk, IfErr, OnOk, IsErrOf};
 ghost use Rattle.clk_packet.specs.declared.fault.Fault.TheVariants.{Memory, TooLarge};
 ghost use Rattle.clk_gate.specs.declared.limits.TheConstants.{MAX_LIMIT, MAX_STEP};
+ghost use Rattle.clk_gate.specs.Known.{senders_in, first_unknown};
 ghost use Rattle.clk_gate.specs.Sent.{sent_in};
 ghost use Rattle.clk_tree.specs.PlanParts.{number_of, senders_of};
 ghost use Rattle.clk_tree.specs.PlanTree.{device_count};
@@ -68,6 +69,7 @@ pub fn run_live<H: Threads + Wait, P: Wait + Sync, G: Gate + Sync, R: Sink + Dro
     requires step { (1 ≤ step) × (step ≤ MAX_STEP) }
     requires limit { (1 ≤ limit) × (limit ≤ MAX_LIMIT) }
     ensures ran { IfOk result (λ outcome. LiveRunOf plan.now traces.now step limit outcome.live.course (λ setup events closed. IsRecorded recording outcome.write_failed (R.Sink.taken sink) (R.Sink.taken outcome.sink) events)) }
+    ensures known { IfOk result (λ _. first_unknown (senders_in plan.now) traces.now ≡ None) }
     ensures failures { IfOk result (λ outcome. R.Sink.failures outcome.sink ≡ failures_with outcome.write_failed (R.Sink.failures sink)) }
     ensures fault { IfErr result (IsFaultOfLive plan.now traces.now limit recording) }
 {
