@@ -83,11 +83,40 @@ pub fn find(text: &[u8], name: &[u8], mention: Mention) -> Option<Found> {
 
 /// The class with which a text declares an element, if it has that name.
 pub fn class_of(text: &[u8], name: &[u8]) -> Option<ClassName> {
+    ClassName::named(letters(text, class_word(text, name)?))
+}
+
+/// The word behind the `::` with which a text declares an element.
+fn class_word(text: &[u8], name: &[u8]) -> Option<Found> {
     let mut token = find(text, name, Mention::Declared)?;
     while token.symbol != Symbol::Declares {
         token = token_from(text, token.end)?;
     }
-    ClassName::named(word_from(text, token.end))
+    token_from(text, token.end)
+}
+
+/// What stands behind the parenthesis that opens the arguments of the class at an offset, if one does.
+pub fn arguments_at(text: &[u8], offset: usize) -> Option<Found> {
+    let class = token_from(text, offset)?;
+    let open = token_from(text, class.end)?;
+    if open.symbol != Symbol::OpenArguments {
+        return None;
+    }
+    token_from(text, open.end)
+}
+
+/// How many arguments the class has with which a text declares an element.
+pub fn argument_count(text: &[u8], name: &[u8]) -> Option<usize> {
+    let class = class_word(text, name)?;
+    let mut token = arguments_at(text, class.start)?;
+    let mut count: usize = 0;
+    while token.symbol != Symbol::CloseArguments {
+        if token.symbol != Symbol::Comma {
+            count = count.saturating_add(1);
+        }
+        token = token_from(text, token.end)?;
+    }
+    Some(count)
 }
 
 /// The number of the input to which a chain leads at the name that begins at this place, if one does.

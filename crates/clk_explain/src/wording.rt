@@ -1,5 +1,6 @@
 //! What is wrong in a sentence, and what was expected, for each fault.
 
+mod arguments;
 mod classes;
 mod elements;
 mod grammar;
@@ -18,11 +19,7 @@ pub fn sentence(text: &[u8], fault: Fault) -> Words {
         Fault::UnknownClass { offset } => {
             Words::of("there is no class ").and_quoted(word_from(text, offset as usize))
         }
-        Fault::BadArgument { offset } => {
-            Words::of("an argument of ")
-                .and_quoted(word_from(text, offset as usize))
-                .and(" is wrong")
-        }
+        Fault::BadArgument { offset } => arguments::sentence(text, offset as usize),
         Fault::NameTwice { offset } => elements::name_twice(text, offset as usize),
         Fault::UnknownName { offset } => Words::of("no element has the name ").and_quoted(word_from(
             text,

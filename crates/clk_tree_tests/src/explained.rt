@@ -172,9 +172,27 @@ expected Sender, Queue, FrontDropQueue, PrioSched, RoundRobinSched, DRRSched, St
     ),
     (
         "s, t :: Sender(0);",
-        "1:9: an argument of 'Sender' is wrong
+        "1:9: Sender 0 has more than one name
     s, t :: Sender(0);
             ^
+expected a number from 0 to 65535 that no other Sender has, and one name
+",
+    ),
+    // The word Sender stands elsewhere too, and with another number.
+    (
+        "Sender :: Queue; d :: ToDevice(Sender);
+s :: Sender(1); t :: Sender(7); u :: Sender(07);",
+        "2:38: Sender 7 is declared twice; first at 2:22
+    s :: Sender(1); t :: Sender(7); u :: Sender(07);
+                                         ^
+expected a number from 0 to 65535 that no other Sender has, and one name
+",
+    ),
+    (
+        "s :: Sender(0, 0);",
+        "1:6: an argument of 'Sender' is wrong
+    s :: Sender(0, 0);
+         ^
 expected a number from 0 to 65535 that no other Sender has, and one name
 ",
     ),
@@ -204,7 +222,7 @@ expected no argument, or a quantum in bytes for all inputs or for each, from 1 t
     ),
     (
         "x :: StrideSched;",
-        "1:6: an argument of 'StrideSched' is wrong
+        "1:6: 'StrideSched' has no argument
     x :: StrideSched;
          ^
 expected the tickets of each input, from 1 to 32768
@@ -219,9 +237,9 @@ expected a rate in packets a tick, and maybe a burst in packets, from 1 to 10000
 ",
     ),
     (
-        "d :: ToDevice;",
-        "1:6: an argument of 'ToDevice' is wrong
-    d :: ToDevice;
+        "d :: ToDevice();",
+        "1:6: 'ToDevice' has no argument
+    d :: ToDevice();
          ^
 expected one word for the link
 ",
@@ -269,7 +287,23 @@ expected input 0 and output 0 of a queue
         "1:61: 'x' doesn't have the port that it has here
     q :: Queue; x :: DRRSched(1, 2); d :: ToDevice(l); q -> [2] x -> d;
                                                                 ^
-expected output 0, and the inputs of a scheduler
+expected output 0, or an input from 0 to 1
+",
+    ),
+    (
+        "q :: Queue; x :: StrideSched(5); d :: ToDevice(l); q -> [1] x -> d;",
+        "1:61: 'x' doesn't have the port that it has here
+    q :: Queue; x :: StrideSched(5); d :: ToDevice(l); q -> [1] x -> d;
+                                                                ^
+expected output 0, or an input from 0 to 0
+",
+    ),
+    (
+        "q :: Queue; x :: DRRSched(5); d :: ToDevice(l); q -> x [1] -> d;",
+        "1:54: 'x' doesn't have the port that it has here
+    q :: Queue; x :: DRRSched(5); d :: ToDevice(l); q -> x [1] -> d;
+                                                         ^
+expected output 0, or an input from 0 to 63
 ",
     ),
     (

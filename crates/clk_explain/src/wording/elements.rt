@@ -1,6 +1,8 @@
 //! What is wrong with the names and the ports of elements.
 
-use crate::mentions::{Found, Mention, class_of, find, input_at, token_from, word_from};
+use crate::mentions::{
+    Found, Mention, argument_count, class_of, find, input_at, token_from, word_from,
+};
 use crate::words::Words;
 use clk_packet::{MAX_INPUTS, SchedulerName};
 use clk_syntax::{ClassName, Symbol};
@@ -102,7 +104,24 @@ pub fn ports_of(text: &[u8], name: &[u8]) -> Words {
             "expected input 0 and output 0 of a Shaper",
         ),
         ClassName::ToDevice => Words::of("expected input 0: a ToDevice has no output"),
-        _ => Words::of("expected output 0, and the inputs of a scheduler"),
+        ClassName::Scheduler(scheduler) => Words::of(
+            "expected output 0, or an input from 0 to ",
+        ).and_number(last_input(scheduler, argument_count(text, name).unwrap_or(0))),
+    }
+}
+
+/// The greatest number of an input of a scheduler with so many arguments. A StrideSched has one for each input, and so has a DRRSched with
+/// more than one.
+fn last_input(scheduler: SchedulerName, arguments: usize) -> usize {
+    let has_one_each = match scheduler {
+        SchedulerName::Stride => arguments >= 1,
+        SchedulerName::Drr => arguments >= 2,
+        _ => false,
+    };
+    if has_one_each {
+        arguments.min(MAX_INPUTS) - 1
+    } else {
+        MAX_INPUTS - 1
     }
 }
 
