@@ -4,12 +4,14 @@
 use clk_command::{Heard, Recalled, command, fault_line};
 use clk_packet::{Fault, FromRead, Sink, ToWrite, write_all};
 use std::process::ExitCode;
-use std::rt::{Env, Runtime};
+use std::rt::{Env, Files, Runtime};
 use std::sync::Wait;
 use std::thread::Threads;
-use std::{env, io};
+use std::{env, fs, io};
 
 fn main(rt: HostRuntime) -> ExitCode {
+    // Standard input, output or error may be closed. These take their places, so that no file of a task does.
+    let _places = (null(&rt), null(&rt), null(&rt));
     let mut errors = ToWrite::new(rt.stderr());
     match run_words(&rt, &mut errors) {
         Ok(status) => ExitCode::from(status),
@@ -18,6 +20,11 @@ fn main(rt: HostRuntime) -> ExitCode {
             ExitCode::FAILURE
         }
     }
+}
+
+/// The null device, opened to read, if there is one.
+fn null<H: Files>(rt: &H) -> Option<H::File> {
+    fs::open(rt, "/dev/null").ok()
 }
 
 /// Does what the words of the program ask for. Returns the status that it ends with.

@@ -1,5 +1,5 @@
 -- What a run through inlets writes, and what its record means.
-use Rattle.std.proofs.Common.{◌≡◌, ◌++◌, ℕ, Bool, true, false, List, [], append-nil, append_assoc, Option, Some, Result, Ok, Err, IfSome, OnOk, refl, sym, ap, subst, ◌∙◌, inl, inr}
+use Rattle.std.proofs.Common.{◌≡◌, ◌++◌, ℕ, Bool, true, false, List, [], append-nil, append_assoc, Option, Some, None, Result, Ok, Err, IfSome, OnOk, refl, sym, ap, subst, ◌∙◌, inl, inr}
 use Rattle.std.specs.Io.KnownBytes.{Appends}
 use Rattle.std.specs.List.{flat_map}
 use Rattle.std.proofs.KnownBytes.{Appends-nil, Appends-trans, Keeps-refl}
@@ -19,6 +19,7 @@ use Rattle.clk_script.specs.Meaning.{IsClosed, MeansOver, MeansOverWith, closing
 use Rattle.clk_script.specs.Record.{FitsLimits, PlanRecordsMeanTheirCourse}
 use Rattle.clk_live_run.specs.Recorded.{IsRecorded, run_record}
 use Rattle.clk_live_run.specs.Run.{LiveRunOf}
+use Rattle.clk_gate.specs.Known.{senders_in, first_unknown}
 use Rattle.clk_command.specs.Running.{EndsIn, HasRecord, LiveWrites, Tells}
 use Rattle.clk_command.proofs.TaskLemmas.{front-later}
 use Rattle.clk_command.specs.Tasks.{AreTogether, WroteBoth}
@@ -50,13 +51,14 @@ setup-record-ends plan trees setup events closed all is whole records can closes
 -- what a run through inlets writes, and what its sink has of the record
 pub live-writes : (plan : List Planned) (pace : Pace) (known : Option (List ℕ)) (traces : List (List Packet)) (course : Course) (recording failed : Bool) (old new : Option (List ℕ))
     → ((trees : List Tree) → AreTreesOf plan trees → PlanRecordsMeanTheirCourse plan trees) → IfSome known (λ text. Tells text traces)
-    → LiveRunOf plan traces pace.step pace.limit course (λ setup events closed. IsRecorded recording failed old new events)
+    → first_unknown (senders_in plan) traces ≡ None → LiveRunOf plan traces pace.step pace.limit course (λ setup events closed. IsRecorded recording failed old new events)
     → (script : List ℕ) × LiveWrites plan pace known recording (ending_text course.setup (Some 0) course.events) script × HasRecord recording failed old new script
-live-writes plan pace known traces course recording failed old new records tells run = (
+live-writes plan pace known traces course recording failed old new records tells all run = (
   run_record run.events,
   record {
     traces = traces;
     tells = tells;
+    known = all;
     course = course;
     came_to = record {
       trees = run.trees;
@@ -107,9 +109,9 @@ both-last Q (Err fault) old new visits_old visits_new before after text visits m
 -- what a run writes whose record was kept in memory, which had nothing before
 pub kept-writes : (plan : List Planned) (pace : Pace) (known : Option (List ℕ)) (traces : List (List Packet)) (course : Course) (failed : Bool) (start now : List ℕ) → start ≡ [] → failed ≡ false
     → ((trees : List Tree) → AreTreesOf plan trees → PlanRecordsMeanTheirCourse plan trees) → IfSome known (λ text. Tells text traces)
-    → LiveRunOf plan traces pace.step pace.limit course (λ setup events closed. IsRecorded true failed (Some start) (Some now) events) → LiveWrites plan pace known true (ending_text course.setup (Some 0) course.events) now
-kept-writes plan pace known traces course failed start now empty sound records tells run =
-    let w = live-writes plan pace known traces course true failed (Some start) (Some now) records tells run in
+    → first_unknown (senders_in plan) traces ≡ None → LiveRunOf plan traces pace.step pace.limit course (λ setup events closed. IsRecorded true failed (Some start) (Some now) events) → LiveWrites plan pace known true (ending_text course.setup (Some 0) course.events) now
+kept-writes plan pace known traces course failed start now empty sound records tells all run =
+    let w = live-writes plan pace known traces course true failed (Some start) (Some now) records tells all run in
     let whole : now ≡ w.0 = w.2.whole refl sound ∙ ap (λ l. l ++ w.0) empty in
     subst (λ (script : List ℕ). LiveWrites plan pace known true (ending_text course.setup (Some 0) course.events) script) (sym whole) w.1
 

@@ -14,6 +14,7 @@ use Rattle.clk_drain.specs.Laws.{RunsAccountForEmitted}
 use Rattle.clk_drain.specs.Run.{IsKeptRun, IsRunWith}
 use Rattle.clk_report.specs.Report.{report_text}
 use Rattle.clk_words.specs.declared.pace.Pace.{Pace}
+use Rattle.clk_gate.specs.Known.{senders_in, first_unknown}
 use Rattle.clk_command.specs.Running.{RunWrites, Tells}
 
 -- what a trace tells, where its bytes are known
@@ -29,5 +30,5 @@ accounted keeps plan traces step limit outcome account run = account traces step
 
 -- what a run over it writes
 pub run-writes : (plan : List Planned) (pace : Pace) (known : Option (List ℕ)) (traces : List (List Packet)) (logs : List (List Visit)) (packets : List (List Packet)) (tallies : List Tally) → IfSome known (λ text. Tells text traces)
-    → IsRunWith plan traces pace.step pace.limit logs packets tallies → RunWrites plan pace known (report_text (flat_map (λ emitted. emitted) packets) tallies) logs
-run-writes plan pace known traces logs packets tallies tells is = record { traces = traces; tells = tells; emitted = packets; tallies = tallies; came_to = is; reported = refl }
+    → first_unknown (senders_in plan) traces ≡ None → IsRunWith plan traces pace.step pace.limit logs packets tallies → RunWrites plan pace known (report_text (flat_map (λ emitted. emitted) packets) tallies) logs
+run-writes plan pace known traces logs packets tallies tells all is = record { traces = traces; tells = tells; known = all; emitted = packets; tallies = tallies; came_to = is; reported = refl }

@@ -4,7 +4,7 @@ use Rattle.std.specs.Str.{bytes_eq}
 use Rattle.clk_packet.specs.declared.limits.TheConstants.{MAX_TRACE_BYTES}
 use Rattle.clk_syntax.specs.declared.limits.TheConstants.{MAX_TREE_BYTES}
 use Rattle.clk_script.specs.declared.limits.TheConstants.{MAX_SCRIPT_BYTES}
-use Rattle.clk_words.specs.Words.{Task, builtin, check, lint, over, Work, lint_trace, script, run, live, dash}
+use Rattle.clk_words.specs.Words.{Task, builtin, check, lint, over, Work, script, dash}
 
 -- how many bytes some work reads of its second input at most
 abbrev pub most_of_work : Work → ℕ

@@ -1,9 +1,6 @@
 -- The warnings of a plan and a trace, and why there are none (this project's own definition).
-use Rattle.std.specs.Prelude.{◌≡◌, ◌⊎◌, ℕ, List, Option, Some, None, IfSome}
-use Rattle.clk_packet.specs.declared.packet.Packet.{Packet}
+use Rattle.std.specs.Prelude.{◌≡◌, ℕ, List, Option, Some, None}
 use Rattle.clk_packet.specs.declared.fault.Fault.{Fault}
-use Rattle.clk_packet.specs.declared.fault.Fault.TheVariants.{Write}
-use Rattle.clk_packet.specs.Trace.{ExplainsTrace}
 use Rattle.clk_tree.specs.Plan.{Planned}
 use Rattle.clk_gate.specs.Known.{senders_in, first_unknown, IsUnknownSender}
 use Rattle.clk_lint.specs.Lines.{lint_text}

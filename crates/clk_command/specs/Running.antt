@@ -10,6 +10,7 @@ use Rattle.clk_packet.specs.Bytes.{AppendsFront}
 use Rattle.clk_packet.specs.Trace.{ExplainsTrace, pairs_of, sent, sent_by, shown, trace_fault}
 use Rattle.clk_sched.specs.declared.visit.Visit.{Visit}
 use Rattle.clk_tree.specs.Plan.{Planned}
+use Rattle.clk_gate.specs.Known.{senders_in, first_unknown}
 use Rattle.clk_drain.specs.Run.{IsFaultOfRun, IsRunWith}
 use Rattle.clk_report.specs.Report.{report_text}
 use Rattle.clk_router.specs.Course.{Course}
@@ -27,11 +28,12 @@ pub record Tells (trace : List ℕ) (traces : List (List Packet)) : Type 0 where
 abbrev pub OverTrace : Option (List ℕ) → (List (List Packet) → Type 0) → Type 0
 OverTrace trace Told = (traces : List (List Packet)) × IfSome trace (λ bytes. Tells bytes traces) × Told traces
 
--- Running a trace over a plan writes this text, with these logs. It is the report of a run of the plan over what the trace says, or over
--- some packets if its bytes aren't known. There may be several such texts, since runs may differ.
+-- Running a trace over a plan, which has all of its senders, writes this text, with these logs. It is the report of a run of the plan over
+-- what the trace says, or over some packets if its bytes aren't known. There may be several such texts, since runs may differ.
 pub record RunWrites (plan : List Planned) (pace : Pace) (trace : Option (List ℕ)) (text : List ℕ) (logs : List (List Visit)) : Type 0 where
   pub traces : List (List Packet)
   pub tells : IfSome trace (λ bytes. Tells bytes traces)
+  pub known : first_unknown (senders_in plan) traces ≡ None
   pub emitted : List (List Packet)
   pub tallies : List Tally
   pub came_to : IsRunWith plan traces pace.step pace.limit logs emitted tallies
@@ -49,11 +51,12 @@ ExplainsRun plan trace = ExplainsOverTrace trace (IsFaultOfRun plan)
 abbrev pub EndsIn : List Planned → (script text : List ℕ) → List (List Visit) → Type 0
 EndsIn plan script text logs = (lines : List ℕ) × MeansOverWith plan script (lines ++ text) logs
 
--- Running a trace through inlets over a plan writes this text, and this script is its record. They are the report and the record of a run
--- of the plan over what the trace says. If the run was recorded, the script ends in the text.
+-- Running a trace through inlets over a plan, which has all of its senders, writes this text, and this script is its record. They are the
+-- report and the record of a run of the plan over what the trace says. If the run was recorded, the script ends in the text.
 pub record LiveWrites (plan : List Planned) (pace : Pace) (trace : Option (List ℕ)) (recording : Bool) (text script : List ℕ) : Type 0 where
   pub traces : List (List Packet)
   pub tells : IfSome trace (λ bytes. Tells bytes traces)
+  pub known : first_unknown (senders_in plan) traces ≡ None
   pub course : Course
   pub came_to : LiveRunOf plan traces pace.step pace.limit course (λ setup events closed. (text ≡ ending_text setup (Some 0) (events ++ closed)) × (script ≡ run_record events))
   pub means : recording ≡ true → (logs : List (List Visit)) × EndsIn plan script text logs

@@ -81,7 +81,12 @@ fn visits_among<'a, H: Files>(rt: &H, visits: Option<&'a str>, others: &[&str]) 
 
 /// Whether a path leads to a regular file from which standard input is read, or to which standard output is written.
 fn is_redirected<H: Files>(rt: &H, path: &str) -> bool {
-    lead_to_one_file(rt, path, "/dev/stdin") || lead_to_one_file(rt, path, "/dev/stdout")
+    leads_to_stream(rt, path, "/dev/stdin") || leads_to_stream(rt, path, "/dev/stdout")
+}
+
+/// Whether a path leads to the regular file to which a standard stream leads. Without `/proc` a stream's path leads nowhere.
+fn leads_to_stream<H: Files>(rt: &H, path: &str, stream: &str) -> bool {
+    fs::metadata(rt, stream).is_ok() && lead_to_one_file(rt, path, stream)
 }
 
 /// Whether a file is one of the files at other paths.
@@ -94,20 +99,29 @@ fn is_among<H: Files>(rt: &H, path: &str, others: &[&str]) -> bool
     is_one_file(rt, path, first) || is_among(rt, path, rest)
 }
 
-/// Whether two paths name one file: they are equal, or lead to one file.
+/// Whether two paths name one file: they are equal, or lead to one file. The other may be `-`, which leads to none.
 fn is_one_file<H: Files>(rt: &H, path: &str, other: &str) -> bool
     ensures apart { result ≡ false → path.now ≢ other.now }
 {
-    path == other || lead_to_one_file(rt, path, other)
+    path == other || (!is_standard(other) && lead_to_one_file(rt, path, other))
 }
 
-/// Whether there is a regular file to which both paths lead; or none yet, and both name the same new one.
+/// Whether there is a regular file to which both paths lead; or none yet, and both may lead to the same new one.
 fn lead_to_one_file<H: Files>(rt: &H, path: &str, other: &str) -> bool {
     match (fs::metadata(rt, path), fs::metadata(rt, other)) {
         (Ok(one), Ok(two)) => one.is_file() && is_same(&one, &two),
-        (Err(_), Err(_)) => name_one_new_file(rt, Path::new(path), Path::new(other)),
+        (Err(_), Err(_)) => {
+            is_link(rt, path)
+                || is_link(rt, other)
+                || name_one_new_file(rt, Path::new(path), Path::new(other))
+        }
         _ => false,
     }
+}
+
+/// Whether there is a link at a path that leads to no file. It may lead to any new one.
+fn is_link<H: Files>(rt: &H, path: &str) -> bool {
+    fs::symlink_metadata(rt, path).is_ok()
 }
 
 /// Whether two paths end in one name, in one folder.

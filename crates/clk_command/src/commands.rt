@@ -46,8 +46,8 @@ use std::thread::Threads;
 ///   record of the run, as a script that ends in the same report. The FILE of `--visits` gets the visits of that script.
 ///
 /// One of TREE, SCRIPT and TRACE may be `-`, which stands for `reader`. The FILE of `--visits` may be `-`: the visits are then written to
-/// `writer`, after the answer or the report. Any other FILE can't be another of the files that the words name: it has another path, and if
-/// it exists, it is another file.
+/// `writer`, after the answer or the report. No other FILE can be another of the files that the words name, or a file that standard input
+/// or output leads to. The contract says this of paths alone.
 ///
 /// With `--explain` a fault is explained on `errors`: in which file and where in it, the line with a caret, what is wrong, and what was
 /// expected. If `errors` fails then, the fault is returned as ever. A line of a text on `reader` is shown only if `reader` keeps what it

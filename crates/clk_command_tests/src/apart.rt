@@ -29,7 +29,7 @@ const LEFT: &[(&str, Option<&str>)] = &[
     ("out/unmade.csv", None),
 ];
 
-/// Words that name one file twice, and how they name it where it would be written. The links lead to the tree.
+/// Words that name one file twice, and how they name it where it would be written. The links lead to the tree, and one to no file.
 const TWICE: &[(&str, &str)] = &[
     (
         "script out/kept.click out/kept.script --visits out/kept.click",
@@ -79,6 +79,14 @@ const TWICE: &[(&str, &str)] = &[
         "live out/kept.click out/kept.trace --record unmade.csv --visits out/../unmade.csv",
         "out/../unmade.csv",
     ),
+    (
+        "live out/kept.click out/kept.trace --record out/open.csv --visits out/unmade.csv",
+        "out/unmade.csv",
+    ),
+    (
+        "live out/kept.click out/kept.trace --record out/unmade.csv --visits out/open.csv",
+        "out/open.csv",
+    ),
 ];
 
 #[test]
@@ -86,8 +94,10 @@ fn no_file_that_is_named_twice_is_overwritten(rt: HostRuntime) {
     write_all(&rt, FILES).expect(&rt, "files");
     let _ = fs::remove_file(&rt, "out/hard.click");
     let _ = fs::remove_file(&rt, "out/soft.click");
+    let _ = fs::remove_file(&rt, "out/open.csv");
     fs::hard_link(&rt, "out/kept.click", "out/hard.click").expect(&rt, "a link");
     symlink(&rt, "kept.click", "out/soft.click").expect(&rt, "a link");
+    symlink(&rt, "unmade.csv", "out/open.csv").expect(&rt, "a link");
     for &(words, path) in TWICE {
         let begin = "error: what is read, or written";
         assert!(rt;
@@ -123,6 +133,29 @@ fn other_files_are_overwritten(rt: HostRuntime) {
         assert_eq!(rt; answered.outcome, Ok(0), "at {words}");
         let new = fs::read(&rt, "out/other.csv").expect(&rt, "a file");
         assert!(rt; new.as_slice() != b"old".as_slice(), "at {words}");
+    }
+}
+
+// A link that leads to no file yet is followed, and `-` is no file that it could lead to.
+#[test]
+fn a_link_to_no_file_is_followed(rt: HostRuntime) {
+    write_all(&rt, FILES).expect(&rt, "files");
+    let _ = fs::remove_file(&rt, "out/follows.csv");
+    symlink(&rt, "followed.csv", "out/follows.csv").expect(&rt, "a link");
+    for &(words, input) in &[
+        (
+            "live out/kept.click out/kept.trace --record out/follows.csv",
+            "",
+        ),
+        ("live - out/kept.trace --record out/follows.csv", TREE),
+        ("run out/kept.click - --visits out/follows.csv", TRACE),
+    ] {
+        let _ = fs::remove_file(&rt, "out/followed.csv");
+        let reader = input.as_bytes();
+        let answered = answer(&rt, words, reader, AMPLE, AMPLE).expect(&rt, "ample memory");
+        assert_eq!(rt; answered.outcome, Ok(0), "at {words}");
+        let made = fs::read(&rt, "out/followed.csv").expect(&rt, "a file");
+        assert!(rt; !made.is_empty(), "at {words}");
     }
 }
 

@@ -365,7 +365,8 @@ one after the other, each first one tick after M, or after its own moment so far
 
 The tree is read and checked before the script is opened, and the whole script before anything is printed.
 With --visits FILE the log of its pulls is written to FILE after the answer, as CSV with a row for each visit
-that a scheduler or the link made. A file that is there is overwritten; FILE can't be the tree or the script.
+that a scheduler or the link made. A file that is there is overwritten. FILE can't be the tree or the script,
+nor a file that standard input or output leads to.
 
 Examples:
   clickpull script uplink.click morning.script
@@ -403,7 +404,8 @@ the queues have room for all that is sent, the report is the same in each.
 A record of the trace has sender S (0 to 65535) send a packet of L bytes (1 to 65535). The tree is read and
 checked before the trace is opened, and the whole trace before anything is sent. With --visits FILE the log of
 the pulls is written to FILE after the report, as CSV with a row for each visit that a scheduler or a device
-made. A file that is there is overwritten; FILE can't be the tree or the trace.
+made. A file that is there is overwritten. FILE can't be the tree or the trace, nor a file that standard input or
+output leads to.
 
 Examples:
   clickpull run uplink.click morning.trace
@@ -434,7 +436,8 @@ is accounted for. 'run' and 'live' may differ in which packets a full queue refu
 With --record FILE all that happens while senders send is written to FILE, as a script that ends with 'drain 0'.
 'clickpull script TREE FILE' then prints what became of each packet, and ends in the same report. With --visits
 FILE the record is replayed, and the log of its visits is written to FILE after the report, as by 'clickpull
-script --visits'. A file that is there is overwritten; neither FILE can be the tree, the trace or the other FILE.
+script --visits'. A file that is there is overwritten. No FILE can be the tree, the trace, the other FILE, or a
+file that standard input or output leads to. A record can't go to '-'.
 
 A record has at most as many lines as a script, 1000000. With --record or --visits a run ends with fault 18
 before a thread starts if the packets of the trace and --limit pulls of each device are 1000000 or more together.

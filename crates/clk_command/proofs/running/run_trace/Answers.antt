@@ -11,7 +11,7 @@ returns-in_err-report_tallies-clause-wrote g c =
     let tells = trace-tells _ _ c.in_ok-traces.ensures.sound c.in_ok-traces.ensures.sent in
     let failed = rw c.deref.ensures.value at c.in_err-report_tallies.ensures.report in
     let cut = failed _ (accounted _ _ _ _ _ _ c.runs_account_for_emitted.ensures run) in
-    rw (p.1, p.2) (wrote-front _ _ _ _ _ cut.fault (run.logs, tt, run-writes _ c.args.pace _ c.in_ok-traces.traces run.logs run.packets _ tells run.is) cut.front)
+    rw (p.1, p.2) (wrote-front _ _ _ _ _ cut.fault (run.logs, tt, run-writes _ c.args.pace _ c.in_ok-traces.traces run.logs run.packets _ tells c.in_ok-outcome.ensures.known run.is) cut.front)
 
 pub returns-in_err-report_tallies-clause-fault : goal.returns-in_err-report_tallies-clause-fault
 returns-in_err-report_tallies-clause-fault g c =
@@ -35,7 +35,7 @@ returns-clause-wrote g c =
     let tells = trace-tells _ _ c.in_ok-traces.ensures.sound c.in_ok-traces.ensures.sent in
     let wrote = rw c.deref.ensures.value at c.in_ok-report_tallies.ensures.report in
     let all = wrote _ (accounted _ _ _ _ _ _ c.runs_account_for_emitted.ensures run) in
-    wrote-whole _ _ _ _ _ (run.logs, run.kept, run-writes _ c.args.pace _ c.in_ok-traces.traces run.logs run.packets _ tells run.is) all.whole
+    wrote-whole _ _ _ _ _ (run.logs, run.kept, run-writes _ c.args.pace _ c.in_ok-traces.traces run.logs run.packets _ tells c.in_ok-outcome.ensures.known run.is) all.whole
 
 pub returns-clause-write_failures : goal.returns-clause-write_failures
 returns-clause-write_failures g c = c.in_ok-report_tallies.ensures.failures
