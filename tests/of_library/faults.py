@@ -43,21 +43,32 @@ def limits_are_the_same(setting: Setting) -> str:
     return ""
 
 
-def explanations_have_their_length(setting: Setting) -> str:
-    """The greatest length of an explanation is that of the code."""
-    path = setting.root / "crates" / "clk_explain" / "src" / "limits.rt"
-    if not path.exists():
-        raise LeftOut("the limits of explanations are missing")
-    found = re.search(r"MAX_EXPLANATION: usize = (\d+);", path.read_text())
-    declared = re.search(r"#define CLK_MOST_EXPLANATION (\d+)", (setting.include / "clickpull.h").read_text())
-    if found is None or declared is None:
-        raise Failed("the greatest length of an explanation isn't said")
-    compare("the header's greatest length of an explanation", int(declared[1]), int(found[1]))
-    return ""
+# What the header says that there is at most, and the constants of the code.
+MOST = {
+    "CLK_MOST_EXPLANATION": ("clk_explain/src/limits.rt", "MAX_EXPLANATION"),
+    "CLK_MOST_TAKEN": ("clickpull_c/src/live/taking.rt", "MOST_TAKEN"),
+    "CLK_MOST_LINE": ("clickpull_c/src/recording.rt", "MOST_LINE"),
+    "CLK_MOST_LINES": ("clk_script/src/limits.rt", "MAX_LINES"),
+}
+
+
+def most_is_the_same(setting: Setting) -> str:
+    """What the header says that there is at most is what the code has."""
+    text = (setting.include / "clickpull.h").read_text()
+    for declared, (file, name) in MOST.items():
+        path = setting.root / "crates" / file
+        if not path.exists():
+            raise LeftOut(f"{path} is missing")
+        said = re.search(rf"#define {declared} (\d+)", text)
+        found = re.search(rf"pub const {name}: \w+ = ([\d_]+);", path.read_text())
+        if said is None or found is None:
+            raise Failed(f"{declared} isn't said")
+        compare(declared, int(said[1]), int(found[1]))
+    return f"{len(MOST)} numbers"
 
 
 CHECKS = [
     Check("the names of faults", faults_have_their_names),
     Check("the end of moments", limits_are_the_same),
-    Check("the greatest length of an explanation", explanations_have_their_length),
+    Check("the most of what the header counts", most_is_the_same),
 ]

@@ -1,5 +1,5 @@
 -- Bytes that are added to a record, one line after another.
-use Rattle.std.proofs.Common.{◌≡◌, ℕ, ◌+◌, ◌-◌, ◌<◌, ◌≤◌, ◌||◌, List, [], ◌∷◌, ◌++◌, length, take, drop, map, replicate, get_or, None, refl, sym, ap, ◌∙◌, arith}
+use Rattle.std.proofs.Common.{◌≡◌, ℕ, zero, suc, ◌+◌, ◌-◌, ◌*◌, ◌<◌, ◌≤◌, ◌||◌, List, [], ◌∷◌, ◌++◌, length, take, drop, map, replicate, get_or, None, refl, sym, ap, ◌∙◌, length-append, arith}
 use Rattle.std.specs.List.{list_any}
 use Rattle.std.proofs.lemmas.List.{take-append-le, take-append-drop, take-take, map-append, length-take-le, replicate-append-replicate}
 use Rattle.clk_script.specs.declared.script.Command.{Command}
@@ -39,6 +39,17 @@ pulls-front n m c low =
     let all = ap (λ l. length (record_text l None)) (replicate-append-replicate n (m - n) c ∙ ap (λ k. replicate k c) sum) in
     let front = front-shorter (replicate n c) (replicate (m - n) c) in
     omega (arith, all, front)
+
+-- the lines of some pulls are short where each is
+pub pulls-short : (n : ℕ) (c : Command) → length (command_text c) ≤ 25 → length (record_text (replicate n c) None) ≤ n * 25
+pulls-short zero c short = omega arith
+pulls-short (suc n) c short =
+    let more = ap length (pulls-more n c) in
+    let both = length-append (record_text (replicate n c) None) (command_text c) in
+    let rest = pulls-short n c short in
+    let e : suc n ≡ n + 1 = omega arith in
+    let one = ap (λ k. length (record_text (replicate k c) None)) e in
+    omega (arith, one, more, both, rest, short)
 
 -- the commands of some packets, and whether one has no length
 pub sends-mapped : {X : Type 0} (f : X → CPacket) (xs : List X) → map (λ x. send_of (f x)) xs ≡ map send_of (map f xs)

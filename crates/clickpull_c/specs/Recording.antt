@@ -1,11 +1,12 @@
 -- What is added to a record: the script of what a router did, which stands at the front of a text of the caller's.
-use Rattle.std.specs.Prelude.{◌≡◌, ℕ, ◌+◌, ◌<◌, ◌≤◌, ◌==◌, Bool, true, false, List, ◌++◌, length, map, take, Option, None, IfSome}
+use Rattle.std.specs.Prelude.{◌≡◌, ◌≢◌, ℕ, ◌+◌, ◌*◌, ◌<◌, ◌≤◌, ◌==◌, Bool, true, false, List, ◌++◌, length, map, take, Option, None, IfSome}
 use Rattle.std.specs.List.{list_any}
 use Rattle.clk_script.specs.Record.{record_text}
 use Rattle.clk_script.specs.declared.script.Command.{Command}
 use Rattle.clk_script.specs.declared.script.Command.TheVariants.{Send}
 use Rattle.clk_script.specs.declared.limits.TheConstants.{MAX_LINES, MAX_MOMENT}
 use Rattle.clickpull_c.specs.declared.values.CPacket.{CPacket}
+use Rattle.clickpull_c.specs.declared.recording.TheConstants.{MOST_LINE}
 use Rattle.clickpull_c.specs.declared.statuses.TheConstants.{OK, FULL, AT_END, BAD_LENGTH}
 
 -- the command by which a packet was offered
@@ -44,3 +45,7 @@ pub data AddsSends (packets : List CPacket) (before after : List ℕ) (used used
       → AddsSends packets before after used used' lines lines' status
   adds : list_any lacks_length packets ≡ false → AddsLines (record_text (map send_of packets) None) (length packets) None before after used used' lines lines' status
       → AddsSends packets before after used used' lines lines' status
+
+-- A call that adds `count` lines finds room for them where `MOST_LINE` bytes for each stand behind those that are used.
+abbrev pub FindsRoom : ℕ → List ℕ → ℕ → ℕ → Type 0
+FindsRoom count text used status = used + count * MOST_LINE ≤ length text → status ≢ FULL

@@ -21,6 +21,7 @@ pub extern "C" fn clk_router_drain(
     given: &mut usize,
 ) -> u32
     ensures answer { IsDrained router.old.router router.new.router device pulls departures.old departures.new given.new result ⊎ (HasNoDevice router.old.router device result × (router.new.router ≡ router.old.router) × (departures.new ≡ departures.old) × (given.new ≡ 0)) }
+    ensures stays { router.new.at ≡ router.old.at }
 {
     let router = router.get_mut();
     if usize::from(device) >= router.devices() {

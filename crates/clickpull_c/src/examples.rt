@@ -1,13 +1,13 @@
 //! What the definitions of calls say of worked examples. The functions do nothing.
 
-ghost use Rattle.std.specs.Prelude.{◌≡◌, ℕ, [], map, Some, None};
+ghost use Rattle.std.specs.Prelude.{◌≡◌, ℕ, [], map, replicate, Some, None};
 ghost use Rattle.clk_packet.specs.declared.fault.Fault.TheVariants.{NoDevice};
 ghost use Rattle.clk_inlet.specs.Halves.{next_number};
 ghost use Rattle.clk_inlet.specs.declared.inlet.Inlet.{Inlet};
 ghost use Rattle.clickpull_c.specs.Answers.{RefusesOffer};
 ghost use Rattle.clickpull_c.specs.Calls.{IsDrained, IsPulledOften};
 ghost use Rattle.clickpull_c.specs.Explains.{TellsFault, opening_fault, opening_faults};
-ghost use Rattle.clickpull_c.specs.Recording.{AddsLines, AddsSends};
+ghost use Rattle.clickpull_c.specs.Recording.{AddsLines, AddsSends, FindsRoom};
 ghost use Rattle.clickpull_c.specs.Values.{fault_in_c};
 ghost use Rattle.clickpull_c.specs.Inlets.{Accepts, AcceptsMany, EndsBatch, RefusesPacket};
 ghost use Rattle.clickpull_c.specs.Examples.{fresh, fresh_pulled, one_waits, one_out, one_out_pulled, two_wait, first_out, first_out_pulled, packet_before, packet_filled, departure_before, departure_filled, one_item, too_long, a_line, line_room, line_added, a_packet, no_length};
@@ -52,7 +52,7 @@ pub fn inlet_examples()
 {}
 
 /// A line is added to a record only if it stands there and is counted, is left out only if it doesn't fit or may not follow, and whether it
-/// may is tested first. Before that, a packet without a length is told.
+/// may is tested first. Before that, a packet without a length is told. With 25 bytes for it there is room.
 pub fn record_examples()
     ensures adds { AddsLines a_line 1 None line_room line_added 0 9 0 1 OK }
     ensures not_unwritten { ¬ (AddsLines a_line 1 None line_room line_room 0 9 0 1 OK) }
@@ -64,6 +64,8 @@ pub fn record_examples()
     ensures not_late { ¬ (AddsLines a_line 1 (Some 1099511627775) line_room line_room 0 0 0 0 AT_END) }
     ensures long { AddsLines a_line 1 None line_room line_room 0 0 1000000 1000000 AT_END }
     ensures not_long { ¬ (AddsLines a_line 1 None line_room line_room 0 0 999999 999999 AT_END) }
+    ensures full_below { FindsRoom 1 (replicate 24 0) 0 FULL }
+    ensures not_full_at { ¬ (FindsRoom 1 (replicate 25 0) 0 FULL) }
     ensures not_full_first { ¬ (AddsLines a_line 1 (Some 1099511627776) line_room line_room 4 4 0 0 FULL) }
     ensures no_length { AddsSends no_length line_room line_room 0 0 1000000 1000000 BAD_LENGTH }
     ensures not_sent { ¬ (AddsSends no_length line_room line_added 0 9 0 1 OK) }

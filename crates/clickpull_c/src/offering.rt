@@ -19,6 +19,7 @@ pub extern "C" fn clk_router_offer(
     offered: &mut COffered,
 ) -> u32
     ensures answer { AnswersOffer router.old.router router.new.router sender length offered.old offered.new result }
+    ensures stays { router.new.at ≡ router.old.at }
 {
     offer(router.get_mut(), sender, length, offered)
 }
@@ -35,6 +36,7 @@ pub extern "C" fn clk_router_offer_many(
     requires places { length offers.now ≤ length offered.old }
     ensures made { IsOfferedSoFar router.old.router router.new.router offers.now offered.old offered.new done.new }
     ensures ends { EndsOffers router.new.router offers.now done.new result }
+    ensures stays { router.new.at ≡ router.old.at }
 {
     let (made, status) = offer_each(router.get_mut(), offers, offered);
     *done = made;

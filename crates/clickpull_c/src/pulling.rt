@@ -21,6 +21,7 @@ pub extern "C" fn clk_router_pull(
     packet: &mut CPacket,
 ) -> u32
     ensures answer { AnswersPull router.old.router router.new.router device moment packet.old packet.new result ⊎ (RefusesPull router.old.router device moment result × (router.new.router ≡ router.old.router) × (packet.new ≡ packet.old)) }
+    ensures stays { router.new.at ≡ router.old.at }
 {
     match pull(router.get_mut(), device, moment) {
         Ok(Some(got)) => {
@@ -43,6 +44,7 @@ pub extern "C" fn clk_router_pull_many(
     given: &mut usize,
 ) -> u32
     ensures answer { (IsPulledOften router.old.router router.new.router device moment packets.old packets.new given.new × (result ≡ pulls_status given.new (length packets.old))) ⊎ (RefusesPull router.old.router device moment result × (router.new.router ≡ router.old.router) × (packets.new ≡ packets.old) × (given.new ≡ 0)) }
+    ensures stays { router.new.at ≡ router.old.at }
 {
     let count = packets.len();
     match pull_often(router.get_mut(), device, moment, packets) {

@@ -1,15 +1,18 @@
 //! Lines are added to a record: the script of what a router did, at the front of a text of the caller's.
 
-ghost use Rattle.std.specs.Prelude.{◌≡◌, ◌<◌, ◌+◌, length, map, replicate, [], true, false, Some, None, IfSome};
+ghost use Rattle.std.specs.Prelude.{◌≡◌, ◌<◌, ◌≤◌, ◌+◌, length, map, replicate, [], true, false, Some, None, IfSome};
 ghost use Rattle.std.specs.List.{list_any};
 ghost use Rattle.clk_script.specs.Record.{command_text, record_text};
-ghost use Rattle.clk_script.specs.declared.script.Command.TheVariants.{Pull};
-ghost use Rattle.clickpull_c.specs.Recording.{AddsLines, AddsSends, IsAdded, MayGoOn, lacks_length, send_of};
+ghost use Rattle.clk_script.specs.declared.script.Command.TheVariants.{Pull, Send};
+ghost use Rattle.clickpull_c.specs.Recording.{AddsLines, AddsSends, FindsRoom, IsAdded, MayGoOn, lacks_length, send_of};
 
 use crate::live::CTaken;
 use crate::statuses::{AT_END, BAD_LENGTH, FULL, OK};
 use crate::values::{COffered, CPacket};
 use clk_script::{COMMAND_ROOM, Command, MAX_LINES, MAX_MOMENT, command_line, drain_line};
+
+/// How many bytes a line of a record has at most.
+pub const MOST_LINE: usize = 25;
 
 /// What a line of a record says of a packet that was offered.
 trait Sent {
@@ -51,6 +54,7 @@ pub extern "C" fn clk_raw_record_offered(
     lines: &mut u32,
 ) -> u32
     ensures answer { AddsSends (map (λ o. o.packet) offered.now) text.old text.new used.old used.new lines.old lines.new result }
+    ensures enough { FindsRoom (length offered.now) text.old used.old result }
 {
     add_packets(offered, text, used, lines)
 }
@@ -64,6 +68,7 @@ pub extern "C" fn clk_raw_record_taken(
     lines: &mut u32,
 ) -> u32
     ensures answer { AddsSends (map (λ t. t.packet) taken.now) text.old text.new used.old used.new lines.old lines.new result }
+    ensures enough { FindsRoom (length taken.now) text.old used.old result }
 {
     add_packets(taken, text, used, lines)
 }
@@ -80,6 +85,7 @@ pub extern "C" fn clk_raw_record_pulls(
     lines: &mut u32,
 ) -> u32
     ensures answer { AddsLines (record_text (replicate pulls (Pull device moment)) None) pulls (Some moment) text.old text.new used.old used.new lines.old lines.new result }
+    ensures enough { FindsRoom pulls text.old used.old result }
 {
     if !may_go_on(*lines, pulls, Some(moment)) {
         return AT_END;
@@ -112,6 +118,7 @@ pub extern "C" fn clk_raw_record_drain(
     lines: &mut u32,
 ) -> u32
     ensures answer { AddsLines (record_text [] (Some moment)) 1 (Some moment) text.old text.new used.old used.new lines.old lines.new result }
+    ensures enough { FindsRoom 1 text.old used.old result }
 {
     if !may_go_on(*lines, 1, Some(moment)) {
         return AT_END;
@@ -127,7 +134,8 @@ pub extern "C" fn clk_raw_record_drain(
 
 // Adds the lines of packets that were offered, if each has a length.
 fn add_packets<S: Sent>(sent: &[S], text: &mut [u8], used: &mut usize, lines: &mut u32) -> u32
-    ensures { AddsSends (map (λ s. S.Sent.packet s) sent.now) text.old text.new used.old used.new lines.old lines.new result }
+    ensures answer { AddsSends (map (λ s. S.Sent.packet s) sent.now) text.old text.new used.old used.new lines.old lines.new result }
+    ensures enough { FindsRoom (length sent.now) text.old used.old result }
 {
     if lack_length(sent) {
         return BAD_LENGTH;
@@ -144,7 +152,8 @@ fn lack_length<S: Sent>(sent: &[S]) -> bool
 
 // Adds the lines of packets that were offered.
 fn add_sends<S: Sent>(sent: &[S], text: &mut [u8], used: &mut usize, lines: &mut u32) -> u32
-    ensures { AddsLines (record_text (map (λ s. send_of (S.Sent.packet s)) sent.now) None) (length sent.now) None text.old text.new used.old used.new lines.old lines.new result }
+    ensures answer { AddsLines (record_text (map (λ s. send_of (S.Sent.packet s)) sent.now) None) (length sent.now) None text.old text.new used.old used.new lines.old lines.new result }
+    ensures enough { FindsRoom (length sent.now) text.old used.old result }
 {
     if !may_go_on(*lines, sent.len() as u64, None) {
         return AT_END;
@@ -155,7 +164,8 @@ fn add_sends<S: Sent>(sent: &[S], text: &mut [u8], used: &mut usize, lines: &mut
     let mut end = *used;
     let mut done = 0;
     while done < sent.len() {
-        let Some(next) = add_send(text, end, sent[done].packet()) else {
+        let packet = sent[done].packet();
+        let Some(next) = add_send(text, end, packet.sender, packet.length) else {
             return FULL;
         };
         end = next;
@@ -167,14 +177,15 @@ fn add_sends<S: Sent>(sent: &[S], text: &mut [u8], used: &mut usize, lines: &mut
 }
 
 // Adds the line of a packet that was offered. Returns where it ends, or nothing if there is no room for it.
-fn add_send(text: &mut [u8], used: usize, packet: CPacket) -> Option<usize>
-    ensures added { IfSome result (λ end. IsAdded (command_text (send_of packet)) text.old text.new used end) }
-    ensures full { result ≡ None → (length text.old < used + length (command_text (send_of packet))) × (text.new ≡ text.old) }
+fn add_send(text: &mut [u8], used: usize, sender: u16, size: u16) -> Option<usize>
+    ensures added { IfSome result (λ end. IsAdded (command_text (Send sender size)) text.old text.new used end) }
+    ensures full { result ≡ None → (length text.old < used + length (command_text (Send sender size))) × (text.new ≡ text.old) }
     ensures size { length text.new ≡ length text.old }
+    ensures short { length (command_text (Send sender size)) ≤ MOST_LINE }
 {
     let command = Command::Send {
-        sender: packet.sender,
-        length: packet.length,
+        sender,
+        length: size,
     };
     let mut room = [0; COMMAND_ROOM];
     add_line(text, used, command_line(&mut room, command))

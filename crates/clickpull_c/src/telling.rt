@@ -15,6 +15,7 @@ use crate::values::{CAccount, CQueue, account_for_c, queue_for_c};
 pub extern "C" fn clk_router_senders(router: &mut Handle) -> usize
     ensures senders { result ≡ sender_count router.old.router }
     ensures unchanged { router.new.router ≡ router.old.router }
+    ensures stays { router.new.at ≡ router.old.at }
 {
     router.get_mut().accounts().len()
 }
@@ -24,6 +25,7 @@ pub extern "C" fn clk_router_senders(router: &mut Handle) -> usize
 pub extern "C" fn clk_router_queues(router: &mut Handle) -> usize
     ensures queues { result ≡ queue_count router.old.router }
     ensures unchanged { router.new.router ≡ router.old.router }
+    ensures stays { router.new.at ≡ router.old.at }
 {
     router.get_mut().queues()
 }
@@ -33,6 +35,7 @@ pub extern "C" fn clk_router_queues(router: &mut Handle) -> usize
 pub extern "C" fn clk_router_devices(router: &mut Handle) -> usize
     ensures devices { result ≡ device_count router.old.router }
     ensures unchanged { router.new.router ≡ router.old.router }
+    ensures stays { router.new.at ≡ router.old.at }
 {
     router.get_mut().devices()
 }
@@ -42,6 +45,7 @@ pub extern "C" fn clk_router_devices(router: &mut Handle) -> usize
 pub extern "C" fn clk_router_moment(router: &mut Handle, device: u16, moment: &mut u64) -> u32
     ensures answer { TellsMoment router.old.router device moment.new result ⊎ (HasNoDevice router.old.router device result × (moment.new ≡ moment.old)) }
     ensures unchanged { router.new.router ≡ router.old.router }
+    ensures stays { router.new.at ≡ router.old.at }
 {
     let router = router.get_mut();
     if usize::from(device) >= router.devices() {
@@ -57,6 +61,7 @@ pub extern "C" fn clk_router_moment(router: &mut Handle, device: u16, moment: &m
 pub extern "C" fn clk_router_due(router: &mut Handle, device: u16, moment: &mut u64) -> u32
     ensures answer { TellsDue router.old.router device moment.old moment.new result ⊎ (HasNoDevice router.old.router device result × (moment.new ≡ moment.old)) }
     ensures unchanged { router.new.router ≡ router.old.router }
+    ensures stays { router.new.at ≡ router.old.at }
 {
     let router = router.get_mut();
     if usize::from(device) >= router.devices() {
@@ -76,6 +81,7 @@ pub extern "C" fn clk_router_due(router: &mut Handle, device: u16, moment: &mut 
 pub extern "C" fn clk_router_left(router: &mut Handle, device: u16, packets: &mut u64) -> u32
     ensures answer { TellsLeft router.old.router device packets.new result ⊎ (HasNoDevice router.old.router device result × (packets.new ≡ packets.old)) }
     ensures unchanged { router.new.router ≡ router.old.router }
+    ensures stays { router.new.at ≡ router.old.at }
 {
     let router = router.get_mut();
     if usize::from(device) >= router.devices() {
@@ -94,6 +100,7 @@ pub extern "C" fn clk_router_account(
 ) -> u32
     ensures answer { TellsAccount router.old.router place account.new result ⊎ (HasNoPlace router.old.router place result × (account.new ≡ account.old)) }
     ensures unchanged { router.new.router ≡ router.old.router }
+    ensures stays { router.new.at ≡ router.old.at }
 {
     match router.get_mut().accounts().get(place) {
         Some(found) => {
@@ -116,6 +123,7 @@ pub extern "C" fn clk_router_sender_name(
     ensures answer { TellsName router.old.router place buffer.old buffer.new needed.new result
         ⊎ (HasNoName router.old.router place result × (buffer.new ≡ buffer.old) × (needed.new ≡ 0)) }
     ensures unchanged { router.new.router ≡ router.old.router }
+    ensures stays { router.new.at ≡ router.old.at }
 {
     let Some(name) = router.get_mut().sender_name(place) else {
         *needed = 0;
@@ -134,6 +142,7 @@ pub extern "C" fn clk_router_sender_name(
 pub extern "C" fn clk_router_queue(router: &mut Handle, number: u16, queue: &mut CQueue) -> u32
     ensures answer { TellsQueue router.old.router number queue.new result ⊎ (HasNoQueue router.old.router number result × (queue.new ≡ queue.old)) }
     ensures unchanged { router.new.router ≡ router.old.router }
+    ensures stays { router.new.at ≡ router.old.at }
 {
     let router = router.get_mut();
     if usize::from(number) >= router.queues() {

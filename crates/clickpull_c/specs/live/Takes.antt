@@ -1,8 +1,8 @@
 -- What takes of packets from inlets do, and what they fill in.
 use Rattle.std.specs.Prelude.{◌≡◌, ℕ, ◌-◌, ◌<◌, List, length, map, take, min, Some, slice_get}
 use Rattle.clk_router.specs.Course.{Course, sender_at}
-use Rattle.clk_live.specs.State.{LiveState, seen, AllGoOn}
-use Rattle.clk_live.specs.Taking.{AreTaken, AreOf, GaveAll, GaveAllThatFits, AreAtMost, AreSharesOr, StartsNext, AllAccepted}
+use Rattle.clk_live.specs.State.{LiveState, seen, starts_at, AllGoOn}
+use Rattle.clk_live.specs.Taking.{AreTaken, AreOf, GaveAll, GaveAllThatFits, AreAtMost, AreSharesOr, AreSharesBefore, StartsNext, AllAccepted}
 use Rattle.clk_live.specs.declared.taking.Taken.{Taken}
 use Rattle.clickpull_c.specs.declared.live.router.LiveRouter.{LiveRouter}
 use Rattle.clickpull_c.specs.declared.live.taking.TheConstants.{MOST_TAKEN}
@@ -42,19 +42,22 @@ pub record TakesRound (each : ℕ) (old new : LiveState) (before filled : List C
   pub at_most : AreAtMost each (take given gave)
   pub turn : StartsNext old new (most_into before) given (slice_get gave (given - 1))
 
--- Of each sender `each` packets were taken, or all that were seen in its inlet, unless the call took as many as it may.
+-- Of each sender `each` packets were taken, or all that were seen in its inlet. If the call took as many as it may, that holds of the senders
+-- before the last packet's, from the one on at which the round starts.
 pub record TakesIn (each : ℕ) (old new : LiveState) (before filled : List CTaken) (given : ℕ) : Type 0 where
   pub gave : List Taken
   pub round : TakesRound each old new before filled given gave
   pub shares : given < most_into before → AreSharesOr (GaveAll old.outlets new.outlets) old.course.setup each (take given gave)
+  pub in_turn : AreSharesBefore (GaveAll old.outlets new.outlets) old.course.setup (starts_at old) (length old.outlets) each (slice_get gave (given - 1)) (take given gave)
 
 -- Each packet was accepted without evicting another. Of each sender `each` packets were taken, or all that were seen in its inlet, or its
--- queue is full now, unless the call took as many as it may.
+-- queue is full now. If the call took as many as it may, that holds of the senders before the last packet's, as for `TakesIn`.
 pub record TakesWhatFits (each : ℕ) (old new : LiveState) (before filled : List CTaken) (given : ℕ) : Type 0 where
   pub gave : List Taken
   pub round : TakesRound each old new before filled given gave
   pub accepted : AllAccepted (take given gave)
   pub shares : given < most_into before → AreSharesOr (GaveAllThatFits old new) old.course.setup each (take given gave)
+  pub in_turn : AreSharesBefore (GaveAllThatFits old new) old.course.setup (starts_at old) (length old.outlets) each (slice_get gave (given - 1)) (take given gave)
 
 -- A call is refused, since no sender has this number.
 pub record HasNoSender (c : Course) (sender status : ℕ) : Type 0 where

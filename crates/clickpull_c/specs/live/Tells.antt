@@ -17,7 +17,7 @@ AnswersTold old new status Told Refused Unfilled = Answers old new status (λ a 
 abbrev pub IsCount : LiveRouter → (Course → ℕ) → ℕ → Type 0
 IsCount l count told = MatchOption l.live (told ≡ 0) (λ s. told ≡ count s.course)
 
--- Whether every inlet has ended. If so, every packet that was ever sent through them was taken.
+-- Whether every inlet has ended. If so, nothing more can come through them.
 pub data TellsEnded (s : LiveState) (status : ℕ) : Type 0 where
   ended : status ≡ OK → AreAllEnded s.outlets → AreAllWhole s.outlets → TellsEnded s status
   not_ended : status ≡ NONE → (AreAllEnded s.outlets → ⊥) → TellsEnded s status

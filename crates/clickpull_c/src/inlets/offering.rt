@@ -27,6 +27,7 @@ pub extern "C" fn clk_raw_inlet_offer(
     ensures succeeds { IsLength length → 0 < fits inlet.old.inlet → result ≡ OK }
     ensures fits { fits inlet.old.inlet ≤ fits inlet.new.inlet + 1 }
     ensures halves { (o : Outlet) → AreHalves inlet.old.inlet o → AreHalves inlet.new.inlet o }
+    ensures stays { inlet.new.at ≡ inlet.old.at }
 {
     match offer(inlet.get_mut(), length, token) {
         Ok(at) => {
@@ -49,6 +50,7 @@ pub extern "C" fn clk_raw_inlet_offer_many(
     ensures ends { EndsBatch inlet.new.inlet items.now done.new result }
     ensures fits { fits inlet.old.inlet ≤ fits inlet.new.inlet + done.new }
     ensures halves { (o : Outlet) → AreHalves inlet.old.inlet o → AreHalves inlet.new.inlet o }
+    ensures stays { inlet.new.at ≡ inlet.old.at }
 {
     let (accepted, status) = offer_each(inlet.get_mut(), items);
     *done = accepted;
@@ -62,6 +64,7 @@ pub extern "C" fn clk_raw_inlet_room(inlet: &mut InletHandle) -> usize
     ensures unchanged { pushed inlet.new.inlet ≡ pushed inlet.old.inlet }
     ensures fits { fits inlet.old.inlet ≤ fits inlet.new.inlet }
     ensures halves { (o : Outlet) → AreHalves inlet.old.inlet o → AreHalves inlet.new.inlet o }
+    ensures stays { inlet.new.at ≡ inlet.old.at }
 {
     inlet.get_mut().room()
 }

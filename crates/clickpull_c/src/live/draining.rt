@@ -20,6 +20,7 @@ pub extern "C" fn clk_raw_live_drain(
     given: &mut usize,
 ) -> u32
     ensures answer { AnswersDrain live.old.router live.new.router device pulls departures.old departures.new given.new result }
+    ensures stays { live.new.at ≡ live.old.at }
 {
     let (emitted, status) = drain(live.get_mut(), device, departures, pulls);
     *given = emitted;

@@ -24,7 +24,8 @@ pub extern "C" fn clk_raw_live_inlet(
     inlet: &mut InletPlace,
 ) -> u32
     requires empty { inlet.old.inlet ≡ None }
-    ensures answer { HandsOut live.old.router live.new.router sender inlet.new.inlet result ⊎ (RefusesInlet live.old.router sender result × IsUnchanged live.old.router live.new.router × (inlet.new.inlet ≡ inlet.old.inlet)) }
+    ensures answer { HandsOut live.old.router live.new.router sender inlet.new.inlet result ⊎ (RefusesInlet live.old.router sender result × IsUnchanged live.old.router live.new.router × (inlet.new ≡ inlet.old)) }
+    ensures stays { live.new.at ≡ live.old.at }
 {
     match claim(live.get_mut(), sender) {
         Ok(claimed) => {

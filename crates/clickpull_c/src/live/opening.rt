@@ -31,7 +31,7 @@ pub extern "C" fn clk_raw_live_open(
     fault: &mut CFault,
 ) -> u32
     requires empty { live.old.router ≡ None }
-    ensures answer { ((result ≡ OK) × IsGivenLive text.now room live.new.router × (fault.new ≡ fault.old)) ⊎ (RefusesOpen text.now room fault.old fault.new result × (live.new.router ≡ live.old.router)) }
+    ensures answer { ((result ≡ OK) × IsGivenLive text.now room live.new.router × (fault.new ≡ fault.old)) ⊎ (RefusesOpen text.now room fault.old fault.new result × (live.new ≡ live.old)) }
 {
     if room == 0 || room > MAX_ROOM {
         return BAD_ROOM;

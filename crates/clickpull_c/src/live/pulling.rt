@@ -21,6 +21,7 @@ pub extern "C" fn clk_raw_live_pull(
     packet: &mut CEmitted,
 ) -> u32
     ensures answer { AnswersOnePull live.old.router live.new.router device moment packet.old packet.new result }
+    ensures stays { live.new.at ≡ live.old.at }
 {
     pull(live.get_mut(), device, moment, packet)
 }
@@ -36,6 +37,7 @@ pub extern "C" fn clk_raw_live_pull_many(
     given: &mut usize,
 ) -> u32
     ensures answer { AnswersPulls live.old.router live.new.router device moment packets.old packets.new given.new result }
+    ensures stays { live.new.at ≡ live.old.at }
 {
     let (emitted, status) = pull_many(live.get_mut(), device, moment, packets);
     *given = emitted;

@@ -17,6 +17,7 @@ pub extern "C" fn clk_raw_live_reclaim(
     given: &mut usize,
 ) -> u32
     ensures answer { Reclaims live.old.router live.new.router tokens.old tokens.new given.new result }
+    ensures stays { live.new.at ≡ live.old.at }
 {
     let (count, status) = reclaim(live.get_mut(), tokens);
     *given = count;

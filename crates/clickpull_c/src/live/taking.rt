@@ -45,6 +45,7 @@ pub extern "C" fn clk_raw_live_take(
     given: &mut usize,
 ) -> u32
     ensures answer { AnswersTake live.old.router live.new.router (λ a b. TakesOf sender a b taken.old taken.new given.new) (λ s. HasNoSender s.course sender result) taken.old taken.new given.new result }
+    ensures stays { live.new.at ≡ live.old.at }
 {
     let (count, status) = take(live.get_mut(), sender, taken);
     *given = count;
@@ -52,8 +53,8 @@ pub extern "C" fn clk_raw_live_take(
 }
 
 /// Takes packets in one round over the senders, at most `each` from each, as many as find a place, 64 at most. Offers each to its sender's
-/// queue. Fills in how many were taken, and each with its token and outcome. If the call takes as many as it may, the next round starts at
-/// the next sender.
+/// queue. Fills in how many were taken, and each with its token and outcome. If the call takes as many as it may, the next round starts
+/// after the sender of its last packet.
 #[unsafe(no_mangle)]
 pub extern "C" fn clk_raw_live_take_in(
     live: &mut LiveHandle,
@@ -62,6 +63,7 @@ pub extern "C" fn clk_raw_live_take_in(
     given: &mut usize,
 ) -> u32
     ensures answer { AnswersTake live.old.router live.new.router (λ a b. TakesIn each a b taken.old taken.new given.new) (λ s. ⊥) taken.old taken.new given.new result }
+    ensures stays { live.new.at ≡ live.old.at }
 {
     let (count, status) = take_in(live.get_mut(), each, taken);
     *given = count;
@@ -78,6 +80,7 @@ pub extern "C" fn clk_raw_live_take_what_fits(
     given: &mut usize,
 ) -> u32
     ensures answer { AnswersTake live.old.router live.new.router (λ a b. TakesWhatFits each a b taken.old taken.new given.new) (λ s. ⊥) taken.old taken.new given.new result }
+    ensures stays { live.new.at ≡ live.old.at }
 {
     let (count, status) = take_what_fits(live.get_mut(), each, taken);
     *given = count;

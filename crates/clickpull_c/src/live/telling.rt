@@ -13,10 +13,11 @@ use super::router::LiveRouter;
 use crate::statuses::{NONE, OK, RECLAIMED, UNKNOWN_DEVICE, UNKNOWN_QUEUE, UNKNOWN_SENDER};
 use crate::values::{CAccount, CQueue, account_for_c, queue_for_c};
 
-/// Whether every inlet has ended, and every packet that was ever sent through it was taken.
+/// Whether every inlet has ended, so that nothing more can come through it.
 #[unsafe(no_mangle)]
 pub extern "C" fn clk_raw_live_ended(live: &mut LiveHandle) -> u32
     ensures answer { AnswersTold live.old.router live.new.router result (λ s. TellsEnded s result) (λ s. ⊥) (result ≡ result) }
+    ensures stays { live.new.at ≡ live.old.at }
 {
     ended(live.get_mut())
 }
@@ -25,6 +26,7 @@ pub extern "C" fn clk_raw_live_ended(live: &mut LiveHandle) -> u32
 #[unsafe(no_mangle)]
 pub extern "C" fn clk_raw_live_drained(live: &mut LiveHandle) -> u32
     ensures answer { AnswersTold live.old.router live.new.router result (λ s. TellsDrained s result) (λ s. ⊥) (result ≡ result) }
+    ensures stays { live.new.at ≡ live.old.at }
 {
     drained(live.get_mut())
 }
@@ -34,6 +36,7 @@ pub extern "C" fn clk_raw_live_drained(live: &mut LiveHandle) -> u32
 pub extern "C" fn clk_raw_live_senders(live: &mut LiveHandle) -> usize
     ensures senders { IsCount live.old.router sender_count result }
     ensures unchanged { IsUnchanged live.old.router live.new.router }
+    ensures stays { live.new.at ≡ live.old.at }
 {
     senders(live.get_mut())
 }
@@ -43,6 +46,7 @@ pub extern "C" fn clk_raw_live_senders(live: &mut LiveHandle) -> usize
 pub extern "C" fn clk_raw_live_queues(live: &mut LiveHandle) -> usize
     ensures queues { IsCount live.old.router queue_count result }
     ensures unchanged { IsUnchanged live.old.router live.new.router }
+    ensures stays { live.new.at ≡ live.old.at }
 {
     queues(live.get_mut())
 }
@@ -52,6 +56,7 @@ pub extern "C" fn clk_raw_live_queues(live: &mut LiveHandle) -> usize
 pub extern "C" fn clk_raw_live_devices(live: &mut LiveHandle) -> usize
     ensures devices { IsCount live.old.router device_count result }
     ensures unchanged { IsUnchanged live.old.router live.new.router }
+    ensures stays { live.new.at ≡ live.old.at }
 {
     devices(live.get_mut())
 }
@@ -60,6 +65,7 @@ pub extern "C" fn clk_raw_live_devices(live: &mut LiveHandle) -> usize
 #[unsafe(no_mangle)]
 pub extern "C" fn clk_raw_live_moment(live: &mut LiveHandle, device: u16, moment: &mut u64) -> u32
     ensures answer { AnswersTold live.old.router live.new.router result (λ s. TellsMoment s.course device moment.new result) (λ s. HasNoDevice s.course device result) (moment.new ≡ moment.old) }
+    ensures stays { live.new.at ≡ live.old.at }
 {
     tell_moment(live.get_mut(), device, moment)
 }
@@ -69,6 +75,7 @@ pub extern "C" fn clk_raw_live_moment(live: &mut LiveHandle, device: u16, moment
 #[unsafe(no_mangle)]
 pub extern "C" fn clk_raw_live_due(live: &mut LiveHandle, device: u16, moment: &mut u64) -> u32
     ensures answer { AnswersTold live.old.router live.new.router result (λ s. TellsDue s.course device moment.old moment.new result) (λ s. HasNoDevice s.course device result) (moment.new ≡ moment.old) }
+    ensures stays { live.new.at ≡ live.old.at }
 {
     tell_due(live.get_mut(), device, moment)
 }
@@ -78,6 +85,7 @@ pub extern "C" fn clk_raw_live_due(live: &mut LiveHandle, device: u16, moment: &
 #[unsafe(no_mangle)]
 pub extern "C" fn clk_raw_live_left(live: &mut LiveHandle, device: u16, packets: &mut u64) -> u32
     ensures answer { AnswersTold live.old.router live.new.router result (λ s. TellsLeft s.course device packets.new result) (λ s. HasNoDevice s.course device result) (packets.new ≡ packets.old) }
+    ensures stays { live.new.at ≡ live.old.at }
 {
     tell_left(live.get_mut(), device, packets)
 }
@@ -91,6 +99,7 @@ pub extern "C" fn clk_raw_live_account(
     account: &mut CAccount,
 ) -> u32
     ensures answer { AnswersTold live.old.router live.new.router result (λ s. TellsAccount s.course place account.new result) (λ s. HasNoPlace s.course place result) (account.new ≡ account.old) }
+    ensures stays { live.new.at ≡ live.old.at }
 {
     tell_account(live.get_mut(), place, account)
 }
@@ -99,6 +108,7 @@ pub extern "C" fn clk_raw_live_account(
 #[unsafe(no_mangle)]
 pub extern "C" fn clk_raw_live_queue(live: &mut LiveHandle, number: u16, queue: &mut CQueue) -> u32
     ensures answer { AnswersTold live.old.router live.new.router result (λ s. TellsQueue s.course number queue.new result) (λ s. HasNoQueue s.course number result) (queue.new ≡ queue.old) }
+    ensures stays { live.new.at ≡ live.old.at }
 {
     tell_queue(live.get_mut(), number, queue)
 }

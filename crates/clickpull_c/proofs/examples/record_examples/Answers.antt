@@ -79,3 +79,9 @@ returns-clause-not_at_end_first c = λ h. true≢false (when-other h (λ e. omeg
 
 pub returns-clause-not_without_length : goal.returns-clause-not_without_length
 returns-clause-not_without_length c = λ h. false≢true (when-bad h)
+
+pub returns-clause-full_below : goal.returns-clause-full_below
+returns-clause-full_below c = λ room same. omega (arith, room)
+
+pub returns-clause-not_full_at : goal.returns-clause-not_full_at
+returns-clause-not_full_at c = λ finds. finds (omega arith) refl

@@ -1,5 +1,5 @@
 use Rattle.clickpull_c.proofs.LiveSteps.{moved}
 use Rattle.clickpull_c.proofs.live.pulling.clk_raw_live_pull.Goals as goal
 
-pub returns : goal.returns
-returns c = record { answer = moved c.get_mut.ensures.value c.pull.ensures }
+pub returns-clause-answer : goal.returns-clause-answer
+returns-clause-answer c = moved c.get_mut.ensures.value c.pull.ensures

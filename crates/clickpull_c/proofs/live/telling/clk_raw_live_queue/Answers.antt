@@ -1,5 +1,5 @@
 use Rattle.clickpull_c.proofs.LiveSteps.{moved}
 use Rattle.clickpull_c.proofs.live.telling.clk_raw_live_queue.Goals as goal
 
-pub returns : goal.returns
-returns c = record { answer = moved c.get_mut.ensures.value c.tell_queue.ensures }
+pub returns-clause-answer : goal.returns-clause-answer
+returns-clause-answer c = moved c.get_mut.ensures.value c.tell_queue.ensures
