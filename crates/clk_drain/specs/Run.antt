@@ -53,7 +53,7 @@ pub record IsKeptRun (keeps : Keeps) (plan : List Planned) (traces : List (List 
   pub is : IsRunWith plan traces step limit logs packets outcome.tallies.items
 
 -- By these counts a queue lost packets although it accepted fewer than it may hold: a Queue refused at least one packet, or a FrontDropQueue
--- accepted all that were sent to it and evicted at least one.
+-- accepted all that were sent to it, at least one, so that it may have evicted some.
 pub record HasLostEarly (q : SharedQueue) (sent accepted capacity : ℕ) : Type 0 where
   pub capacity_is : capacity ≡ q.capacity
   pub below : accepted < capacity

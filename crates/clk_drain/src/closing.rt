@@ -23,8 +23,9 @@ use std::alloc::Global;
 use std::sync::Wait;
 
 /// Drains a session whose lines are all closed, and settles each queue. It pulls the device one tick apart until nothing is left in the
-/// queues and the tree. The first pull is one tick after the later of this moment and the session's latest. It gathers every seat before
-/// the first pull, so the drain always ends: a tap that gives none has then given all.
+/// queues and the tree. The first pull is one tick after the later of this moment, in ticks, and the session's latest; that has to be below
+/// 2^43 - 1. The queues accepted at most 1,000,000 packets in all. It gathers every seat before the first pull, so the drain always ends: a
+/// tap that gives none has then given all.
 ///
 /// The device emits, before or in the drain, exactly those packets of each sender that its queue accepted and didn't evict. It emits each
 /// once, in the order in which they were sent. The session keeps all of its visits, and none was dropped: of any other, nothing is promised

@@ -10,7 +10,7 @@ use std::alloc::Global;
 /// The outcome of a device, after all who sent to its queues had closed their seats and it was drained. Its log may be packed.
 #[derive(Drop)]
 pub struct Drained<L = Vec<Visit>> {
-    /// The packets that the device emitted, in order, if these or visits are kept. Otherwise none.
+    /// The packets that the device emitted, in order, if these or visits are kept.
     pub emitted: Vec<Packet>,
     /// Every visit of its tree, in order, if visits are kept.
     pub log: L,

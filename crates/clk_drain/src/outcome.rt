@@ -10,7 +10,7 @@ use std::alloc::Global;
 /// The outcome of a run, after all producers had closed their seats and every device was drained. Its logs may be packed.
 #[derive(Drop)]
 pub struct Outcome<L = Vec<Visit>> {
-    /// For each device, by its number, the packets that it emitted, in order, if these or visits are kept. Otherwise an empty list.
+    /// For each device, by its number, the packets that it emitted, in order, if these or visits are kept.
     pub emitted: Vec<Vec<Packet>>,
     /// For each device every visit of its tree, in order, if visits are kept.
     pub logs: Vec<L>,

@@ -140,8 +140,9 @@ pub struct Opened {
 impl RuledQueue {
     ghost use Rattle.clk_ruled.specs.Queue.{IsOpened};
 
-    /// Opens a queue of this kind that holds at most `capacity` packets, from 1 to 1,000,000, for these senders, each with the number of
-    /// packets that it may offer. The memory of all seats and of the tap, which keeps what it pulls, is allocated here.
+    /// Opens a queue of this kind that holds at most `capacity` packets, from 1 to 1,000,000, for these senders, by rising number, each with
+    /// the number of packets that it may offer, 1,000,000 in all. The memory of all seats and of the tap, which keeps what it pulls, is
+    /// allocated here.
     ///
     /// The queue has no more places than packets can be offered in all. No packet is refused for that: fewer places than the capacity are
     /// full only once every sender has offered all that it may.
