@@ -840,8 +840,8 @@ CLK_API clk_status clk_live_take(clk_live *live, uint32_t sender, clk_taken *tak
 }
 
 /* Takes packets in one round over all senders, at most `each` from each, and offers each packet to its sender's queue. Its arguments are as
- * for clk_live_take, and so is the most that one call takes. If the call takes that many, the round ends early, and the next one starts at
- * the next sender: so each sender has its turn.
+ * for clk_live_take, and so is the most that one call takes. If the call takes that many, the round ends early, and the next one starts
+ * after the sender of its last packet: so each sender has its turn.
  *
  * CLK_OK    at least one was taken, or `count` is 0.
  * CLK_NONE  none was taken.

@@ -13,10 +13,10 @@
 // values from threads (clickpull_live.hpp, which this header includes). All are moved and not copied, and close their router when they are
 // destroyed. A `Record` notes what any of them did as a script (clickpull_record.hpp, which this header includes).
 //
-// A call that can't be made throws. It throws `Error` if the router is shut, a sender, device or queue is unknown, a length is not from 1
-// to 65,535, or a number is at its end. It throws `TextFault` if a text makes no router, and std::bad_alloc if an allocation fails. A call
-// that throws leaves all as it was, but for a drain at the end of moments, which keeps the pulls that it made before. That a packet is
-// refused, or that none comes, is no error, and no exception.
+// A call that can't be made throws. It throws `Error` if the router is shut, a sender or device is unknown, a length is not from 1 to
+// 65,535, or a number is at its end. It throws `TextFault` if a text makes no router, and std::bad_alloc if an allocation fails. A call that
+// throws leaves all as it was, but for a drain at the end of moments, which keeps the pulls that it made before. That a packet is refused,
+// or that none comes, is no error, and no exception.
 #ifndef CLICKPULL_HPP
 #define CLICKPULL_HPP
 
@@ -400,17 +400,30 @@ public:
         lists_ = std::vector<List>(places_.size());
     }
 
-    // The sender offers its next packet, of so many bytes, with this value.
-    [[nodiscard]] Offer offer(std::uint32_t sender, std::uint32_t length, T value) {
+    Carrier(Carrier &&) noexcept = default;
+
+    // Closes the router that it had, and destroys its values.
+    Carrier &operator=(Carrier &&other) noexcept {
+        if (this != &other) {
+            router_ = std::move(other.router_);
+            places_ = std::move(other.places_);
+            lists_ = std::move(other.lists_);
+        }
+        return *this;
+    }
+
+    // The sender offers its next packet, of so many bytes, with this value. If the call throws, the value is the caller's as it was.
+    [[nodiscard]] Offer offer(std::uint32_t sender, std::uint32_t length, T &&value) {
         if (router_.is_open())
             detail::need_length(length);
         List &list = list_of(sender);
-        // It is put into the list first, so that no memory is asked for once the packet was offered.
-        list.push_back({0, std::move(value)});
+        // The value goes into the list first, so that nothing is allocated once the packet was offered. The list allocates, and then moves it.
+        list.emplace_back(std::move(value));
         std::optional<Offered> offered;
         try {
             offered = router_.offer(sender, length);
         } catch (...) {
+            value = std::move(list.back().value);
             list.pop_back();
             throw;
         }
@@ -423,6 +436,13 @@ public:
             list.pop_back();
         }
         return it;
+    }
+
+    // Offers a copy of the value. Throws what T's copy constructor throws, too.
+    template <class Copied = T, std::enable_if_t<std::is_copy_constructible_v<Copied>, int> = 0>
+    [[nodiscard]] Offer offer(std::uint32_t sender, std::uint32_t length, const T &value) {
+        T copy(value);
+        return offer(sender, length, std::move(copy));
     }
 
     // Pulls the device once, at this moment in ticks.
@@ -461,7 +481,9 @@ public:
 
 private:
     struct Own {
-        std::uint32_t number;
+        explicit Own(T &&its_value) noexcept : value(std::move(its_value)) {}
+
+        std::uint32_t number = 0;
         T value;
     };
 

@@ -165,7 +165,10 @@ public:
             senders_.push_back({it.sender, room + static_cast<std::size_t>(all[it.queue].capacity) + MOST_BETWEEN, nullptr});
     }
 
-    LiveRouter(LiveRouter &&) noexcept = default;
+    // Moves also what an exception left over of a take.
+    LiveRouter(LiveRouter &&other) noexcept
+        : senders_(std::move(other.senders_)), taken_(other.taken_), told_(std::exchange(other.told_, 0)),
+          filled_(std::exchange(other.filled_, 0)), live_(std::move(other.live_)) {}
 
     // Shuts the router that it had.
     LiveRouter &operator=(LiveRouter &&other) noexcept {
@@ -173,17 +176,19 @@ public:
             shut();
             senders_ = std::move(other.senders_);
             taken_ = other.taken_;
-            told_ = other.told_;
-            filled_ = other.filled_;
+            told_ = std::exchange(other.told_, 0);
+            filled_ = std::exchange(other.filled_, 0);
             live_ = std::move(other.live_);
         }
         return *this;
     }
 
-    // Frees the router, and with it the values of each sender whose inlet is closed. What is called afterwards throws CLK_SHUT.
+    // Frees the router, and with it the values of each sender whose inlet is closed. What is called afterwards throws CLK_SHUT. A take whose
+    // `each` shuts its router hands no more packets, and returns how many it handed.
     void shut() noexcept {
         clk_live_close(live_.c());
         senders_.clear();
+        told_ = filled_ = 0;
     }
 
     bool is_open() const noexcept { return live_.is_open(); }
@@ -214,7 +219,7 @@ public:
     }
 
     // Takes packets in one round over all senders, at most `most_each` from each; otherwise as `take`. If it takes as many as it can, the
-    // round ends early, and the next one starts at the next sender.
+    // round ends early, and the next one starts after the sender of its last packet.
     template <class Each> std::size_t take_in(std::size_t most_each, std::size_t count, Each &&each) {
         return take_by(count, each, [&](clk_taken *taken, std::size_t most, std::size_t *given) {
             return clk_live_take_in(live_.c(), most_each, taken, most, given);

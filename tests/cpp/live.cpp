@@ -167,6 +167,86 @@ static void a_throw_loses_no_value() {
     }
 }
 
+static void a_throw_stops_a_drain() {
+    const NoneLeft none;
+    LiveRouter<Counted> live("a :: Sender(4); q :: Queue(3); d :: ToDevice(link); a -> q -> d;", 3);
+    Inlet<Counted> inlet = live.inlet(4);
+    for (std::uint64_t i = 0; i < 3; i++)
+        offer(inlet, i);
+    CHECK(live.take(4, 3, ignore) == 3);
+    try {
+        live.drain(0, [](const auto &) { throw 7; });
+        CHECK(false);
+    } catch (int) {
+        CHECK(live.left(0) == 2 && live.moment(0) == 1 && Counted::values == 2);
+    }
+    for (unsigned i = 1; i < 3; i++) {
+        const auto it = live.pull(0, 1);
+        CHECK(it && is_packet(it->packet, 4, i, 10) && it->value.is(i));
+    }
+}
+
+// What an exception left over of a take moves with the router.
+static void a_take_left_over_moves() {
+    const NoneLeft none;
+    LiveRouter<Counted> one(ONE, 6);
+    Inlet<Counted> inlet = one.inlet(4);
+    for (std::uint64_t i = 0; i < 6; i++)
+        offer(inlet, i);
+    try {
+        one.take(4, 6, [](const auto &) { throw 7; });
+        CHECK(false);
+    } catch (int) {
+        CHECK(one.left(0) == 2);
+    }
+    std::vector<std::uint64_t> numbers, refused;
+    const auto note = [&](auto it) {
+        numbers.push_back(it.packet.number);
+        if (it.refused)
+            refused.push_back(it.refused->number());
+    };
+    LiveRouter<Counted> other(std::move(one));
+    CHECK(other.take(4, 2, note) == 2);
+    LiveRouter<Counted> third(ONE, 1);
+    third = std::move(other);
+    CHECK(third.take(4, 9, note) == 3 && third.take(4, 9, note) == 0);
+    CHECK((numbers == std::vector<std::uint64_t>{1, 2, 3, 4, 5}) && (refused == std::vector<std::uint64_t>{2, 3, 4, 5}));
+    CHECK(thrown_by([&] { one.take(4, 9, note); }) == CLK_SHUT && thrown_by([&] { other.take(4, 9, note); }) == CLK_SHUT);
+}
+
+// A take goes on only while its router is there: its callback may shut it, move it away or assign another.
+static void a_take_ends_with_its_router() {
+    const NoneLeft none;
+    enum class End { SHUT, MOVED, ASSIGNED_FROM, ASSIGNED_TO };
+    for (const End end : {End::SHUT, End::MOVED, End::ASSIGNED_FROM, End::ASSIGNED_TO}) {
+        LiveRouter<Counted> live(ONE, 4), other(ONE, 4);
+        Inlet<Counted> inlet = live.inlet(4);
+        for (std::uint64_t i = 0; i < 4; i++)
+            offer(inlet, i);
+        inlet.close();
+        std::optional<LiveRouter<Counted>> moved;
+        unsigned handed = 0;
+        const auto leave = [&](const auto &) {
+            handed++;
+            if (end == End::SHUT)
+                live.shut();
+            else if (end == End::MOVED)
+                moved.emplace(std::move(live));
+            else if (end == End::ASSIGNED_FROM)
+                other = std::move(live);
+            else
+                live = std::move(other);
+        };
+        // Packets 2 and 3 are refused.
+        CHECK(live.take(4, 4, leave) == 1 && handed == 1);
+        CHECK(live.is_open() == (end == End::ASSIGNED_TO));
+        if (end == End::MOVED || end == End::ASSIGNED_FROM)
+            CHECK((moved ? *moved : other).take(4, 4, ignore) == 3 && Counted::values == 2);
+        else
+            CHECK(Counted::values == 0);
+    }
+}
+
 // A ring that has room is never found full, however many values are elsewhere: held by a scheduler, in the queue, or still to be told.
 static void only_a_full_ring_is_full() {
     const NoneLeft none;
@@ -275,6 +355,26 @@ static void memory_that_is_refused_leaves_all_as_it_was() {
         refused++;
     }
     CHECK(refused > 6);
+}
+
+// An inlet that couldn't be handed out for want of memory is handed out by the next call.
+static void an_inlet_is_handed_out_after_memory_was_refused() {
+    const NoneLeft none;
+    LiveRouter<Counted> live(ONE, 2);
+    std::optional<Inlet<Counted>> inlet;
+    std::size_t count = 0;
+    for (; !inlet; count++) {
+        try {
+            const Refusing refusing(count);
+            inlet = live.inlet(4);
+        } catch (const std::bad_alloc &) {
+            CHECK(!live.ended());
+        }
+    }
+    CHECK(count > 2);
+    CHECK(thrown_by([&] { (void)live.inlet(4); }) == CLK_HANDED_OUT);
+    offer(*inlet, 5);
+    CHECK(live.take(4, 2, ignore) == 1 && live.pull(0, 0)->value.is(5));
 }
 
 // Declared capacities take no memory of this header's.
@@ -403,6 +503,13 @@ static void a_take_left_over_outlives_the_router() {
     CHECK(thrown_by([&] { live.take(4, 4, ignore); }) == CLK_RECLAIMED);
 }
 
+// Senders, queues and devices are not counted for one another.
+static void a_router_counts_its_devices() {
+    const LiveRouter<int> live("a :: Sender(0); b :: Sender(1); c :: Sender(2); p, q, r :: Queue(1); s :: PrioSched; d, e :: ToDevice(link);"
+                               "a -> p -> s -> d; b -> q -> [1] s; c -> r -> e;", 1);
+    CHECK(live.devices() == 2 && live.accounts().size() == 3 && live.queues().size() == 3);
+}
+
 // Values of other kinds: moved alone, copied, and with an alignment of their own.
 static void any_value_that_moves_travels() {
     struct alignas(128) Wide {
@@ -429,11 +536,15 @@ void test_live() {
     lengths_are_those_of_the_library();
     both_halves_move();
     a_throw_loses_no_value();
+    a_throw_stops_a_drain();
+    a_take_left_over_moves();
+    a_take_ends_with_its_router();
     only_a_full_ring_is_full();
     a_move_that_throws_leaves_the_rest();
     // What ran before has allocated, and is counted unless valgrind has operators of its own.
     if (allocated() != 0) {
         memory_that_is_refused_leaves_all_as_it_was();
+        an_inlet_is_handed_out_after_memory_was_refused();
         memory_grows_with_what_is_inside();
     }
     every_order_of_leaving();
@@ -441,5 +552,6 @@ void test_live() {
     the_router_is_destroyed_first();
     a_router_is_given_up();
     a_take_left_over_outlives_the_router();
+    a_router_counts_its_devices();
     any_value_that_moves_travels();
 }

@@ -84,6 +84,20 @@ static void bursts_go_together() {
     CHECK(router.pull_many(0, 0, packets, 4) == 0);
 }
 
+// An offer for many throws only if it can't say how far it came.
+static void bursts_that_cannot_be_are_thrown() {
+    Router router(ONE);
+    const clk_offer_of offer{4, 10};
+    clk_offered offered;
+    CHECK(thrown_by([&] { (void)router.offer_many(nullptr, 1, &offered); }) == CLK_NULL);
+    CHECK(thrown_by([&] { (void)router.offer_many(&offer, 1, nullptr); }) == CLK_NULL);
+    const auto none = router.offer_many(nullptr, 0, nullptr);
+    CHECK(none.count == 0 && none.status == CLK_OK && router.left(0) == 0);
+    router.shut();
+    CHECK(thrown_by([&] { (void)router.offer_many(&offer, 1, &offered); }) == CLK_SHUT);
+    CHECK(thrown_by([&] { (void)router.offer_many(nullptr, 0, nullptr); }) == CLK_SHUT);
+}
+
 static void a_router_drains() {
     Router router("a :: Sender(0); q :: Queue(9); s :: Shaper(1); d :: ToDevice(link); a -> q -> s -> d;");
     for (int i = 0; i < 5; i++)
@@ -164,6 +178,13 @@ static void a_router_tells_what_there_is() {
     CHECK(clk_devices(router.c()) == 1);
 }
 
+// Senders, queues and devices are not counted for one another.
+static void a_router_counts_its_devices() {
+    const Router router("a :: Sender(0); b :: Sender(1); c :: Sender(2); p, q, r :: Queue(1); s :: PrioSched; d, e :: ToDevice(link);"
+                        "a -> p -> s -> d; b -> q -> [1] s; c -> r -> e;");
+    CHECK(router.devices() == 2 && router.accounts().size() == 3 && router.queues().size() == 3);
+}
+
 void test_router() {
     a_fault_is_thrown();
     a_fault_without_a_place_is_thrown();
@@ -171,9 +192,11 @@ void test_router() {
     packets_are_offered_and_pulled();
     a_full_queue_refuses();
     bursts_go_together();
+    bursts_that_cannot_be_are_thrown();
     a_router_drains();
     a_drain_ends_with_moments();
     what_cannot_be_is_thrown();
     a_router_moves();
     a_router_tells_what_there_is();
+    a_router_counts_its_devices();
 }

@@ -115,6 +115,16 @@ def cases_in_c(setting: Setting) -> str:
     return clean(setting, program, [setting.root / CASES])
 
 
+def at_their_end(compiler: str) -> Callable[[Setting], str]:
+    """An offer of C++ for a sender that has no numbers left, which a function of the test's says in place of the library."""
+
+    def check(setting: Setting) -> str:
+        source = setting.root / "tests" / "cpp" / "alone" / "at_end.cpp"
+        return clean(setting, program_of(setting, compiler, [*CPP, source], f"at-end-{compiler}"))
+
+    return check
+
+
 def values_by_thread_sanitizer(compiler: str) -> Callable[[Setting], str]:
     """The table in which live routers of C++ keep values, without the library, whose exchanges ThreadSanitizer doesn't see."""
 
@@ -193,6 +203,7 @@ CHECKS = [
     *(Check(f"the calls, by {it}", in_c(it)) for it in COMPILERS),
     Check("the table of cases, in C", cases_in_c),
     *(Check(f"{variant}, by {it}", in_cpp(it, variant)) for it in COMPILERS.values() for variant in VARIANTS),
+    *(Check(f"numbers at their end in C++, by {it}", at_their_end(it)) for it in COMPILERS.values()),
     *(Check(f"values on threads, by {it}", values_by_thread_sanitizer(it)) for it in COMPILERS.values()),
     Check("the calls, over the shared library", over_the_shared_library),
     Check("memory that is refused", memory_is_refused),

@@ -226,7 +226,7 @@ class Model:
         return given(taken, count)
 
     def take_in(self, each: int, count: int, only_fitting: bool = False) -> Answer:
-        """Takes packets in one round over the senders. If it fills all places, the next round starts at the next sender."""
+        """Takes packets in one round over the senders. If it fills all places, the next one starts after the last packet's sender."""
         if self.state != OK:
             return [self.state, 0]
         taken: list[Answer] = []
