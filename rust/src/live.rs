@@ -144,7 +144,7 @@ impl<T> LiveRouter<T> {
     }
 
     /// Takes packets in one round over all senders, at most `each` from each, as [`LiveRouter::take`] does. If it takes as many as it may, the
-    /// round ends early, and the next one starts at the next sender: so each sender has its turn.
+    /// round ends early, and the next one starts after the sender of its last packet: so each sender has its turn.
     pub fn take_in(&mut self, each: usize, count: usize) -> Takes<'_, T> {
         self.takes(count, |raw, places| raw.take_in(each, places)).expect("a round over all senders does not fail")
     }
@@ -269,7 +269,7 @@ pub struct LiveDrain<'a, T> {
 }
 
 impl<T> LiveDrain<'_, T> {
-    /// Makes so many pulls at most, from here on.
+    /// Makes so many pulls at most, from here on. A drain that has stopped with [`Stop::Pulls`] goes on.
     pub fn pulls(mut self, pulls: u64) -> Self {
         self.progress.limit(pulls);
         self

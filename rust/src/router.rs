@@ -171,8 +171,10 @@ impl Progress {
         Progress { moment, pulls: u64::MAX, stop: None }
     }
 
+    /// Makes so many pulls at most from here on, also if it stopped because it had made as many as it might.
     pub(crate) fn limit(&mut self, pulls: u64) {
         self.pulls = pulls;
+        self.stop = self.stop.filter(|&it| it != Stop::Pulls);
     }
 
     pub(crate) fn stop(&self) -> Option<Stop> {
@@ -200,8 +202,13 @@ impl Progress {
                 self.pulls -= moment - self.moment;
                 self.moment = moment;
             }
-            None if self.stop.is_none() => self.stop = Some(if is_all { Stop::Empty } else { Stop::Pulls }),
-            None => {}
+            None if self.stop.is_some() => {}
+            None if is_all => self.stop = Some(Stop::Empty),
+            None => {
+                // All pulls that it might make were made, and emitted nothing.
+                self.moment = self.moment.saturating_add(std::mem::take(&mut self.pulls));
+                self.stop = Some(Stop::Pulls);
+            }
         }
         emitted
     }
@@ -219,7 +226,7 @@ pub struct Drain<'a> {
 }
 
 impl Drain<'_> {
-    /// Makes so many pulls at most, from here on.
+    /// Makes so many pulls at most, from here on. A drain that has stopped with [`Stop::Pulls`] goes on.
     pub fn pulls(mut self, pulls: u64) -> Self {
         self.progress.limit(pulls);
         self

@@ -52,3 +52,24 @@ pub(crate) fn opened<T>(status: u32, fault: &Fault, text: &str, opened: impl FnO
         _ => done(status).map(|_| opened()),
     }
 }
+
+#[cfg(test)]
+mod tests {
+    use super::{opened, FAULT, OK};
+    use crate::error::{Error, MEMORY, NAMES};
+    use crate::layout::Fault;
+
+    /// What an opening returns that ended with this fault.
+    fn failed(number: u32) -> Error {
+        opened(FAULT, &Fault { number, offset: 0 }, "", || panic!("nothing was opened")).unwrap_err()
+    }
+
+    #[test]
+    fn a_refused_allocation_is_no_fault_of_the_text() {
+        assert_eq!(failed(MEMORY), Error::OutOfMemory);
+        for (number, name) in NAMES.into_iter().filter(|it| it.0 != MEMORY) {
+            assert!(matches!(failed(number), Error::Text(it) if it.number() == number), "{name}");
+        }
+        assert_eq!(opened(OK, &Fault::default(), "", || 5), Ok(5));
+    }
+}

@@ -5,6 +5,7 @@ import subprocess
 from collections.abc import Callable, Iterable, Iterator
 from pathlib import Path
 
+from making.library import VERSION, version_numbers
 from of_library.checks import Check, Failed, Setting, compare, need, run
 from of_library.compiled import WARNINGS
 from of_library.declared import header_of
@@ -122,6 +123,42 @@ def run_program(setting: Setting, program: str) -> str:
     return cargo(setting, "run", "--offline", "-q", folder=folder, more={"RUSTFLAGS": "-D warnings"})
 
 
+PKG_CONFIG = """libdir={folder}
+
+Name: clickpull
+Description: a library of this version
+Version: {version}
+Libs: -L${{libdir}} -lclickpull
+"""
+
+
+def refusal(setting: Setting, version: str) -> str | None:
+    """Why the crate isn't built where pkg-config knows a library of this version, or None if it is built."""
+    folder = setting.made / f"pkg-config-{version}"
+    folder.mkdir()
+    (folder / "clickpull.pc").write_text(PKG_CONFIG.format(folder=setting.installed.parent, version=version))
+    known = {"PKG_CONFIG_PATH": str(folder), "CARGO_TARGET_DIR": str(setting.made / "cargo-of-pkg-config")}
+    try:
+        run(["env", "-u", "CLICKPULL_LIB_DIR", "cargo", "build", "--offline", "--locked"], known, setting.root / CRATE)
+    except Failed as it:
+        return str(it)
+    return None
+
+
+def another_version_is_refused(setting: Setting) -> str:
+    """By pkg-config the crate takes a library of its own major and minor version, and else says which one it needs and which is there."""
+    need("cargo", "pkg-config")
+    major, minor, patch = version_numbers()
+    for version in (VERSION, f"{major}.{minor}.{patch + 1}"):
+        compare(f"why Rust refuses {version}", refusal(setting, version), None)
+    others = [f"{major}.{minor + 1}.0", f"{major}.{minor}0.0", f"{major + 1}.{minor}.0", "0.0.9"]
+    for version in others:
+        why = refusal(setting, version) or "it is built"
+        if f"clickpull {major}.{minor}, which the crate needs" not in why or f"has version '{version}'" not in why:
+            raise Failed(f"Rust and the library's version {version}: {why}")
+    return f"{len(others)} refused"
+
+
 def checks(seed: int) -> list[Check]:
     """The checks, with random calls of this seed."""
     return [
@@ -129,4 +166,5 @@ def checks(seed: int) -> list[Check]:
         Check("Rust's tests", tests_pass(seed)),
         Check("Rust without a warning", brings_no_warning),
         Check("Rust's examples", examples_are_right),
+        Check("Rust and another version", another_version_is_refused),
     ]
