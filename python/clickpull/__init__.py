@@ -21,8 +21,8 @@ call raises `Shut`. Calls of several steps let other threads in between: iterato
 threads that share a `Router` need a lock of their own.
 
 An interrupt, as by Ctrl-C, may come at any point of a call, and later calls work. `Carrier` and `Dispatcher` say what happens to
-the packet; the accounts of a `Router` tell. A signal handler must call no `Carrier` or `Dispatcher` that the interrupted code may be
-calling.
+the packet; the accounts of a `Router` tell. A signal handler or a finalizer (`__del__`, a callback of `weakref`) must call no `Carrier`,
+`Dispatcher` or `Record` that the interrupted code may be calling: a call within a call may give values to other packets.
 """
 # The version of the library; tests/pages compares the two. Packages read it here, and so does what is imported below.
 __version__ = "0.1.0"

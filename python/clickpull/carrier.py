@@ -62,7 +62,8 @@ class Carrier(Generic[T]):
       pull. If the interrupt came after the value was taken out, while the call returned, the caller loses the packet and its value.
     - `close`: calling it again shuts the router.
 
-    No value is given twice.
+    No value is given twice. A signal handler or a finalizer (`__del__`, a callback of `weakref`) must call no carrier that the interrupted
+    code may be calling: a call within a call may give values to other packets.
     """
 
     # Values are found by sender and number. A value is stored before its packet is offered, and the library writes what it did into
@@ -72,7 +73,8 @@ class Carrier(Generic[T]):
     #   stands under this number, and the next offer's value takes its place.
     # - A packet that the latest pull of a device emitted was given to the caller if its value isn't here any more.
     #
-    # The lock keeps other threads out. A thread may take it again, so that an interrupt can't block the thread that it comes to.
+    # The lock keeps other threads out. A thread may take it again, so that an interrupt can't block the thread that it comes to. So calls of
+    # one thread may nest, and no flag refuses them: an interrupt before the flag is cleared would have later calls refused.
 
     def __init__(self, text: str | bytes) -> None:
         """Opens a router from a text. Raises `TextFault` if the text has a fault, and `MemoryError`."""

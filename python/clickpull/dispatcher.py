@@ -65,8 +65,9 @@ class Dispatcher(Generic[T]):
       (On Python 3.10 a loop may lose the job that it was about to yield.)
     - `close`: calling it again closes the dispatcher.
 
-    Cancelling a task that waits in `next_async` loses no job either. A signal handler must call no dispatcher that the interrupted code may
-    be calling.
+    Cancelling a task that waits in `next_async` loses no job either. A signal handler or a finalizer (`__del__`, a callback of `weakref`)
+    must call no dispatcher that the interrupted code may be calling: a call within a call may leave a taker asleep. A `queue.SimpleQueue`
+    takes what they have, and a thread of yours submits it.
 
     A dispatcher with a `record` of its own adds a line for each job that is submitted, a refused one too, and for each pull that it makes, in
     the order of the router's calls. `clickpull script` repeats these calls, and so shows why a job came late. No interrupt leaves a call without

@@ -37,7 +37,7 @@ class Record:
     A copy by `copy` or `pickle` is a record of its own, with the text and the number of lines that there were.
 
     Threads may share a record. A call that raises has added nothing. One that an interrupt ended has added all of its lines or none, as
-    `lines` tells.
+    `lines` tells. A signal handler or a finalizer must call no record that the interrupted code may be calling.
     """
 
     # The library writes the bytes and both counts in one call, so that no interrupt comes in between. The lock is needed where the text grows.

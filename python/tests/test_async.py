@@ -17,6 +17,7 @@ from clocks import ManualClock
 ONE = "a :: Sender(0); q :: Queue(100000); d :: ToDevice(x); a -> q -> d;"
 SHAPED = "a :: Sender(0); q :: Queue(9); s :: Shaper(1); d :: ToDevice(x); a -> q -> s -> d;"
 LONG = "a :: Sender(0); q :: Queue(9); s :: DRRSched(10); d :: ToDevice(x); a -> q -> s -> d;"
+TWO = "a :: Sender(0); b :: Sender(1); p, q :: Queue(9); c, d :: ToDevice(x); a -> p -> c; b -> q -> d;"
 
 # How many seconds a test waits before it says that a task sleeps through a job.
 PATIENCE = 60
@@ -36,6 +37,32 @@ def test_a_job_comes_while_a_task_waits() -> None:
         assert clock.waits == [None]
         with pytest.raises(UnknownDevice):
             await dispatcher.next_async(1)
+
+    run(test())
+
+
+def test_a_task_waits_for_another_device() -> None:
+    async def test() -> None:
+        clock = ManualClock()
+        dispatcher = Dispatcher[str](TWO, clock=clock)
+        clock.meanwhile.append(lambda: dispatcher.submit(1, "job"))
+        assert await dispatcher.next_async(1) == Job(1, 0, 1, "job")
+        clock.meanwhile.append(dispatcher.close)
+        with pytest.raises(Ended):
+            await dispatcher.next_async(1)
+        assert clock.waits == [None, None]
+
+    run(test())
+
+
+def test_a_task_takes_the_jobs_of_another_device() -> None:
+    async def test() -> None:
+        dispatcher = Dispatcher[str](TWO, clock=ManualClock())
+        for sender, value in [(0, "other"), (1, "first"), (1, "second")]:
+            dispatcher.submit(sender, value)
+        dispatcher.close()
+        assert [it.value async for it in dispatcher.jobs_async(1)] == ["first", "second"]
+        assert dispatcher.left(0) == 1 and dispatcher.left(1) == 0
 
     run(test())
 
@@ -196,19 +223,20 @@ class VirtualClock(Clock):
 
 
 class Crowd:
-    """Tasks that take from one dispatcher, and come and go. Whenever all are quiet, one of them watches for the next job."""
+    """Tasks that take from a device of one dispatcher, and come and go. Whenever all are quiet, one of them watches for the next job."""
 
-    def __init__(self, tree: str, chance: random.Random) -> None:
-        self.chance, self.clock = chance, VirtualClock()
+    def __init__(self, tree: str, device: int, chance: random.Random) -> None:
+        self.device, self.chance, self.clock = device, chance, VirtualClock()
         self.dispatcher = Dispatcher[int](tree, tick=1, clock=self.clock)
-        self.senders = [it.sender for it in self.dispatcher.router.accounts()]
+        queues = self.dispatcher.router.queues()
+        self.senders = [it.sender for it in self.dispatcher.router.accounts() if queues[it.queue].device == device]
         self.tasks: list[asyncio.Task[None]] = []
         self.given: list[int] = []
         self.accepted = 0
 
     async def take(self) -> None:
         with suppress(Ended):
-            self.given.append((await self.dispatcher.next_async()).value)
+            self.given.append((await self.dispatcher.next_async(self.device)).value)
 
     def act(self) -> None:
         """Does something by chance."""
@@ -227,18 +255,18 @@ class Crowd:
         for _ in range(20 + 8 * len(self.tasks)):
             await asyncio.sleep(0)
         self.tasks = [it for it in self.tasks if not it.done()]
-        due = self.dispatcher.router.due()
+        due = self.dispatcher.router.due(self.device)
         if due is not None and self.tasks:
             assert min(self.clock.sleepers.values(), default=None) == due * SECOND > self.clock.time
-        assert sum(map(len, self.dispatcher._lines[0].values())) == len(self.tasks)
+        assert sum(map(len, self.dispatcher._lines[self.device].values())) == len(self.tasks)
 
     async def end(self) -> None:
         """Closes the dispatcher while more tasks wait than jobs are left. Each job is given once, and all tasks end."""
-        self.tasks += [asyncio.create_task(self.take()) for _ in range(self.dispatcher.left() + 3)]
+        self.tasks += [asyncio.create_task(self.take()) for _ in range(self.dispatcher.left(self.device) + 3)]
         await self.settle()
         self.dispatcher.close()
         await self.settle()
-        while self.dispatcher.left():
+        while self.dispatcher.left(self.device):
             self.clock.pass_time(SECOND)
             await self.settle()
         assert not self.tasks and sorted(self.given) == list(range(self.accepted))
@@ -248,14 +276,18 @@ SEVERAL = """a :: Sender(0); b :: Sender(1); c :: Sender(2); p, q, r :: Queue(10
 d :: ToDevice(x); a -> p -> s -> top -> d; b -> q -> [1] top; c -> r -> t -> [2] top;"""
 
 
-@pytest.mark.parametrize("tree", [SHAPED.replace("9", "1000"), SEVERAL])
-def test_somebody_always_watches(tree: str) -> None:
+# Before it another device is declared, so that its own device is 1.
+OTHER = "z :: Sender(9); o :: Queue(9); e :: ToDevice(y); z -> o -> e; "
+
+
+@pytest.mark.parametrize("tree, device", [(SHAPED.replace("9", "1000"), 0), (SEVERAL, 0), (OTHER + SEVERAL, 1)], ids=["shaped", "several", "two"])
+def test_somebody_always_watches(tree: str, device: int) -> None:
     """Tasks come, go, and are cancelled. Whenever all are quiet, no job is due, and one sleeps just until the next job is."""
 
     async def test() -> None:
         for seed in range(30):
             chance = random.Random(seed)
-            crowd = Crowd(tree, chance)
+            crowd = Crowd(tree, device, chance)
             for _ in range(60):
                 for _ in range(chance.choice([1, 1, 2, 5])):
                     crowd.act()

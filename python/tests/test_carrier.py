@@ -24,6 +24,17 @@ def test_values_come_out_in_order() -> None:
         assert carrier.pull(4) is None
 
 
+def test_each_device_has_packets_of_its_own() -> None:
+    """Sender 1 is of device 0, and sender 0 of device 1."""
+    with Carrier[str](TWO) as carrier:
+        carrier.offer(1, 10, "first of 0")
+        carrier.offer(0, 20, "first of 1")
+        assert [(it.value, it.moment) for it in carrier.pulls(5, 1)] == [("first of 1", 5)]
+        carrier.offer(0, 30, "second of 1")
+        assert [(it.value, it.moment) for it in carrier.drain(1)] == [("second of 1", 6)]
+        assert [(it.value, it.moment) for it in carrier.drain()] == [("first of 0", 1)]
+
+
 def test_a_refused_value_is_not_kept() -> None:
     with Carrier[str]("a :: Sender(0); q :: Queue(1); d :: ToDevice(link); a -> q -> d;") as carrier:
         carrier.offer(0, 10, "first")

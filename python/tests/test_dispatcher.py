@@ -101,6 +101,14 @@ def test_a_job_comes_while_one_waits() -> None:
     assert clock.waits == [None]
 
 
+def test_a_job_of_another_device_comes_while_one_waits() -> None:
+    clock = ManualClock()
+    dispatcher = Dispatcher[str](TWO, clock=clock)
+    clock.meanwhile.append(lambda: dispatcher.submit(1, "job"))
+    assert dispatcher.next(device=1).value == "job"
+    assert clock.waits == [None]
+
+
 def test_it_sleeps_until_a_shaper_lets_one_pass() -> None:
     clock = ManualClock()
     clock.time = 12345
@@ -172,6 +180,15 @@ def test_closing_ends_a_wait() -> None:
     with pytest.raises(Ended):
         dispatcher.next()
     assert list(dispatcher) == []
+
+
+def test_closing_ends_a_wait_for_another_device() -> None:
+    clock = ManualClock()
+    dispatcher = Dispatcher[int](TWO, clock=clock)
+    clock.meanwhile.append(dispatcher.close)
+    with pytest.raises(Ended):
+        dispatcher.next(device=1)
+    assert clock.waits == [None] and list(dispatcher.jobs(1)) == []
 
 
 @pytest.mark.parametrize("tick", [1e-9, 1e-6, 1e-3])

@@ -30,10 +30,13 @@ from clickpull import (
     UnknownDevice,
     UnknownSender,
 )
-from clickpull.library import LIBRARY, RouterHandle
+from clickpull.library import FAULT, LIBRARY, RouterHandle
 
 ONE = "a :: Sender(4); q :: FrontDropQueue(2); d :: ToDevice(link); a -> q -> d;"
 SHAPED = "a :: Sender(0); q :: Queue(9); s :: Shaper(1); d :: ToDevice(link); a -> q -> s -> d;"
+# It has 3 senders, 3 queues and 2 devices.
+THREE = """a :: Sender(0); b :: Sender(1); e :: Sender(2); p, q, r :: Queue(1); s :: PrioSched; c, d :: ToDevice(link);
+a -> p -> c; b -> q -> s -> d; e -> r -> [1] s;"""
 
 
 def test_a_fault_says_where() -> None:
@@ -127,6 +130,17 @@ def test_pulls_go_up_to_none() -> None:
         router.offer_many([(4, 10), (4, 11)])
         assert [it.length for it in router.pulls(3)] == [10, 11]
         assert list(router.pulls(3)) == []
+
+
+def test_each_device_has_packets_of_its_own() -> None:
+    with Router(THREE) as router:
+        assert router.devices == 2 and len(router.queues()) == len(router.accounts()) == 3
+        router.offer_many([(0, 10), (1, 20), (2, 30)])
+        assert list(router.pulls(4, 1)) == [Packet(1, 0, 20), Packet(2, 0, 30)]
+        assert (router.moment(0), router.moment(1), router.left(0), router.left(1)) == (0, 4, 1, 0)
+        router.offer(1, 21)
+        assert list(router.drain(1)) == [Departure(5, Packet(1, 1, 21))]
+        assert router.pull_many(7, 9) == [Packet(0, 0, 10)]
 
 
 def test_what_is_not_asked_for_stays() -> None:
@@ -327,6 +341,22 @@ def test_an_interrupted_opening_closes_its_router(shut: list[RouterHandle], monk
         except KeyboardInterrupt:
             pass
         assert len(shut) == opened and all(it.at for it in shut)
+
+
+@pytest.mark.parametrize("kind", [Router, Carrier[int], Dispatcher[int]])
+def test_a_refused_allocation_raises_memory_error(
+    kind: Callable[[str], object], shut: list[RouterHandle], monkeypatch: pytest.MonkeyPatch
+) -> None:
+    """The library says so by a fault that isn't one of the text."""
+
+    def refuse(_text: Any, _length: int, _router: Any, fault: Any) -> int:
+        fault._obj.number = 1
+        return FAULT
+
+    monkeypatch.setattr(LIBRARY, "clk_router_open", refuse)
+    with pytest.raises(MemoryError):
+        kind(ONE)
+    assert shut == []
 
 
 def test_a_fault_leaves_nothing_to_close(shut: list[RouterHandle]) -> None:

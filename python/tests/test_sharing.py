@@ -6,11 +6,13 @@ from concurrent.futures import Future, ThreadPoolExecutor
 from contextlib import contextmanager, suppress
 from functools import partial
 from queue import Empty, SimpleQueue
+from threading import Lock
+from time import sleep
 
 import pytest
 
 import interrupts
-from clickpull import Dispatcher, Ended, Job, Record
+from clickpull import Clock, Dispatcher, Ended, Job, Record
 from clocks import ManualClock
 from replay import emitted
 
@@ -21,6 +23,7 @@ SHARED = """a :: Sender(0); b :: Sender(1); c :: Sender(2); e :: Sender(3); p ::
 a -> p -> s -> d; b -> p; c -> q -> [1] s; e -> q;"""
 SHAPED = "a :: Sender(0); q :: Queue(1000); s :: Shaper(1); d :: ToDevice(x); a -> q -> s -> d;"
 ONE = "a :: Sender(0); q :: Queue(100000); d :: ToDevice(x); a -> q -> d;"
+SECOND_OF_TWO = "a :: Sender(0); b :: Sender(1); p, q :: Queue(9); c, d :: ToDevice(x); b -> p -> c; a -> q -> d;"
 
 # How many seconds a test waits for threads before it says that one sleeps through a job.
 PATIENCE = 60
@@ -130,22 +133,37 @@ def test_who_is_interrupted_while_it_waits_leaves_the_line() -> None:
     assert not dispatcher._lines[0]
 
 
-def test_who_gives_up_wakes_the_next() -> None:
+class GivingUp(Clock):
+    """The first wait that is woken ends with an interrupt."""
+
+    has_ended = False
+
+    def wait(self, woken: Lock, nanoseconds: int | None) -> None:
+        super().wait(woken, nanoseconds)
+        if not self.has_ended:
+            self.has_ended = True
+            raise KeyboardInterrupt
+
+
+@pytest.mark.parametrize("tree, device", [(ONE, 0), (SECOND_OF_TWO, 1)], ids=["one", "two"])
+def test_who_gives_up_wakes_the_next(tree: str, device: int) -> None:
     """The first in line is woken for a job, and its wait ends with an error. So the second in line is woken."""
-    clock = ManualClock()
-    dispatcher = Dispatcher[str](ONE, clock=clock)
+    dispatcher = Dispatcher[str](tree, clock=GivingUp())
 
-    def fail() -> None:
+    def waiting(count: int) -> Future[Job[str]]:
+        """Has a thread wait, after which so many stand in line."""
+        future = pool.submit(dispatcher.next, None, device)
+        while sum(map(len, dispatcher._lines[device].values())) < count:
+            sleep(0.001)
+        return future
+
+    # Closing lets those go that still sleep if the test fails.
+    with ThreadPoolExecutor(2) as pool, dispatcher:
+        first, second = waiting(1), waiting(2)
         dispatcher.submit(0, "job")
-        raise KeyboardInterrupt
-
-    def first() -> None:
-        """Runs while the second one waits."""
         with pytest.raises(KeyboardInterrupt):
-            dispatcher.next()
-
-    clock.meanwhile.extend([first, fail])
-    assert dispatcher.next().value == "job" and clock.waits == [None, None]
+            first.result(PATIENCE)
+        assert second.result(PATIENCE).value == "job"
 
 
 def test_an_interrupted_submit_wakes_a_taker() -> None:
