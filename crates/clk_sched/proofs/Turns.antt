@@ -8,7 +8,6 @@ pub mod TurnShaper
 pub mod ShaperRow
 pub mod LooksDrr
 pub mod TurnDrr
-pub mod FirstLook
 pub mod PastIdle
 pub mod RestDrr
 pub mod Resting

@@ -9,7 +9,6 @@ pub mod Kept
 pub mod LaidOut
 pub mod Logged
 pub mod Looking
-pub mod LookingFirst
 pub mod Making
 pub mod Marks
 pub mod Places

@@ -1,7 +1,7 @@
 -- A node's own state, in its place before its turn and after it.
 use Rattle.std.proofs.lemmas.Bool.Decides.{nat_tests}
 use Rattle.std.proofs.lemmas.Grind.{common_steps, elements}
-use Rattle.std.proofs.Common.{◌≡◌, ◌≢◌, ◌⊎◌, ℕ, zero, suc, ◌+◌, ◌<◌, ◌≤◌, nat_eq, Bool, true, false, List, [], ◌∷◌, length, drop, slice_get, slice_set, Option, Some, None, MatchOption, IfSome, inl, refl, sym, ap, ap₂, ◌∙◌, subst, arith, rules}
+use Rattle.std.proofs.Common.{◌≡◌, ◌≢◌, ◌⊎◌, ℕ, suc, ◌+◌, ◌<◌, ◌≤◌, nat_eq, Bool, true, false, List, length, drop, slice_get, slice_set, Option, Some, None, MatchOption, IfSome, inl, refl, sym, ap, ap₂, ◌∙◌, subst, arith, rules}
 use Rattle.std.proofs.lemmas.Option.{slice_get_within}
 use Rattle.std.proofs.lemmas.List.{length-set}
 use Rattle.std.proofs.lemmas.Bool.{false≢true}
@@ -10,9 +10,8 @@ use Rattle.clk_packet.specs.declared.packet.Packet.{Packet}
 use Rattle.clk_sched.specs.declared.visit.Visit.{Visit}
 use Rattle.clk_sched.specs.declared.session.inputs.Inputs.{Inputs}
 use Rattle.clk_sched.specs.declared.session.state.State.{State}
-use Rattle.clk_sched.specs.declared.session.state.State.TheVariants.{Prio, Drr, Stride, Shaper}
+use Rattle.clk_sched.specs.declared.session.state.State.TheVariants.{Prio, Stride, Shaper}
 use Rattle.clk_sched.specs.declared.session.shaper.Bucket.{Bucket}
-use Rattle.clk_sched.specs.declared.session.drr.Deficits.{Deficits}
 use Rattle.clk_sched.specs.declared.session.stride.Passes.{Passes}
 use Rattle.clk_sched.specs.declared.session.nodes.Nodes.{Nodes}
 use Rattle.clk_packet.specs.Scheduler.{Scheduler}
@@ -20,7 +19,7 @@ use Rattle.clk_sched.specs.Tree.{Row, nodes, width}
 use Rattle.clk_sched.specs.inside.Holds.OfClass.{Fits, Holds}
 use Rattle.clk_sched.specs.inside.Holds.Shaper.{AreBefore}
 use Rattle.clk_sched.specs.inside.Places.{StandsIn, AllFit, edges_of}
-use Rattle.clk_sched.specs.inside.Pulling.{Now, Pulls, History, NodeHolds, CanPull, Keeps, EachHolds, IsBlock, IsPulling, IsReady, AsksAll, added, asked_in_order, now_of, after, TakesTurn, TurnIsTaken}
+use Rattle.clk_sched.specs.inside.Pulling.{Now, Pulls, History, NodeHolds, CanPull, Keeps, EachHolds, IsBlock, IsPulling, IsReady, added, now_of, after, TakesTurn, TurnIsTaken}
 use Rattle.clk_sched.specs.inside.Turning.{with_state, HadTurn, HasAskedAll, WasPulled}
 use Rattle.clk_sched.proofs.Nodes.Below.{holds-same}
 use Rattle.clk_sched.proofs.Lists.Numbers.{equal}
@@ -33,12 +32,6 @@ set-other xs i j x d = grind (arith, common_steps, elements, nat_tests)
 
 pub set-ahead : {X : Type 0} (xs : List X) (i j : ℕ) (x : X) → j < i → slice_get (slice_set xs i x) j ≡ slice_get xs j
 set-ahead xs i j x l = set-other xs i j x (λ e. omega (arith, e, l))
-
--- what is written over
-pub set-over : {X : Type 0} (xs : List X) (i : ℕ) (x y : X) → slice_set (slice_set xs i x) i y ≡ slice_set xs i y
-set-over [] i x y = refl
-set-over (z ∷ xs) zero x y = refl
-set-over (z ∷ xs) (suc i) x y = ap (λ l. z ∷ l) (set-over xs i x y)
 
 -- nodes of which one holds another state than before, and nothing else changed
 pub record IsPutIn (a b : Nodes) (x : ℕ) (s : State) : Type 0 where
@@ -124,14 +117,6 @@ passes_or b s = b
 pub passes-same : (b c : Box Passes) → Stride b ≡ Stride c → b ≡ c
 passes-same b c e = ap (passes_or b) e
 
--- so are the deficits of a DRRSched
-abbrev deficits_or : Box Deficits → State → Box Deficits
-deficits_or b (Drr c) = c
-deficits_or b s = b
-
-pub deficits-same : (b c : Box Deficits) → Drr b ≡ Drr c → b ≡ c
-deficits-same b c e = ap (deficits_or b) e
-
 -- one state of a table may be another that fits
 pub fit-set : (table : List Inputs) (states : List State) (x : ℕ) (s : State) → AllFit table states → ((p : Inputs) → slice_get table x ≡ Some p → Fits s (length p.each.items)) → AllFit table (slice_set states x s)
 fit-set table states x s fit here = search (rules, length-set, slice_get_within, some-same, set-here, set-other, false≢true, equal)
@@ -193,50 +178,42 @@ pulling-placed now history x row states more visits own same p =
     }
 
 -- Inputs are asked alike whatever stands in the node's place.
-module _ (a b : Nodes) (x : ℕ) (s : State) (there : x < length a.inputs.items) (fit : AllFit a.inputs.items a.states.items) where
-  first : x < length a.states.items
-  first = subst (λ n. x < n) (sym fit.lengths) there
-
-  later : AllFit a.inputs.items b.states.items → x < length b.states.items
-  later k = subst (λ n. x < n) (sym k.lengths) there
-
-  pub keeps-placed : (m : ℕ) → ((p : Inputs) → slice_get a.inputs.items x ≡ Some p → Fits s (length p.each.items)) → Keeps (suc x) a b m → Keeps (suc x) (with_state a x s) (with_state b x s) m
-  keeps-placed m fits k =
-      record {
-        inputs = k.inputs;
-        pull = k.pull;
-        moment = k.moment;
-        fit = fit-set a.inputs.items b.states.items x s k.fit fits;
-        ahead = λ y l. set-both a.states.items b.states.items x y s first (later k.fit) (λ d. k.ahead y l);
-        kind = k.kind;
-        grown = k.grown;
-        at_most = k.at_most;
-      }
-
-  pub asks-placed : (order : List ℕ) (own : List Visit) → AllFit a.inputs.items b.states.items → AsksAll a b x order own → AsksAll (with_state a x s) (with_state b x s) x order own
-  asks-placed order more fits asks row history visits own going unasked apart =
-      let went =
-      asks row history visits own
-      (record {
-        stands = going.stands;
-        before = going.before;
-        pulling = pulling-placed (now_of a) history x row (slice_set a.states.items x s) a.states.items visits own (λ y d. sym (set-other a.states.items x y s d)) going.pulling;
-      })
-      unasked apart
-      in
-      record {
-        pulling = pulling-placed (now_of a) history x row b.states.items (slice_set b.states.items x s) _ _ (λ y d. set-other b.states.items x y s d) went.pulling;
-        outside = λ y l. set-both a.states.items b.states.items x y s first (later fits) (λ d. went.outside y l);
-      }
-
 pub asked-placed : {S : Type 0} (gives : S → ℕ → Option Packet → S → Type 0) (a b : Nodes) (q r : S) (x : ℕ) (order : List ℕ) (o : Option (ℕ × Packet)) (s : State) → x < length a.inputs.items → AllFit a.inputs.items a.states.items
     → ((p : Inputs) → slice_get a.inputs.items x ≡ Some p → Fits s (length p.each.items)) → HasAskedAll gives a b q r x order o → HasAskedAll gives (with_state a x s) (with_state b x s) q r x order o
 asked-placed gives a b q r x order o s there fit fits h =
     record {
-      keeps = keeps-placed a b x s there fit _ fits h.keeps;
+      keeps = record {
+        inputs = h.keeps.inputs;
+        pull = h.keeps.pull;
+        moment = h.keeps.moment;
+        fit = fit-set a.inputs.items b.states.items x s h.keeps.fit fits;
+        ahead = λ y l. set-both a.states.items b.states.items x y s first later (λ d. h.keeps.ahead y l);
+        kind = h.keeps.kind;
+        grown = h.keeps.grown;
+        at_most = h.keeps.at_most;
+      };
       answers = h.answers;
-      asks = asks-placed a b x s there fit order (asked_in_order (now_of a) x order o) h.keeps.fit h.asks;
+      asks = λ row history visits own going unasked apart.
+          let went =
+          h.asks row history visits own
+          (record {
+            stands = going.stands;
+            before = going.before;
+            pulling = pulling-placed (now_of a) history x row (slice_set a.states.items x s) a.states.items visits own (λ y d. sym (set-other a.states.items x y s d)) going.pulling;
+          })
+          unasked apart
+          in
+          record {
+            pulling = pulling-placed (now_of a) history x row b.states.items (slice_set b.states.items x s) _ _ (λ y d. set-other b.states.items x y s d) went.pulling;
+            outside = λ y l. set-both a.states.items b.states.items x y s first later (λ d. went.outside y l);
+          };
     }
+  where
+    first : x < length a.states.items
+    first = subst (λ n. x < n) (sym fit.lengths) there
+
+    later : x < length b.states.items
+    later = subst (λ n. x < n) (sym h.keeps.fit.lengths) there
 
 -- A node whose state was taken out can have its turn.
 pub can-turn : (a t : Nodes) (x : ℕ) (s : State) → t ≡ with_state a x Prio → slice_get a.states.items x ≡ Some s → CanPull a x (edges_of a.inputs.items x)

@@ -1,7 +1,7 @@
 -- A DRRSched moves on past inputs that hold no head and give nothing: as if it went by each of them.
 use Rattle.std.proofs.lemmas.Bool.Decides.{nat_tests}
 use Rattle.std.proofs.lemmas.Grind.{common_steps, elements}
-use Rattle.std.proofs.Common.{◌≡◌, ◌≢◌, ℕ, zero, suc, ◌+◌, ◌%◌, ◌<◌, ◌≤◌, ◌==◌, if◌then◌else◌, true, false, List, length, slice_get, slice_set, Option, Some, None, unwrap_or, refl, sym, ap, ◌∙◌, subst, mod-lt, arith, rules}
+use Rattle.std.proofs.Common.{◌≡◌, ◌≢◌, ℕ, zero, suc, ◌+◌, ◌%◌, ◌<◌, ◌≤◌, ◌==◌, if◌then◌else◌, true, false, List, [], ◌∷◌, length, slice_get, slice_set, Option, Some, None, unwrap_or, refl, sym, ap, ◌∙◌, subst, mod-lt, arith, rules}
 use Rattle.std.proofs.lemmas.List.{length-set}
 use Rattle.std.proofs.Math.Nat.{mod-eq_of_lt}
 use Rattle.std.specs.Vec.{with_items}
@@ -20,12 +20,16 @@ use Rattle.clk_sched.specs.inside.Places.{edges_at}
 use Rattle.clk_sched.specs.inside.Turning.{IsIdle, with_idle_at}
 use Rattle.clk_sched.proofs.Classes.Deficits.{KeepsLimits, each-written, read-some, read-same, read-other, limits-moved, deficits-moved-on}
 use Rattle.clk_sched.proofs.Nodes.Idle.{idle-none, idle-next}
-use Rattle.clk_sched.proofs.Nodes.Placed.{set-over}
 use Rattle.clk_sched.proofs.Turns.LooksDrr.{idle-edge, looks-at-idle}
 use Rattle.clk_sched.proofs.Turns.TurnDrr.{going-can, goes-none, goes-next}
 use Rattle.clk_sched.proofs.Lists.Written.{items-written}
 
--- what is written as it was
+-- what is written over, and what is written as it was
+written-over : (row : List Served) (i : ℕ) (x y : Served) → slice_set (slice_set row i x) i y ≡ slice_set row i y
+written-over [] i x y = refl
+written-over (r ∷ row) zero x y = refl
+written-over (r ∷ row) (suc i) x y = ap (λ xs. r ∷ xs) (written-over row i x y)
+
 written-same : (row : List Served) (i : ℕ) (s : Served) → slice_get row i ≡ Some s → slice_set row i s ≡ row
 written-same row i s e = grind (arith, common_steps, elements, nat_tests)
 
@@ -162,7 +166,7 @@ next-is d s k e some low none past = (
     head = none k b (omega arith) (subst (λ i. slice_get d.row.items i ≡ Some b) at held)
 
 past-next : (d : Deficits) (s : Served) (k : ℕ) (e : Deficits) (b : Served) → IsNext d s k e b → IsPast d s (k + 1) (passed-over e)
-past-next d s k e b n = grind (arith, common_steps, length-set, read-written, set-over, written-same)
+past-next d s k e b n = grind (arith, common_steps, length-set, read-written, written-over, written-same)
 
 fewer : (d : Deficits) (count k : ℕ) → k ≤ count → HoldsNoneAhead d count → HoldsNoneAhead d k
 fewer d count k l none i s low e = none i s (omega arith) e

@@ -19,10 +19,6 @@ use Rattle.clk_sched.specs.inside.Turning.{IsIdle}
 abbrev pub looking : Nodes → ℕ → ℕ → Option Packet → Bool → Bool → Visit
 looking n x i got fresh passed = record { pull = n.pull; moment = n.moment; got = got; node = x; input = i; fresh = fresh; passed = passed }
 
--- these nodes, with one visit more
-abbrev pub with_look : Nodes → Visit → Nodes
-with_look a v = record { inputs = a.inputs; states = a.states; log = with_visit a.log v; pull = a.pull; moment = a.moment }
-
 -- One visit was logged, and nothing else changed.
 pub record Logs (old new : Nodes) (v : Visit) : Type 0 where
   pub inputs : new.inputs.items ≡ old.inputs.items

@@ -1,6 +1,5 @@
 -- The visits that a DRRSched makes in its turn, as far as it got.
-use Rattle.std.specs.Prelude.{◌≡◌, ◌⊎◌, ℕ, suc, ◌+◌, ◌-◌, ◌<◌, ◌≤◌, false, List, [], ◌∷◌, length, map, Option, IfSome, slice_get}
-use Rattle.std.specs.Global.{Box}
+use Rattle.std.specs.Prelude.{◌≡◌, ◌⊎◌, ℕ, suc, ◌+◌, ◌<◌, ◌≤◌, false, List, [], ◌∷◌, length, map, Option, IfSome, slice_get}
 use Rattle.std.specs.List.{AllByRecursion}
 use Rattle.clk_packet.specs.declared.packet.Packet.{Packet}
 use Rattle.clk_sched.specs.declared.visit.Visit.{Visit}
@@ -14,8 +13,6 @@ use Rattle.clk_sched.specs.Answers.{Answers}
 use Rattle.clk_sched.specs.inside.Holds.Deficit.{HoldsDeficits}
 use Rattle.clk_sched.specs.inside.Places.{edges_of, edges_in, queue_asked}
 use Rattle.clk_sched.specs.inside.Pulling.{AreApart, input_of, CanPull, Keeps, AsksAll, added}
-use Rattle.clk_sched.specs.inside.Turning.{HadTurn}
-use Rattle.clk_sched.specs.declared.session.state.State.TheVariants.{Drr}
 
 -- what follows put onto what came before, which has the latest first
 abbrev pub onto : {X : Type 0} → List X → List X → List X
@@ -72,13 +69,3 @@ pub record MayGoOn {S : Type 0} (gives : S → ℕ → Option Packet → S → T
 abbrev pub GoesOnInVain : {S : Type 0} → (S → ℕ → Option Packet → S → Type 0) → Nodes → Nodes → S → ℕ → Deficits → Deficits → ℕ → Type 0
 GoesOnInVain gives old new q x held holds more =
     (first : Nodes) (before : _) (begun : Deficits) (looks : ℕ) → IsMaking gives first old before q x begun held looks → looks + more ≤ length begun.row.items → IsMaking gives first new before q x begun holds (looks + more)
-
--- A DRRSched made so many visits in its turn, and may go on by one to each of its other inputs.
-abbrev pub MayGoOnAfter : {S : Type 0} → (S → ℕ → Option Packet → S → Type 0) → Nodes → S → ℕ → Deficits → ℕ → Type 0
-MayGoOnAfter gives n q x d looks = (m : MayGoOn gives n q x d (length d.row.items - looks)) × (m.looks ≡ looks)
-
--- A DRRSched that had made so many visits, none of which passed a packet, had its turn, whatever nodes that began with.
-abbrev pub TurnsOn : {S : Type 0} → (S → ℕ → Option Packet → S → Type 0) → Nodes → Nodes → S → S → ℕ → Deficits → Deficits → ℕ → Option Packet → Type 0
-TurnsOn gives old new q now x held_before held_after looks got =
-    (first : Nodes) (before : _) (held holds : Box Deficits) → CanPull first x (edges_of first.inputs.items x) → RowFits first.inputs.items x held.value → IsMaking gives first old before q x held.value held_before looks
-    → holds.value ≡ held_after → HadTurn gives first new before now x (Drr held) (Drr holds) got

@@ -103,11 +103,10 @@ impl Deficits {
     ghost use Rattle.clk_sched.specs.declared.session.drr.Deficits.{Deficits};
     ghost use Rattle.clk_sched.specs.inside.Places.{edges_of, edges_at, input_at};
     ghost use Rattle.clk_sched.specs.inside.Pulling.{CanPull};
-    ghost use Rattle.clk_sched.specs.inside.Turning.{WasPulled};
+    ghost use Rattle.clk_sched.specs.inside.Turning.{WasPulled, HadTurn};
     ghost use Rattle.clk_sched.specs.inside.Holds.OfClass.{IsDrr};
     ghost use Rattle.clk_sched.specs.inside.Looking.{is_covered, looking, HoldsNoneAhead, IsHead, Logs, Settles, LooksAt, AreIdleAhead};
-    ghost use Rattle.clk_sched.specs.inside.LookingFirst.{VisitsAt, LooksFirst, MayLookOn};
-    ghost use Rattle.clk_sched.specs.inside.Making.{MayGoOn, MayGoOnAfter, GoesOnInVain, TurnsOn};
+    ghost use Rattle.clk_sched.specs.inside.Making.{MayGoOn, GoesOnInVain};
     ghost use Rattle.clk_sched.specs.inside.Resting.{IsDrrAtRest};
     ghost use Rattle.clk_sched.specs.declared.session.state.State.TheVariants.{Drr};
 
@@ -182,75 +181,12 @@ impl Deficits {
     }
 
     /// Pulls a DRRSched.
-    // The deficits stand in their place during the first look, so that a pull in which it passes a packet doesn't take them out and put them
-    // back.
     #[cycle(pull)]
     #[inline(never)]
     pub fn pull<Q: Ask>(nodes: &mut Nodes, q: &mut Q, node: u16) -> Got
         requires can_pull { CanPull nodes.old node (edges_of nodes.old.inputs.items node) }
         requires holds { IfSome (slice_get nodes.old.states.items node) IsDrr }
         ensures { WasPulled Q.gives nodes.old nodes.new q.old q.new node result }
-    {
-        let (got, passed) = Deficits::look_first(nodes, q, node);
-        if passed {
-            return Got::new(got);
-        }
-        Deficits::look_on(nodes, q, node)
-    }
-
-    // The first look of a DRRSched in its turn. Returns what it got, and whether it is passed.
-    #[cycle(pull)]
-    #[inline(always)]
-    fn look_first<Q: Ask>(nodes: &mut Nodes, q: &mut Q, node: u16) -> (Option<Packet>, bool)
-        requires can_pull { CanPull nodes.old node (edges_of nodes.old.inputs.items node) }
-        requires holds { IfSome (slice_get nodes.old.states.items node) IsDrr }
-        ensures { (held : Box Deficits) → slice_get nodes.old.states.items node ≡ Some (Drr held) → LooksFirst Q.gives nodes.old nodes.new q.old q.new node held result.0 result.1 }
-    {
-        let (input, head) = Deficits::turn_at(nodes, node);
-        let Some(_) = head else {
-            let got = nodes.ask(q, node, input);
-            return (got, Deficits::visit_at(nodes, node, got, true));
-        };
-        (head, Deficits::visit_at(nodes, node, head, false))
-    }
-
-    // The input whose turn it is, and the head that is held there.
-    #[inline(always)]
-    fn turn_at(nodes: &Nodes, node: u16) -> (u16, Option<Packet>)
-        requires there { node < length nodes.now.states.items }
-        requires holds { IfSome (slice_get nodes.now.states.items node) IsDrr }
-        ensures { (held : Box Deficits) → slice_get nodes.now.states.items node ≡ Some (Drr held) → (result.0 ≡ held.value.cursor) × IsHead held.value result.1 }
-    {
-        let State::Drr(deficits) = &nodes.states[node as usize] else {
-            unreachable!()
-        };
-        (deficits.cursor, deficits.head())
-    }
-
-    // Does what `visit` does, with the deficits in their place.
-    #[inline(always)]
-    fn visit_at(nodes: &mut Nodes, node: u16, got: Option<Packet>, fresh: bool) -> bool
-        requires there { node < length nodes.old.states.items }
-        requires holds { IfSome (slice_get nodes.old.states.items node) IsDrr }
-        requires room { 1 ≤ nodes.old.log.spare }
-        requires held { (held : Box Deficits) → slice_get nodes.old.states.items node ≡ Some (Drr held) → fresh ≡ false → IsHead held.value got }
-        ensures { (held : Box Deficits) → slice_get nodes.old.states.items node ≡ Some (Drr held) → VisitsAt nodes.old nodes.new node held got fresh result }
-    {
-        let State::Drr(deficits) = &mut nodes.states[node as usize] else {
-            unreachable!()
-        };
-        let input = deficits.cursor;
-        let passed = deficits.settle(got, fresh);
-        nodes.record_look(node, input, got, fresh, passed);
-        passed
-    }
-
-    // Goes on with the turn of a DRRSched that made its first look, which passed nothing.
-    #[cycle(pull)]
-    #[inline(never)]
-    fn look_on<Q: Ask>(nodes: &mut Nodes, q: &mut Q, node: u16) -> Got
-        requires { MayLookOn Q.gives nodes.old q.old node }
-        ensures { (m : MayLookOn Q.gives nodes.old q.old node) → WasPulled Q.gives m.first nodes.new m.before q.new node result }
     {
         let State::Drr(mut deficits) = nodes.take(node) else {
             unreachable!()
@@ -260,16 +196,17 @@ impl Deficits {
         Got::new(got)
     }
 
-    // The turn of a DRRSched after its first look, which passed nothing.
+    // The turn of a DRRSched.
     #[cycle(pull)]
     fn turn<Q: Ask>(&mut self, nodes: &mut Nodes, q: &mut Q, node: u16) -> Option<Packet>
-        requires { MayGoOnAfter Q.gives nodes.old q.old node self.old 1 }
-        ensures { TurnsOn Q.gives nodes.old nodes.new q.old q.new node self.old self.new 1 result }
+        requires can_pull { CanPull nodes.old node (edges_of nodes.old.inputs.items node) }
+        requires fits { IfSome (slice_get nodes.old.inputs.items node) (λ p. length self.old.row.items ≡ length p.each.items) }
+        ensures { (held holds : Box Deficits) → held.value ≡ self.old → holds.value ≡ self.new → HadTurn Q.gives nodes.old nodes.new q.old q.new node (Drr held) (Drr holds) result }
     {
         let inputs = self.row.len() as u16;
-        let mut looks = 1;
+        let mut looks = 0;
         // Whether the last look passed nothing. Then the next inputs may well be idle.
-        let mut vain = true;
+        let mut vain = false;
         while looks < inputs {
             let head = self.head();
             match head {
@@ -428,7 +365,15 @@ impl Deficits {
     {
         let input = self.cursor;
         let passed = self.settle(got, fresh);
-        nodes.record_look(node, input, got, fresh, passed);
+        nodes.log.push(Visit {
+            pull: nodes.pull,
+            moment: nodes.moment,
+            got,
+            node,
+            input,
+            fresh,
+            passed,
+        });
         passed
     }
 

@@ -42,7 +42,7 @@ impl Nodes {
     ghost use Rattle.clk_sched.specs.Answers.{Answers};
     ghost use Rattle.clk_sched.specs.inside.Places.{edges_of, edges_at, edges_in, input_at, queue_asked};
     ghost use Rattle.clk_sched.specs.Log.{asking};
-    ghost use Rattle.clk_sched.specs.inside.Looking.{looking, with_look, Logs};
+    ghost use Rattle.clk_sched.specs.inside.Looking.{Logs};
     ghost use Rattle.clk_sched.specs.inside.Pulling.{CanPull, Keeps, Asks, added};
     ghost use Rattle.clk_sched.specs.inside.Ranks.{AreInOrder, inputs_in};
     ghost use Rattle.clk_sched.specs.inside.Turning.{with_state, with_idle_at, HasAsked, HasAskedAll, IsIdle, WasPulled};
@@ -249,30 +249,6 @@ impl Nodes {
     {
         self.log
             .push(Visit::asking(self.pull, self.moment, node, input, got));
-    }
-
-    /// Records a look at an input of a node: what was got, by asking (fresh) or as the head that is held, and whether it is passed.
-    #[inline(always)]
-    pub fn record_look(
-        &mut self,
-        node: u16,
-        input: u16,
-        got: Option<Packet>,
-        fresh: bool,
-        passed: bool,
-    )
-        requires { 1 ≤ self.old.log.spare }
-        ensures { self.new ≡ with_look self.old (looking self.old node input got fresh passed) }
-    {
-        self.log.push(Visit {
-            pull: self.pull,
-            moment: self.moment,
-            got,
-            node,
-            input,
-            fresh,
-            passed,
-        });
     }
 
     /// Records that `count` inputs of a node, from `first` on, were asked and gave nothing.

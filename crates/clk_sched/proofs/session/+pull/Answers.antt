@@ -4,12 +4,13 @@ use Rattle.std.specs.List.{AllByRecursion, range_with_len}
 use Rattle.std.proofs.lemmas.List.{length-drop, length-map}
 use Rattle.std.proofs.lemmas.List.FromFn.{length-range_with_len, get_or-range_with_len}
 use Rattle.clk_packet.specs.declared.packet.Packet.{Packet}
+use Rattle.clk_sched.specs.declared.session.drr.Deficits.{Deficits}
 use Rattle.clk_sched.specs.declared.session.stride.Passes.{Passes}
 use Rattle.clk_sched.specs.declared.session.inputs.Inputs.{Inputs}
 use Rattle.clk_sched.specs.declared.session.nodes.Nodes.{Nodes}
 use Rattle.clk_sched.specs.declared.session.inputs.Input.TheVariants.{Node}
-use Rattle.clk_sched.specs.declared.session.state.State.TheVariants.{RoundRobin, Stride}
-use Rattle.clk_sched.specs.inside.Places.{edges_of, edges_at, edges_in, input_at}
+use Rattle.clk_sched.specs.declared.session.state.State.TheVariants.{RoundRobin, Drr, Stride}
+use Rattle.clk_sched.specs.inside.Places.{edges_of, edges_in, input_at}
 use Rattle.clk_sched.specs.inside.Holds.OfClass.{IsStride, IsShaper}
 use Rattle.clk_sched.specs.inside.Pulling.{CanPull, Asks}
 use Rattle.clk_sched.specs.inside.Ranks.{Ranked, AreInOrder, inputs_in}
@@ -18,7 +19,7 @@ use Rattle.clk_sched.proofs.Nodes.Asking.{IsAsking, asking-first, asked-vain, an
 use Rattle.clk_sched.proofs.Nodes.Asked.{entry, read-input, input-is, child-after, keeps-child, queue-visited, asks-queue, asks-child}
 use Rattle.clk_sched.proofs.Classes.RankLemmas.{after-place, inputs-after, in_order-after}
 use Rattle.clk_sched.proofs.Nodes.Idle.{rest-can, asking-past, turn-can, turn-past}
-use Rattle.clk_sched.proofs.Nodes.Placed.{passes-same, some-same, state-there}
+use Rattle.clk_sched.proofs.Nodes.Placed.{can-turn, kept-there, passes-same, pulled-back, some-same, state-there}
 use Rattle.clk_sched.proofs.Turns.TurnPrio.{prio-asks, prio-pulled}
 use Rattle.clk_sched.proofs.Turns.TurnRoundRobin.{Begins, begins}
 use Rattle.clk_sched.proofs.Turns.RoundRobinAsks as round
@@ -30,10 +31,7 @@ use Rattle.std.proofs.lemmas.Option.{get_or_from_slice_get}
 use Rattle.clk_sched.specs.declared.session.round_robin.Beginning.{Beginning}
 use Rattle.clk_sched.proofs.Nodes.Logged.{queue-answers, asked-logged}
 use Rattle.clk_sched.proofs.Turns.LooksDrr.{looks-at-asked}
-use Rattle.clk_sched.specs.inside.Making.{MayGoOn}
-use Rattle.clk_sched.proofs.Turns.TurnDrr.{looks-below}
-use Rattle.clk_sched.proofs.Turns.FirstLook as drr
-use Rattle.clk_sched.proofs.Turns.FirstLook.{drr-long, drr-some, drr-there, first-can, held-room, asked-room, first-held, first-asked, first-on, first-inputs, first-passed, later-can, later-inputs, later-may, later-next, later-past, later-passed, later-all}
+use Rattle.clk_sched.proofs.Turns.TurnDrr.{looks-below, making-first, making-can, making-next, making-passed, making-all, had-ended}
 use Rattle.clk_sched.proofs.Turns.TurnStride.{stride-in_order}
 use Rattle.clk_sched.proofs.Turns.StrideAsks.{left-after, left-order, turned-won, turned-lost, out-may, out-there, out-pulled, stride-there, first-may, first-some, first-order, first-won, stride-none}
 use Rattle.clk_sched.proofs.Turns.ShaperRow.{below-refused, below-answered, whole-answered, answers-keep, goes-may, goes-room, goes-edges, goes-order, goes-inputs}
@@ -278,142 +276,65 @@ pub drr::Deficits::look_by_asking-returns : goal.drr::Deficits::look_by_asking-r
 drr::Deficits::look_by_asking-returns g t c = search (rules, looks-at-asked)
 
 pub drr::Deficits::turn-loop-looks-init : goal.drr::Deficits::turn-loop-looks-init
-drr::Deficits::turn-loop-looks-init g t c = (λ first before begun h. h, drr-some c.args.self.now c.len-inputs.result c.len-inputs.ensures)
+drr::Deficits::turn-loop-looks-init g t c = search (rules, making-first)
 
 pub drr::Deficits::turn-look_at_head-requires-clause-can_pull : goal.drr::Deficits::turn-look_at_head-requires-clause-can_pull
 drr::Deficits::turn-look_at_head-requires-clause-can_pull g t c =
     let below : c.loop-looks.looks < length c.args.self.now.row.items = looks-below c.args.self.now c.loop-looks.looks c.len-inputs.result c.loop-looks-test.true c.len-inputs.ensures in
-    (later-can g.Q.Ask.gives c.args.nodes.now c.loop-looks.nodes c.args.q.now c.loop-looks.q c.args.node c.args.self.now c.loop-looks.self 1 c.loop-looks.looks c.requires c.loop-looks.invariant.0 below).0
+    (making-can g.Q.Ask.gives c.args.nodes.now c.loop-looks.nodes c.args.q.now c.loop-looks.q c.args.node c.args.self.now c.loop-looks.self c.loop-looks.looks c.requires.can_pull c.requires.fits c.loop-looks.invariant.0 below).0
 
 pub drr::Deficits::turn-look_at_head-requires-clause-within : goal.drr::Deficits::turn-look_at_head-requires-clause-within
 drr::Deficits::turn-look_at_head-requires-clause-within g t c =
     let below : c.loop-looks.looks < length c.args.self.now.row.items = looks-below c.args.self.now c.loop-looks.looks c.len-inputs.result c.loop-looks-test.true c.len-inputs.ensures in
-    (later-can g.Q.Ask.gives c.args.nodes.now c.loop-looks.nodes c.args.q.now c.loop-looks.q c.args.node c.args.self.now c.loop-looks.self 1 c.loop-looks.looks c.requires c.loop-looks.invariant.0 below).1
+    (making-can g.Q.Ask.gives c.args.nodes.now c.loop-looks.nodes c.args.q.now c.loop-looks.q c.args.node c.args.self.now c.loop-looks.self c.loop-looks.looks c.requires.can_pull c.requires.fits c.loop-looks.invariant.0 below).1
 
 pub drr::Deficits::turn-returns-then-look_at_head : goal.drr::Deficits::turn-returns-then-look_at_head
-drr::Deficits::turn-returns-then-look_at_head g t c = search (rules, looks-below, later-passed)
+drr::Deficits::turn-returns-then-look_at_head g t c = search (rules, looks-below, had-ended, making-passed)
 
 pub drr::Deficits::turn-loop-looks-preserved-in-Some : goal.drr::Deficits::turn-loop-looks-preserved-in-Some
-drr::Deficits::turn-loop-looks-preserved-in-Some g t c = search (rules, looks-below, later-next)
+drr::Deficits::turn-loop-looks-preserved-in-Some g t c = search (rules, looks-below, making-next)
 
 pub drr::Deficits::turn-look_by_asking-got-requires : goal.drr::Deficits::turn-look_by_asking-got-requires
 drr::Deficits::turn-look_by_asking-got-requires g t c =
     let below : c.loop-looks.looks < length c.args.self.now.row.items = looks-below c.args.self.now c.loop-looks.looks c.len-inputs.result c.loop-looks-test.true c.len-inputs.ensures in
-    let can = later-can g.Q.Ask.gives c.args.nodes.now c.loop-looks.nodes c.args.q.now c.loop-looks.q c.args.node c.args.self.now c.loop-looks.self 1 c.loop-looks.looks c.requires c.loop-looks.invariant.0 below in
-    let same = ap length (later-inputs g.Q.Ask.gives c.args.nodes.now c.loop-looks.nodes c.args.q.now c.loop-looks.q c.args.node c.args.self.now c.loop-looks.self 1 c.loop-looks.looks c.requires c.loop-looks.invariant.0 below) in
-    λ κs le. (omega (arith, same), (search, (can.0, (can.1, subst (IsHead c.loop-looks.self) c.in-None.is c.head-head.ensures.held))))
+    let can = making-can g.Q.Ask.gives c.args.nodes.now c.loop-looks.nodes c.args.q.now c.loop-looks.q c.args.node c.args.self.now c.loop-looks.self c.loop-looks.looks c.requires.can_pull c.requires.fits c.loop-looks.invariant.0 below in
+    λ κs le. (omega arith, (search, (can.0, (can.1, subst (IsHead c.loop-looks.self) c.in-None.is c.head-head.ensures.held))))
 
 pub drr::Deficits::turn-returns-then-passed : goal.drr::Deficits::turn-returns-then-passed
-drr::Deficits::turn-returns-then-passed g t c = search (rules, looks-below, later-passed)
+drr::Deficits::turn-returns-then-passed g t c = search (rules, looks-below, had-ended, making-passed)
 
 pub drr::Deficits::turn-pass_over_idle-looks-requires : goal.drr::Deficits::turn-pass_over_idle-looks-requires
 drr::Deficits::turn-pass_over_idle-looks-requires g t c =
     let below : c.loop-looks.looks < length c.args.self.now.row.items = looks-below c.args.self.now c.loop-looks.looks c.len-inputs.result c.loop-looks-test.true c.len-inputs.ensures in
-    subst (MayGoOn g.Q.Ask.gives c.loop-looks.nodes c.loop-looks.q c.args.node c.loop-looks.self) (ap (λ n. n - c.loop-looks.looks) (sym (drr-long c.args.self.now c.len-inputs.result c.len-inputs.ensures)))
-    (later-may g.Q.Ask.gives c.args.nodes.now c.loop-looks.nodes c.args.q.now c.loop-looks.q c.args.node c.args.self.now c.loop-looks.self 1 c.loop-looks.looks c.requires c.loop-looks.invariant.0 below)
+    record {
+      first = c.args.nodes.now;
+      before = c.args.q.now;
+      begun = c.args.self.now;
+      looks = c.loop-looks.looks;
+      can = c.requires.can_pull;
+      fits = c.requires.fits;
+      making = c.loop-looks.invariant.0;
+      within = omega (arith, below);
+    }
 
 pub drr::Deficits::turn-loop-looks-preserved-then-vain : goal.drr::Deficits::turn-loop-looks-preserved-then-vain
 drr::Deficits::turn-loop-looks-preserved-then-vain g t c =
-    let few = c.pass_over_idle-looks.ensures.few in
-    let below = c.loop-looks-test.true in
-    let long = drr-long c.args.self.now c.len-inputs.result c.len-inputs.ensures in (
-      later-past g.Q.Ask.gives c.args.nodes.now c.loop-looks.nodes c.pass_over_idle-looks.new.nodes c.args.q.now c.loop-looks.q c.args.node c.args.self.now c.loop-looks.self c.pass_over_idle-looks.new.self 1 c.loop-looks.looks c.pass_over_idle-looks.result
-          c.loop-looks.invariant.0 (omega (arith, below, few, long)) c.pass_over_idle-looks.ensures.goes_on,
+    let below : c.loop-looks.looks < length c.args.self.now.row.items = looks-below c.args.self.now c.loop-looks.looks c.len-inputs.result c.loop-looks-test.true c.len-inputs.ensures in
+    let few = c.pass_over_idle-looks.ensures.few in (
+      c.pass_over_idle-looks.ensures.goes_on c.args.nodes.now c.args.q.now c.args.self.now c.loop-looks.looks c.loop-looks.invariant.0 (omega (arith, below, few)),
       omega (arith, below, few),
     )
 
 pub drr::Deficits::turn-loop-looks-preserved : goal.drr::Deficits::turn-loop-looks-preserved
-drr::Deficits::turn-loop-looks-preserved g t c = search (rules, looks-below, later-next)
+drr::Deficits::turn-loop-looks-preserved g t c = search (rules, looks-below, making-next)
 
 pub drr::Deficits::turn-returns : goal.drr::Deficits::turn-returns
 drr::Deficits::turn-returns g t c =
-    let all : c.loop-looks.looks ≡ length c.args.self.now.row.items = let f = c.loop-looks-test.false in let m = c.loop-looks.invariant.1 in let long = drr-long c.args.self.now c.len-inputs.result c.len-inputs.ensures in omega (arith, f, m, long) in
-    later-all g.Q.Ask.gives c.args.nodes.now c.loop-looks.nodes c.args.q.now c.loop-looks.q c.args.node c.args.self.now c.loop-looks.self 1 c.loop-looks.looks c.loop-looks.invariant.0 all
-
-pub drr::Deficits::look_first-ask-got-requires : goal.drr::Deficits::look_first-ask-got-requires
-drr::Deficits::look_first-ask-got-requires g t c =
     let a = c.args.nodes.now in
     let x = c.args.node in
-    let held = drr-there a.states.items x (state-there a x _ c.requires.can_pull) c.requires.holds in
-    let at = c.turn_at-input.ensures held.0 held.1 in
-    let can = first-can g.Q.Ask.gives a c.args.q.now x held.0 c.requires.can_pull held.1 in
-    λ κs le. (omega arith, (search, (subst (λ i. CanPull a x (edges_at a.inputs.items x i)) (sym at.0) can.0, subst (λ i. IsSome (input_at a.inputs.items x i)) (sym at.0) can.1)))
-
-pub drr::Deficits::look_first-visit_at-requires-clause-room : goal.drr::Deficits::look_first-visit_at-requires-clause-room
-drr::Deficits::look_first-visit_at-requires-clause-room g t c =
-    let a = c.args.nodes.now in
-    let x = c.args.node in
-    let held = drr-there a.states.items x (state-there a x _ c.requires.can_pull) c.requires.holds in
-    asked-room g.Q.Ask.gives a c.args.q.now x held.0 c.requires.can_pull held.1 c.ask-got.new.self c.turn_at-input.result.0 (c.turn_at-input.ensures held.0 held.1).0 c.ask-got.ensures.keeps
-
-pub drr::Deficits::look_first-returns-in_default : goal.drr::Deficits::look_first-returns-in_default
-drr::Deficits::look_first-returns-in_default g t c held is =
-    first-asked g.Q.Ask.gives c.args.nodes.now c.args.q.now c.args.node held c.requires.can_pull is c.ask-got.new.self c.visit_at.new.nodes c.ask-got.new.q c.turn_at-input.result.0 c.turn_at-input.result.1 c.ask-got.result c.visit_at.result
-    (c.turn_at-input.ensures held is) c.in_default.is c.ask-got.ensures.keeps c.ask-got.ensures.asks c.ask-got.ensures.answers c.visit_at.ensures
-
-pub drr::Deficits::look_first-visit_at-requires-2-clause-room : goal.drr::Deficits::look_first-visit_at-requires-2-clause-room
-drr::Deficits::look_first-visit_at-requires-2-clause-room g t c =
-    let a = c.args.nodes.now in
-    let x = c.args.node in
-    let held = drr-there a.states.items x (state-there a x _ c.requires.can_pull) c.requires.holds in
-    held-room g.Q.Ask.gives a c.args.q.now x held.0 c.requires.can_pull held.1
-
-pub drr::Deficits::look_first-returns : goal.drr::Deficits::look_first-returns
-drr::Deficits::look_first-returns g t c held is =
-    first-held g.Q.Ask.gives c.args.nodes.now c.args.q.now c.args.node held c.requires.can_pull is c.visit_at-2.new.nodes c.turn_at-input.result.1 c.visit_at-2.result (c.turn_at-input.ensures held is).1
-    (subst (λ (o : Option Packet). IsSome o) (sym c.in-Some.is) refl) (c.visit_at-2.ensures held is)
-
-pub drr::Deficits::look_on-turn-got-requires : goal.drr::Deficits::look_on-turn-got-requires
-drr::Deficits::look_on-turn-got-requires g t c =
-    let same = ap (λ (n : Nodes). length n.inputs.items) c.take.ensures.taken in
-    λ κs le. (
-      omega (arith, same),
-      (
-        search,
-        drr.out-may g.Q.Ask.gives c.args.nodes.now c.take.new.self c.args.q.now c.args.node c.in-Drr.deficits c.deref_mut.result.now
-            (record { may = c.requires; state = c.take.ensures.state ∙ ap Some c.in-Drr.is; out = c.take.ensures.taken; is = c.deref_mut.ensures.value }),
-      ),
-    )
-
-pub drr::Deficits::look_on-put-requires : goal.drr::Deficits::look_on-put-requires
-drr::Deficits::look_on-put-requires g t c =
-    drr.out-there g.Q.Ask.gives c.args.nodes.now c.take.new.self c.args.q.now c.args.node c.in-Drr.deficits c.deref_mut.result.now
-    (record { may = c.requires; state = c.take.ensures.state ∙ ap Some c.in-Drr.is; out = c.take.ensures.taken; is = c.deref_mut.ensures.value }) c.turn-got.new.nodes c.turn-got.new.q (boxed c.in-Drr.deficits c.turn-got.new.self)
-    c.turn-got.result c.turn-got.ensures
-
-pub drr::Deficits::look_on-returns : goal.drr::Deficits::look_on-returns
-drr::Deficits::look_on-returns g t c may =
-    pulled-got c.new.ensures
-    (drr.out-pulled g.Q.Ask.gives c.args.nodes.now c.take.new.self c.args.q.now c.args.node c.in-Drr.deficits c.deref_mut.result.now
-    (record { may = may; state = c.take.ensures.state ∙ ap Some c.in-Drr.is; out = c.take.ensures.taken; is = c.deref_mut.ensures.value }) c.turn-got.new.nodes c.put.new.self c.turn-got.new.q
-    (boxed c.in-Drr.deficits c.turn-got.new.self) c.turn-got.result c.turn-got.ensures c.put.ensures)
-
-pub drr::Deficits::pull-returns-then-passed : goal.drr::Deficits::pull-returns-then-passed
-drr::Deficits::pull-returns-then-passed g t c =
-    let a = c.args.nodes.now in
-    let x = c.args.node in
-    let held = drr-there a.states.items x (state-there a x _ c.requires.can_pull) c.requires.holds in
-    pulled-got c.new.ensures
-    (first-passed g.Q.Ask.gives a c.args.q.now x held.0 c.requires.can_pull held.1 c.look_first-got.new.nodes c.look_first-got.new.q c.look_first-got.result.0 c.look_first-got.result.1 (c.look_first-got.ensures held.0 held.1) c.if-passed.true)
-
-pub drr::Deficits::pull-look_on-requires : goal.drr::Deficits::pull-look_on-requires
-drr::Deficits::pull-look_on-requires g t c =
-    let a = c.args.nodes.now in
-    let x = c.args.node in
-    let held = drr-there a.states.items x (state-there a x _ c.requires.can_pull) c.requires.holds in
-    let same = first-inputs g.Q.Ask.gives a c.args.q.now x held.0 c.requires.can_pull held.1 c.look_first-got.new.nodes c.look_first-got.new.q c.look_first-got.result.0 c.look_first-got.result.1 (c.look_first-got.ensures held.0 held.1) in
-    λ κs le. (
-      omega (arith, same),
-      (search, first-on g.Q.Ask.gives a c.args.q.now x held.0 c.requires.can_pull held.1 c.look_first-got.new.nodes c.look_first-got.new.q c.look_first-got.result.0 c.look_first-got.result.1 (c.look_first-got.ensures held.0 held.1) c.if-passed.false),
-    )
-
-pub drr::Deficits::pull-returns : goal.drr::Deficits::pull-returns
-drr::Deficits::pull-returns g t c =
-    let a = c.args.nodes.now in
-    let x = c.args.node in
-    let held = drr-there a.states.items x (state-there a x _ c.requires.can_pull) c.requires.holds in
-    c.look_on.ensures
-    (first-on g.Q.Ask.gives a c.args.q.now x held.0 c.requires.can_pull held.1 c.look_first-got.new.nodes c.look_first-got.new.q c.look_first-got.result.0 c.look_first-got.result.1 (c.look_first-got.ensures held.0 held.1) c.if-passed.false)
+    let d = c.args.self.now in
+    let all : c.loop-looks.looks ≡ length d.row.items = let f = c.loop-looks-test.false in let m = c.loop-looks.invariant.1 in omega (arith, f, m) in
+    had-ended g.Q.Ask.gives a c.loop-looks.nodes c.args.q.now c.loop-looks.q x d c.loop-looks.self None c.requires.can_pull c.requires.fits (making-all g.Q.Ask.gives a c.loop-looks.nodes c.args.q.now c.loop-looks.q x d c.loop-looks.self c.loop-looks.looks c.loop-looks.invariant.0 all)
 
 pub round_robin::Beginning::pull-ask_first-requires : goal.round_robin::Beginning::pull-ask_first-requires
 round_robin::Beginning::pull-ask_first-requires g t c =
@@ -685,6 +606,25 @@ stride::Passes::ask_first-returns g t c =
     pulled-got c.new.ensures
     (first-won g.Q.Ask.gives a c.args.q.now x held.0 c.requires.can_pull held.1 c.look.new.self c.win_first_at.new.nodes c.look.new.q c.args.input c.look.result c.in-Some.packet (c.requires.first held.0 held.1) c.in-Some.is c.look.ensures
     (c.win_first_at.ensures held.0 (c.look.ensures.keeps.ahead x (omega arith) ∙ held.1)))
+
+pub drr::Deficits::pull-turn-got-requires : goal.drr::Deficits::pull-turn-got-requires
+drr::Deficits::pull-turn-got-requires g t c =
+    let a = c.args.nodes.now in
+    let can = can-turn a c.take.new.self c.args.node (Drr c.in-Drr.deficits) c.take.ensures.taken (c.take.ensures.state ∙ ap Some c.in-Drr.is) c.requires.can_pull in
+    let same = ap (λ (n : Nodes). length n.inputs.items) c.take.ensures.taken in
+    λ κs le. (omega (arith, same), (search, (can.0, subst (λ (d : Deficits). IfSome (slice_get c.take.new.self.inputs.items c.args.node) (λ (p : Inputs). length d.row.items ≡ length p.each.items)) (sym c.deref_mut.ensures.value) can.1)))
+
+pub drr::Deficits::pull-put-requires : goal.drr::Deficits::pull-put-requires
+drr::Deficits::pull-put-requires g t c =
+    let can = can-turn c.args.nodes.now c.take.new.self c.args.node (Drr c.in-Drr.deficits) c.take.ensures.taken (c.take.ensures.state ∙ ap Some c.in-Drr.is) c.requires.can_pull in
+    let turned = c.turn-got.ensures c.in-Drr.deficits (boxed c.in-Drr.deficits c.turn-got.new.self) (sym c.deref_mut.ensures.value) refl in
+    kept-there c.take.new.self c.turn-got.new.nodes c.args.node _ _ can.0 turned.keeps
+
+pub drr::Deficits::pull-returns : goal.drr::Deficits::pull-returns
+drr::Deficits::pull-returns g t c =
+    pulled-got c.new.ensures
+    (pulled-back g.Q.Ask.gives c.args.nodes.now c.take.new.self c.turn-got.new.nodes c.put.new.self c.args.q.now c.turn-got.new.q c.args.node _ (Drr c.in-Drr.deficits) (Drr _) c.turn-got.result c.take.ensures.taken
+    (c.take.ensures.state ∙ ap Some c.in-Drr.is) c.requires.can_pull (c.turn-got.ensures c.in-Drr.deficits _ (sym c.deref_mut.ensures.value) refl) c.put.ensures)
 
 pub shaper::Bucket::pull-answer_up-requires-clause-room : goal.shaper::Bucket::pull-answer_up-requires-clause-room
 shaper::Bucket::pull-answer_up-requires-clause-room g t c =

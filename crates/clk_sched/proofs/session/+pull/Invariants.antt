@@ -2,7 +2,7 @@ use Rattle.std.proofs.Common.{if◌then◌else◌, ℕ, ◌+◌, ◌*◌, ◌-�
 use Rattle.std.specs.List.{range_with_len}
 use Rattle.clk_sched.specs.inside.Ranks.{inputs_in}
 use Rattle.clk_sched.proofs.Nodes.Asking.{IsAsking}
-use Rattle.clk_sched.proofs.Turns.FirstLook.{MakesOn}
+use Rattle.clk_sched.specs.inside.Making.{IsMaking}
 use Rattle.clk_sched.proofs.session.+pull.Given as goal
 
 -- a node is pulled before those below it, and each step of its pull before the next
@@ -45,14 +45,8 @@ decreases-round_robin::Beginning::ask_first g l = rank (length l.nodes.now.input
 abbrev pub decreases-round_robin::Beginning::ask_on : goal.decreases-round_robin::Beginning::ask_on
 decreases-round_robin::Beginning::ask_on g l = rank (length l.nodes.now.inputs.items) l.node 4
 
-abbrev pub decreases-drr::Deficits::look_first : goal.decreases-drr::Deficits::look_first
-decreases-drr::Deficits::look_first g l = rank (length l.nodes.now.inputs.items) l.node 5
-
-abbrev pub decreases-drr::Deficits::look_on : goal.decreases-drr::Deficits::look_on
-decreases-drr::Deficits::look_on g l = rank (length l.nodes.now.inputs.items) l.node 5
-
 abbrev pub decreases-drr::Deficits::pull : goal.decreases-drr::Deficits::pull
-decreases-drr::Deficits::pull g l = rank (length l.nodes.now.inputs.items) l.node 6
+decreases-drr::Deficits::pull g l = rank (length l.nodes.now.inputs.items) l.node 5
 
 abbrev pub decreases-stride::Passes::pull : goal.decreases-stride::Passes::pull
 decreases-stride::Passes::pull g l = rank (length l.nodes.now.inputs.items) l.node 6
@@ -82,4 +76,4 @@ abbrev pub decreases-drr::Deficits::turn-loop-looks : goal.decreases-drr::Defici
 decreases-drr::Deficits::turn-loop-looks g l = 2 * (l.inputs - l.looks) + (if l.vain then 1 else 0)
 
 abbrev pub invariant-drr::Deficits::turn-loop-looks : goal.invariant-drr::Deficits::turn-loop-looks
-invariant-drr::Deficits::turn-loop-looks g l = MakesOn g.Q.Ask.gives l.initial.nodes l.nodes l.initial.q l.q l.node l.initial.self l.self 1 l.looks × (l.looks ≤ l.inputs)
+invariant-drr::Deficits::turn-loop-looks g l = IsMaking g.Q.Ask.gives l.initial.nodes l.nodes l.initial.q l.q l.node l.initial.self l.self l.looks × (l.looks ≤ l.inputs)
