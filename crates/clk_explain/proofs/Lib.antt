@@ -1,1 +1,2 @@
 -- What the code meets its contracts by.
+pub mod WordLemmas

@@ -1,9 +1,9 @@
 -- What an explanation of a fault is, but for its words (this project's own choice).
-use Rattle.std.specs.Prelude.{◌≡◌, ℕ, List, ◌++◌, length, take, drop, map, replicate, codes, decimal, ◌&&◌, nat_le, if◌then◌else◌, Option, Some, None}
+use Rattle.std.specs.Prelude.{◌≡◌, ℕ, List, ◌++◌, length, take, drop, map, replicate, codes, ◌&&◌, nat_le, if◌then◌else◌, Option, Some, None}
 use Rattle.clk_packet.specs.declared.fault.Fault.{Fault}
 use Rattle.clk_packet.specs.declared.fault.Fault.TheVariants.{BadText, UnknownClass, BadArgument, NameTwice, UnknownName, BadPort, PortTwice, PortMissing, WrongKind, ManyDevices, NotATree}
 use Rattle.clk_syntax.specs.Tokens.{is_blank}
-use Rattle.clk_explain.specs.Position.{line_at, column_at, shown_before, shown_after}
+use Rattle.clk_explain.specs.Position.{line_and_column, shown_before, shown_after}
 
 -- at which byte of a tree text a fault is, if it is at one
 abbrev pub place_of : Fault → Option ℕ
@@ -30,7 +30,7 @@ line_of words = map shown words ++ codes "\n"
 
 -- LINE:COLUMN: and a sentence
 abbrev pub heading : List ℕ → ℕ → List ℕ → List ℕ
-heading text offset sentence = decimal (line_at text offset) ++ codes ":" ++ decimal (column_at text offset) ++ codes ": " ++ line_of sentence
+heading text offset sentence = line_and_column text offset ++ codes ": " ++ line_of sentence
 
 -- the line of an offset, and below it a caret at the offset
 abbrev pub source : List ℕ → ℕ → List ℕ

@@ -1,6 +1,6 @@
 -- Where an offset of a text is: its line, its column, and what of the line is shown (this project's own choice). An offset beyond the text
 -- counts as its end.
-use Rattle.std.specs.Prelude.{ℕ, ◌+◌, ◌-◌, List, length, take, drop, Bool, ◌==◌, ◌||◌, count_by}
+use Rattle.std.specs.Prelude.{ℕ, ◌+◌, ◌-◌, List, ◌++◌, length, take, drop, codes, decimal, Bool, ◌==◌, ◌||◌, count_by}
 use Rattle.std.specs.List.{before_first, after_last}
 use Rattle.clk_explain.specs.declared.limits.TheConstants.{SHOWN, SHOWN_BEFORE}
 
@@ -26,6 +26,10 @@ line_at text offset = 1 + count_by is_feed (take offset text)
 -- the column of an offset, from 1, in bytes
 abbrev pub column_at : List ℕ → ℕ → ℕ
 column_at text offset = 1 + length (line_before text offset)
+
+-- LINE:COLUMN of an offset
+abbrev pub line_and_column : List ℕ → ℕ → List ℕ
+line_and_column text offset = decimal (line_at text offset) ++ codes ":" ++ decimal (column_at text offset)
 
 -- what is shown of the line before an offset: its last bytes
 abbrev pub shown_before : List ℕ → ℕ → List ℕ

@@ -13,6 +13,6 @@ mod words;
 
 pub use examples::{explanation_examples, position_examples};
 pub use explanation::{Explanation, explain, point_out, tell};
-pub use limits::{MAX_EXPLANATION, MAX_WORDS, SHOWN, SHOWN_BEFORE};
+pub use limits::{MAX_EXPLANATION, MAX_QUOTED, MAX_WORDS, SHOWN, SHOWN_BEFORE};
 pub use position::{Position, position_of};
 pub use words::Words;

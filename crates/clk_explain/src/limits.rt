@@ -9,5 +9,8 @@ pub const SHOWN_BEFORE: usize = 80;
 /// How many bytes a line of words has at most.
 pub const MAX_WORDS: usize = 200;
 
+/// How many bytes of a word are quoted at most.
+pub const MAX_QUOTED: usize = 40;
+
 /// How many bytes an explanation has at most.
 pub const MAX_EXPLANATION: usize = 1024;

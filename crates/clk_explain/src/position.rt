@@ -40,7 +40,7 @@ pub fn shown_at(text: &[u8], offset: usize) -> (&[u8], &[u8])
 }
 
 /// What stands before an offset, and what stands from it on.
-fn parts_at(text: &[u8], offset: usize) -> (&[u8], &[u8])
+pub fn parts_at(text: &[u8], offset: usize) -> (&[u8], &[u8])
     ensures front { result.0.now ≡ take offset text.now }
     ensures back { result.1.now ≡ drop offset text.now }
     ensures few { length result.0.now ≤ offset }

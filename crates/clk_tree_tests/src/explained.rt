@@ -32,7 +32,7 @@ expected a name or '['
         "q :: Queue;\r
 \tq : Queue;\r
 ",
-        "2:4: no word or mark begins with ':'
+        "2:4: no word or mark begins here
      q : Queue;
        ^
 expected '::', ',', '->' or '['
@@ -72,6 +72,15 @@ expected a name or '['
 expected a number
 ",
     ),
+    // A comma is missing. Before the value of a keyword stands a name.
+    (
+        "h :: Shaper(1 3);",
+        "1:15: '3' can't stand here
+    h :: Shaper(1 3);
+                  ^
+expected ',' or ')'
+",
+    ),
     // Of a long line 120 bytes are shown, 80 of them before the fault. Of a long word 40 bytes are quoted.
     (
         "qqqqqqqqqqqqqqqqqqqqqqqqqqqqqqqqqqqqqqqqqqqqqqqqqqqqqqqqqqqqqqqqqqqqqqqqqqqqqqqqqqqqqqqqqqqqqqqqqqqq rrrrrrrrrrrrrrrrrrrrrrrrrrrrrrrrrrrrrrrrrrrrrrrrrr",
@@ -84,7 +93,7 @@ expected '::', ',', '->' or '['
     // A byte that is no ASCII is shown as a question mark.
     (
         "q :: \u{e9};",
-        "1:6: no word or mark begins with '?'
+        "1:6: no word or mark begins here
     q :: ??;
          ^
 expected a class

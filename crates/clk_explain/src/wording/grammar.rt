@@ -17,7 +17,7 @@ enum Broken {
     /// A feature of Click that is left out.
     LeftOut(Feature),
     /// No word and no mark begins here.
-    Byte(u8),
+    Byte,
     /// This token can't stand here.
     Token(Found),
 }
@@ -48,7 +48,7 @@ pub fn sentence(text: &[u8], offset: usize) -> Words {
         Broken::LeftOut(feature) => Words::of("Click's ")
             .and(name_of(feature))
             .and(" are left out here"),
-        Broken::Byte(byte) => Words::of("no word or mark begins with ").and_quoted(&[byte]),
+        Broken::Byte => Words::of("no word or mark begins here"),
         Broken::Token(token) => Words::of("")
             .and_quoted(letters(text, token))
             .and(" can't stand here"),
@@ -81,7 +81,7 @@ fn broken_at(text: &[u8], offset: usize) -> Broken {
     match rest {
         [0xef, 0xbb, 0xbf, ..] if token.start == 0 => Broken::ByteOrderMark,
         [b'/', b'*', ..] => Broken::OpenComment,
-        [byte, ..] => Broken::Byte(*byte),
+        [_, ..] => Broken::Byte,
         [] => Broken::End,
     }
 }
@@ -105,10 +105,7 @@ fn feature_at(text: &[u8], context: &Context, token: Found) -> Option<Feature> {
             Symbol::LeadsTo | Symbol::OpenPort => Some(Feature::DeclaredChain),
             _ => None,
         },
-        Gap::Argument => match token.symbol {
-            Symbol::Name | Symbol::Number | Symbol::OtherWord => Some(Feature::Keyword),
-            _ => None,
-        },
+        Gap::Argument => feature_after_argument(context, token.symbol),
         _ => None,
     }
 }
@@ -129,6 +126,17 @@ fn feature_after_name(text: &[u8], context: &Context, symbol: Symbol) -> Option<
         return Some(Feature::Statement);
     }
     Some(Feature::Inline)
+}
+
+/// Which feature of Click begins with an argument and a token of this symbol, if one does. A keyword argument begins with a name.
+fn feature_after_argument(context: &Context, symbol: Symbol) -> Option<Feature> {
+    if context.before?.symbol != Symbol::Name {
+        return None;
+    }
+    match symbol {
+        Symbol::Name | Symbol::Number | Symbol::OtherWord => Some(Feature::Keyword),
+        _ => None,
+    }
 }
 
 /// A feature of Click by name.
