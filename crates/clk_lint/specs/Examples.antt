@@ -27,10 +27,24 @@ plan_over inputs =
     element (sender 0) [] ∷ element (queue TailDrop 2) (0 ∷ []) ∷ element (scheduler (drr (9 ∷ []))) (1 ∷ []) ∷ element (queue TailDrop 5) []
     ∷ element (scheduler prio) inputs ∷ element (device (codes "y")) (4 ∷ []) ∷ []
 
+-- two queues, of a sender each, below a DRRSched that gives each of them 9 bytes
+abbrev pub shared : List Planned
+shared =
+    element (sender 0) [] ∷ element (sender 1) [] ∷ element (queue TailDrop 2) (0 ∷ []) ∷ element (queue TailDrop 2) (1 ∷ [])
+    ∷ element (scheduler (drr (9 ∷ []))) (2 ∷ 3 ∷ []) ∷ element (device (codes "y")) (4 ∷ []) ∷ []
+
 -- a packet of sender 0, of 9 bytes
 abbrev pub short : ℕ → Packet
 short number = packet 0 number 9 (lit≤ tt) (lit≤ tt)
 
+-- a packet of sender 1, of 10 bytes
+abbrev pub long : ℕ → Packet
+long number = packet 1 number 10 (lit≤ tt) (lit≤ tt)
+
 -- three packets of sender 0
 abbrev pub three : List (List Packet)
 three = (short 0 ∷ short 1 ∷ short 2 ∷ []) ∷ []
+
+-- a packet of 9 bytes of sender 0, and one of 10 bytes of sender 1
+abbrev pub both : List (List Packet)
+both = (short 0 ∷ []) ∷ (long 0 ∷ []) ∷ []

@@ -23,7 +23,7 @@ place_text (SmallQuantum element input quantum longest preferred) = codes " inpu
 place_text (SameStride element input other stride) = codes " input " ++ decimal input
 place_text warning = []
 
--- what a DRRSched loses that a PrioSched prefers to another input
+-- what a DRRSched may lose that a PrioSched above it prefers to another input
 abbrev pub priority_text : Bool → List ℕ
 priority_text true = codes ", and it loses its priority"
 priority_text false = []

@@ -9,9 +9,10 @@ use Rattle.clk_tree.specs.Plan.{Planned}
 use Rattle.clk_tree.specs.PlanTree.{is_device}
 use Rattle.clk_lint.specs.declared.warning.Warning.{Warning}
 use Rattle.clk_lint.specs.declared.warning.Warning.TheVariants.{SmallQuantum, SmallBurst, UnusedQueue, SameStride, OneInput, SmallQueue}
-use Rattle.clk_lint.specs.Load.{Trace, longest, burst_of}
+use Rattle.clk_lint.specs.Load.{Trace, longest_below, burst_of}
 
--- where an element stands: its place, from 0 in order of declaration, and whether a PrioSched above it prefers it to another input
+-- where an element stands: its place, from 0 in order of declaration, and whether a PrioSched prefers it, or an element that it is below,
+-- to another input
 pub record Spot : Type 0 where
   pub place : ℕ
   pub preferred : Bool
@@ -26,12 +27,13 @@ abbrev pub quantum_for : (quanta : List ℕ) → ℕ → ℕ
 quantum_for (quantum ∷ []) input = quantum
 quantum_for quanta input = quantum_at quanta input
 
--- Quanta below the longest packet, those of a DRRSched's inputs from this one on.
-abbrev pub quantum_warnings : Spot → (most : ℕ) → (quanta : List ℕ) → (input : ℕ) → (sources : List ℕ) → List Warning
-quantum_warnings at most quanta input [] = []
-quantum_warnings at most quanta input (s ∷ more) =
-    if_so (nat_lt (quantum_for quanta input) most) (SmallQuantum at.place input (quantum_for quanta input) most at.preferred)
-    ++ quantum_warnings at most quanta (input + 1) more
+-- Quanta below the longest packet that reaches their input, those of a DRRSched's inputs from this one on. `longest` is its length, by the
+-- place of the element that is connected to the input.
+abbrev pub quantum_warnings : Spot → (longest : ℕ → ℕ) → (quanta : List ℕ) → (input : ℕ) → (sources : List ℕ) → List Warning
+quantum_warnings at longest quanta input [] = []
+quantum_warnings at longest quanta input (s ∷ more) =
+    if_so (nat_lt (quantum_for quanta input) (longest s)) (SmallQuantum at.place input (quantum_for quanta input) (longest s) at.preferred)
+    ++ quantum_warnings at longest quanta (input + 1) more
 
 -- whether numbers of tickets differ, and their strides don't
 abbrev pub share_stride : ℕ → ℕ → Bool
@@ -72,18 +74,18 @@ abbrev pub sender_warnings_at : Trace → (place capacity : ℕ) → Option Plan
 sender_warnings_at trace place capacity None = []
 sender_warnings_at trace place capacity (Some e) = sender_warnings trace place capacity e.class
 
--- the warnings of a scheduler with these inputs; `most` is the length of the longest packet
-abbrev pub scheduler_warnings : Spot → (most : ℕ) → (sources : List ℕ) → Scheduler → List Warning
-scheduler_warnings at most sources (drr quanta) = quantum_warnings at most quanta 0 sources ++ lone_warnings at.place sources
-scheduler_warnings at most sources (stride tickets) = stride_warnings at.place tickets 0 tickets ++ lone_warnings at.place sources
-scheduler_warnings at most sources (shaper rate burst) = if_so (nat_lt burst rate) (SmallBurst at.place rate burst)
-scheduler_warnings at most sources s = lone_warnings at.place sources
+-- the warnings of a scheduler to which these elements are connected; `longest` is the length of the longest packet that an element sends on
+abbrev pub scheduler_warnings : Spot → (longest : ℕ → ℕ) → (sources : List ℕ) → Scheduler → List Warning
+scheduler_warnings at longest sources (drr quanta) = quantum_warnings at longest quanta 0 sources ++ lone_warnings at.place sources
+scheduler_warnings at longest sources (stride tickets) = stride_warnings at.place tickets 0 tickets ++ lone_warnings at.place sources
+scheduler_warnings at longest sources (shaper rate burst) = if_so (nat_lt burst rate) (SmallBurst at.place rate burst)
+scheduler_warnings at longest sources s = lone_warnings at.place sources
 
 -- the warnings of an element of a class, to which these elements are connected
 abbrev pub class_warnings : List Planned → Trace → Spot → (sources : List ℕ) → Class → List Warning
 class_warnings plan trace at sources (queue kind capacity) =
     unused_warnings at.place sources ++ flat_map (λ s. sender_warnings_at trace at.place capacity (slice_get plan s)) sources
-class_warnings plan trace at sources (scheduler s) = scheduler_warnings at (longest plan trace) sources s
+class_warnings plan trace at sources (scheduler s) = scheduler_warnings at (longest_below plan trace) sources s
 class_warnings plan trace at sources class = []
 
 -- whether a scheduler prefers an input to one of these, which come after it

@@ -4,7 +4,8 @@ ghost use Rattle.std.specs.Prelude.{◌≡◌, ◌∷◌, [], None, Some, true, 
 ghost use Rattle.clk_packet.specs.declared.packet.Kind.TheVariants.{TailDrop};
 ghost use Rattle.clk_packet.specs.Scheduler.{drr, prio, shaper, stride};
 ghost use Rattle.clk_syntax.specs.Classes.{queue, scheduler};
-ghost use Rattle.clk_lint.specs.Examples.{plain, plan_over, preferred, three};
+ghost use Rattle.clk_lint.specs.Examples.{both, plain, plan_over, preferred, shared, three};
+ghost use Rattle.clk_lint.specs.Load.{longest_below};
 ghost use Rattle.clk_lint.specs.Warnings.{class_warnings, warnings};
 ghost use Rattle.clk_lint.specs.declared.warning.Warning.TheVariants.{SmallQuantum, SmallBurst, UnusedQueue, SameStride, OneInput, SmallQueue};
 
@@ -28,4 +29,15 @@ pub fn plan_examples()
     ensures first { warnings (plan_over (2 ∷ 3 ∷ [])) None ≡ SmallQuantum 2 0 9 1500 true ∷ OneInput 2 ∷ UnusedQueue 3 ∷ [] }
     ensures last { warnings (plan_over (3 ∷ 2 ∷ [])) None ≡ UnusedQueue 3 ∷ SmallQuantum 2 0 9 1500 false ∷ OneInput 2 ∷ [] }
     ensures traced { warnings (plan_over (2 ∷ 3 ∷ [])) (Some three) ≡ OneInput 2 ∷ SmallQueue 1 2 0 3 ∷ UnusedQueue 3 ∷ [] }
+{}
+
+/// The longest packet that reaches each input of a DRRSched, and its warnings: a long packet of one input says nothing of another input.
+pub fn length_examples()
+    ensures short { longest_below shared (Some both) 2 ≡ 9 }
+    ensures long { longest_below shared (Some both) 3 ≡ 10 }
+    ensures all { longest_below shared (Some both) 4 ≡ 10 }
+    ensures idle { longest_below shared (Some three) 3 ≡ 0 }
+    ensures usual { longest_below shared None 2 ≡ 1500 }
+    ensures told { warnings shared (Some both) ≡ SmallQuantum 4 1 9 10 false ∷ [] }
+    ensures not_told { warnings shared (Some []) ≡ [] }
 {}

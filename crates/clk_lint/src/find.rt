@@ -25,7 +25,7 @@ pub fn warnings(alloc: Global, plan: &Plan, trace: Option<&Traces>) -> Result<Ve
     ensures warnings { IfOk result (λ found. found.items ≡ warnings plan.now (trace_of trace.entry)) }
     ensures fault { IsOkUnless result Memory }
 {
-    let judged = Judged::of(plan, trace);
+    let judged = Judged::of(alloc, plan, trace)?;
     let elements = plan.elements();
     let mut found = Vec::new(alloc);
     for place in 0..elements.len() {

@@ -11,7 +11,7 @@ mod own;
 mod shares;
 mod warning;
 
-pub use examples::{element_examples, plan_examples};
+pub use examples::{element_examples, length_examples, plan_examples};
 pub use find::warnings;
 pub use linting::lint;
 pub use load::USUAL_LENGTH;

@@ -115,7 +115,7 @@ fn push_quantum(
     push_priority(text, preferred)
 }
 
-/// Adds what a DRRSched loses that a PrioSched prefers to another input. Fault 1 if an allocation fails.
+/// Adds what a DRRSched may lose that a PrioSched above it prefers to another input. Fault 1 if an allocation fails.
 fn push_priority(text: &mut Vec<u8>, preferred: bool) -> Result<(), Fault>
     ensures said { OnOk result (text.new.items ≡ text.old.items ++ priority_text preferred) }
     ensures fault { IsOkUnless result Memory }

@@ -6,7 +6,7 @@ ghost use Rattle.clk_packet.specs.declared.fault.Fault.TheVariants.{Memory};
 ghost use Rattle.clk_packet.specs.Scheduler.{scheduler_view};
 ghost use Rattle.clk_syntax.specs.Classes.{class_view};
 ghost use Rattle.clk_lint.specs.declared.warning.Warning.TheVariants.{SmallBurst, SmallQueue};
-ghost use Rattle.clk_lint.specs.Load.{trace_of};
+ghost use Rattle.clk_lint.specs.Load.{longest_below, trace_of};
 ghost use Rattle.clk_lint.specs.inside.Kept.{plan_in, spot_of, trace_in};
 ghost use Rattle.clk_lint.specs.Warnings.{class_warnings, if_so, lone_warnings, scheduler_warnings, sender_warnings, sender_warnings_at, unused_warnings};
 
@@ -31,28 +31,26 @@ pub fn push_own(
 {
     match class {
         Class::Queue(_, capacity) => push_queue(found, judged, spot.place, *capacity, sources),
-        Class::Scheduler(scheduler) => {
-            push_scheduler(found, spot, judged.most, scheduler, sources)
-        }
+        Class::Scheduler(scheduler) => push_scheduler(found, judged, spot, scheduler, sources),
         Class::Sender(_) | Class::ToDevice(_) => Ok(()),
     }
 }
 
-/// Adds the warnings of a scheduler itself. `most` is the length of the longest packet. Fault 1 if an allocation fails.
+/// Adds the warnings of a scheduler itself. Fault 1 if an allocation fails.
 fn push_scheduler(
     found: &mut Vec<Warning>,
+    judged: &Judged<'_, '_>,
     spot: Spot,
-    most: u16,
     scheduler: &Scheduler,
     sources: &[u16],
 ) -> Result<(), Fault>
     ensures added { OnOk result (found.new.items ≡ found.old.items
-        ++ scheduler_warnings (spot_of spot) most sources.now (scheduler_view scheduler.now)) }
+        ++ scheduler_warnings (spot_of spot) (longest_below (plan_in judged.now) (trace_in judged.now)) sources.now (scheduler_view scheduler.now)) }
     ensures fault { IsOkUnless result Memory }
 {
     match scheduler {
         Scheduler::Drr(quanta) => {
-            push_quanta(found, spot, most, quanta, sources)?;
+            push_quanta(found, judged, spot, quanta, sources)?;
             push_lone(found, spot.place, sources)
         }
         Scheduler::Stride(tickets) => {

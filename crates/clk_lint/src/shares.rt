@@ -4,34 +4,37 @@ ghost use Rattle.std.specs.Prelude.{◌≡◌, ◌++◌, ◌<◌, length, take, 
 ghost use Rattle.clk_packet.specs.declared.fault.Fault.TheVariants.{Memory};
 ghost use Rattle.clk_sched.specs.Laws.Stride.{stride_of};
 ghost use Rattle.clk_lint.specs.declared.warning.Warning.TheVariants.{SmallQuantum};
-ghost use Rattle.clk_lint.specs.inside.Kept.{spot_of};
+ghost use Rattle.clk_lint.specs.Load.{longest_below};
+ghost use Rattle.clk_lint.specs.inside.Kept.{plan_in, spot_of, trace_in};
 ghost use Rattle.clk_lint.specs.Warnings.{if_so, quantum_for, quantum_warnings, share_stride, stride_warning, stride_warnings, twin_of};
 
-use crate::judged::Spot;
+use crate::judged::{Judged, Spot};
 use crate::warning::Warning;
 use clk_packet::Fault;
 
 /// The stride of one ticket.
 const GREATEST_STRIDE: u32 = 65_536;
 
-/// Adds a warning for each input of a DRRSched whose quantum is below the longest packet. Fault 1 if an allocation fails.
+/// Adds a warning for each input of a DRRSched whose quantum is below the longest packet that reaches it. Fault 1 if an allocation fails.
 pub fn push_quanta(
     found: &mut Vec<Warning>,
+    judged: &Judged<'_, '_>,
     spot: Spot,
-    longest: u16,
     quanta: &[u32],
     sources: &[u16],
 ) -> Result<(), Fault>
-    ensures added { OnOk result (found.new.items ≡ found.old.items ++ quantum_warnings (spot_of spot) longest quanta.now 0 sources.now) }
+    ensures added { OnOk result (found.new.items ≡ found.old.items
+        ++ quantum_warnings (spot_of spot) (longest_below (plan_in judged.now) (trace_in judged.now)) quanta.now 0 sources.now) }
     ensures fault { IsOkUnless result Memory }
 {
     for input in 0..sources.len() {
+        let longest = judged.longest_below(usize::from(sources[input]));
         push_quantum(found, spot, longest, input, quantum_for(quanta, input))?;
     }
     Ok(())
 }
 
-/// Adds a warning if a quantum is below the longest packet. Fault 1 if an allocation fails.
+/// Adds a warning if a quantum is below the longest packet that reaches its input. Fault 1 if an allocation fails.
 fn push_quantum(
     found: &mut Vec<Warning>,
     spot: Spot,

@@ -4,16 +4,17 @@
 /// Inputs are counted from 0.
 #[derive(Clone, Copy, Debug, PartialEq, Eq)]
 pub enum Warning {
-    /// The quantum of an input of a DRRSched is below the longest packet. A pull may then return nothing, though packets wait, while the
-    /// input saves up.
+    /// The quantum of an input of a DRRSched is below the longest packet that reaches the input. A pull may then return nothing, though
+    /// packets wait, while the input saves up.
     SmallQuantum {
         element: usize,
         input: usize,
         /// In bytes.
         quantum: u32,
-        /// The length of the longest packet, in bytes.
+        /// The length of the longest packet that reaches the input, in bytes. Without a trace it is `USUAL_LENGTH`.
         longest: u16,
-        /// Whether it loses its priority: a PrioSched above it prefers it to another input, and asks that one whenever it returns nothing.
+        /// Whether it may lose its priority: a PrioSched prefers the DRRSched, or a scheduler or Shaper that the DRRSched is below, to
+        /// another input. The PrioSched may ask that input while the DRRSched returns nothing.
         preferred: bool,
     },
     /// The burst of a Shaper is below its rate. It passes no more packets than the burst at one moment, so it never reaches the rate.

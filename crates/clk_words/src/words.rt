@@ -307,7 +307,8 @@ const CHECK_DOES: &str = "Checks a tree, and prints its canonical text";
 
 const CHECK_MORE: &str = "\
 The canonical text has a line for each element, with all its arguments, and then a line for each connection.
-Of a tree that is wrong, the fault tells the first mistake, by its offset in bytes.
+Of a tree that is wrong, the fault tells what is wrong first, in the order of checks,
+by its offset in bytes if it is at one.
 
 Example:
   clickpull check uplink.click > uplink.canonical.click";
@@ -322,8 +323,9 @@ const LINT_DOES: &str = "Warns of what a tree, or a tree and a trace, may say by
 
 const LINT_MORE: &str = "\
 A line for each warning, by its element:
-  a quantum of a DRRSched below the longest packet, of TRACE, or 1500 bytes without one; below a PrioSched that
-    prefers it to another input, the DRRSched loses its priority, since it returns nothing while it saves up
+  a quantum of a DRRSched below the longest packet that reaches the input by TRACE, or 1500 bytes without TRACE;
+    below a PrioSched that prefers it to another input, the DRRSched may lose its priority, since it may return
+    nothing while it saves up
   a burst of a Shaper below its rate
   a queue that nobody sends to
   different tickets of a StrideSched with the same stride, 65536 divided by the tickets and rounded down
