@@ -841,7 +841,9 @@ CLK_API clk_status clk_live_take(clk_live *live, uint32_t sender, clk_taken *tak
 
 /* Takes packets in one round over all senders, at most `each` from each, and offers each packet to its sender's queue. Its arguments are as
  * for clk_live_take, and so is the most that one call takes. If the call takes that many, the round ends early, and the next one starts
- * after the sender of its last packet: so each sender has its turn.
+ * after the sender of its last packet: so each sender has its turn. Otherwise, if this one took a packet, the next one starts one sender
+ * later. So none of the senders of a queue is the first in each round, but which of them gets a free place of a full queue depends on what
+ * else is taken.
  *
  * CLK_OK    at least one was taken, or `count` is 0.
  * CLK_NONE  none was taken.

@@ -219,7 +219,8 @@ public:
     }
 
     // Takes packets in one round over all senders, at most `most_each` from each; otherwise as `take`. If it takes as many as it can, the
-    // round ends early, and the next one starts after the sender of its last packet.
+    // round ends early, and the next one starts after the sender of its last packet. Otherwise, if it took a packet, the next
+    // one starts one sender later.
     template <class Each> std::size_t take_in(std::size_t most_each, std::size_t count, Each &&each) {
         return take_by(count, each, [&](clk_taken *taken, std::size_t most, std::size_t *given) {
             return clk_live_take_in(live_.c(), most_each, taken, most, given);

@@ -144,7 +144,9 @@ impl<T> LiveRouter<T> {
     }
 
     /// Takes packets in one round over all senders, at most `each` from each, as [`LiveRouter::take`] does. If it takes as many as it may, the
-    /// round ends early, and the next one starts after the sender of its last packet: so each sender has its turn.
+    /// round ends early, and the next one starts after the sender of its last packet: so each sender has its turn. Otherwise, if this one took a
+    /// packet, the next one starts one sender later. So none of the senders of a queue is the first in each round, but which of them gets a free
+    /// place of a full queue depends on what else is taken.
     pub fn take_in(&mut self, each: usize, count: usize) -> Takes<'_, T> {
         self.takes(count, |raw, places| raw.take_in(each, places)).expect("a round over all senders does not fail")
     }
@@ -204,7 +206,8 @@ impl<T> LiveRouter<T> {
 
     /// Whether every inlet was closed, and every packet that one accepted was taken. Once it is so it stays so.
     ///
-    /// A take finds out that an inlet was closed: take before you ask. It is never so while an inlet was not handed out.
+    /// A take finds out that an inlet was closed: take before you ask. [`LiveRouter::take_what_fits`] finds it out once the sender's queue has
+    /// room. It is never so while an inlet was not handed out.
     pub fn ended(&self) -> bool {
         self.raw.ended()
     }

@@ -95,6 +95,9 @@ public:
             take_some(senders_[turn_], std::min(each, most - all.size()), only_what_fits, all);
             turn_ = (turn_ + 1) % senders_.size();
         }
+        // After a round that took packets and left places free, the next one starts one sender later.
+        if (!all.empty() && all.size() < most)
+            turn_ = (turn_ + 1) % senders_.size();
         return all;
     }
 

@@ -226,7 +226,10 @@ class Model:
         return given(taken, count)
 
     def take_in(self, each: int, count: int, only_fitting: bool = False) -> Answer:
-        """Takes packets in one round over the senders. If it fills all places, the next one starts after the last packet's sender."""
+        """Takes packets in one round over the senders. If it fills all places, the next one starts after the last packet's sender.
+
+        Otherwise, if this one took a packet, the next one starts one sender later.
+        """
         if self.state != OK:
             return [self.state, 0]
         taken: list[Answer] = []
@@ -243,6 +246,8 @@ class Model:
                     break
                 taken.append(one)
             self.turn = (self.turn + 1) % len(self.lines)
+        if 0 < len(taken) < most:
+            self.turn = (self.turn + 1) % max(len(self.lines), 1)
         return given(taken, count)
 
     def take_what_fits(self, each: int, count: int) -> Answer:

@@ -298,10 +298,10 @@ round-before First Second Now setup start places each from size count next again
     by_last (Some t) e = at-last t e
 
 -- the next round starts where it should
-pub starts-next : (old new : LiveState) (places start next again from size count : ℕ) (mid filled : List Taken) → AreRising (sender_numbers old.course.setup) → places ≡ length old.outlets → length new.outlets ≡ length old.outlets → start ≡ starts_at old → start ≤ places
-    → (from < size → next ≡ places) → (count < size → again ≡ start) → from ≤ count → count ≤ size → length filled ≡ size → (from ≡ size → IsLast old.course.setup start 0 mid from next) → (count ≡ size → IsLast old.course.setup 0 from filled count again)
-    → (from ≡ size → filled ≡ mid) → next ≤ places → again ≤ start → new.turn ≡ (if nat_lt next places then next else again) → StartsNext old new size count (slice_get filled (count - 1))
-starts-next old new places start next again from size count mid filled rising many same_many start_is low first_ended second_ended up most sizes first_last second_last untouched next_low again_low turn_is = record { same = same; next = ran_out }
+pub starts-next : (old new : LiveState) (places start next again later from size count : ℕ) (mid filled : List Taken) → AreRising (sender_numbers old.course.setup) → places ≡ length old.outlets → length new.outlets ≡ length old.outlets → start ≡ starts_at old → start ≤ places
+    → (from < size → next ≡ places) → from ≤ count → count ≤ size → length filled ≡ size → (from ≡ size → IsLast old.course.setup start 0 mid from next) → (count ≡ size → IsLast old.course.setup 0 from filled count again)
+    → (from ≡ size → filled ≡ mid) → next ≤ places → again ≤ start → new.turn ≡ (if nat_lt count size then later else (if nat_lt next places then next else again)) → (count ≡ 0 → later ≡ start) → (0 < count → later ≡ start + 1) → StartsNext old new size count (slice_get filled (count - 1))
+starts-next old new places start next again later from size count mid filled rising many same_many start_is low first_ended up most sizes first_last second_last untouched next_low again_low turn_is none_is some_is = record { moves_on = moves_on; stays = stays; next = ran_out }
   where
     start_low : (start < places) ⊎ (start ≡ 0)
     start_low = by_test (nat_lt old.turn (length old.outlets)) refl
@@ -321,15 +321,44 @@ starts-next old new places start next again from size count mid filled rising ma
         by_test true = is
         by_test false = sym zero_is
 
-    turn-if : (b : Bool) → nat_lt next places ≡ b → new.turn ≡ (if b then next else again)
-    turn-if b e = turn_is ∙ ap (λ t. if t then next else again) e
+    -- the turn after a round that filled all slots
+    turn-full : count ≡ size → new.turn ≡ (if nat_lt next places then next else again)
+    turn-full full = let no : nat_lt count size ≡ false = grind (arith, nat_tests) in turn_is ∙ ap (λ t. if t then later else (if nat_lt next places then next else again)) no
 
-    same : count < size → starts_at new ≡ starts_at old
-    same fewer =
-        let whole : next ≡ places = first_ended (omega (arith, fewer, up)) in
-        let no_more : nat_lt next places ≡ false = grind (arith, nat_tests) in
-        let is : new.turn ≡ start = turn-if false no_more ∙ second_ended fewer in
-        at-turn start is start_low ∙ start_is
+    turn-if : count ≡ size → (b : Bool) → nat_lt next places ≡ b → new.turn ≡ (if b then next else again)
+    turn-if full b e = turn-full full ∙ ap (λ t. if t then next else again) e
+
+    turn-left : count < size → new.turn ≡ later
+    turn-left fewer = let yes : nat_lt count size ≡ true = grind (arith, nat_tests) in turn_is ∙ ap (λ t. if t then later else (if nat_lt next places then next else again)) yes
+
+    -- a round without slots
+    without-slots : count ≡ size → count ≡ 0 → starts_at new ≡ starts_at old
+    without-slots full none =
+        let nothing_first : from ≡ size = omega (arith, none, up, full) in
+        let nothing_second : from ≡ count = omega (arith, none, up) in
+        let next_is : next ≡ start = (first_last nothing_first).none (omega (arith, none, full, nothing_first)) in
+        let again_is : again ≡ 0 = (second_last full).none nothing_second in
+        by_start start_low next_is again_is
+      where
+        by_start : (start < places) ⊎ (start ≡ 0) → next ≡ start → again ≡ 0 → starts_at new ≡ starts_at old
+        by_start (inl lt) n a = let below : nat_lt next places ≡ true = grind (arith, nat_tests) in at-turn start (turn-if full true below ∙ n) (inl lt) ∙ start_is
+        by_start (inr z) n a = at-turn start (by_test (nat_lt next places) refl) (inr z) ∙ start_is
+          where
+            by_test : (b : Bool) → nat_lt next places ≡ b → new.turn ≡ start
+            by_test true e = turn-if full true e ∙ n
+            by_test false e = turn-if full false e ∙ a ∙ sym z
+
+    stays : count ≡ 0 → starts_at new ≡ starts_at old
+    stays none = by_slots (lt-or count size)
+      where
+        by_slots : (count < size) ⊎ (size ≤ count) → starts_at new ≡ starts_at old
+        by_slots (inl fewer) = at-turn start (turn-left fewer ∙ none_is none) start_low ∙ start_is
+        by_slots (inr all) = without-slots (omega (arith, all, most)) none
+
+    moves_on : 0 < count → count < size → starts_at new ≡ after_place (starts_at old) (length old.outlets)
+    moves_on some fewer =
+        let is : new.turn ≡ starts_at old + 1 = turn-left fewer ∙ some_is some ∙ ap (λ n. n + 1) start_is in
+        ap₂ (λ t n. if nat_lt t n then t else 0) is same_many
 
     at-last : (t : Taken) → count ≡ size → slice_get filled (count - 1) ≡ Some t → (place : ℕ) → sender_at old.course.setup place ≡ Some t.packet.sender → starts_at new ≡ after_place place (length old.outlets)
     at-last t full at place its = by_from (lt-or from count)
@@ -353,7 +382,7 @@ starts-next old new places start next again from size count mid filled rising ma
             let after : again ≡ place + 1 = (let positive = last.0 in omega (arith, here, positive)) in
             let whole : next ≡ places = first_ended (omega (arith, more, full)) in
             let no_more : nat_lt next places ≡ false = grind (arith, nat_tests) in
-            within (omega (arith, after, again_low, low)) again after (turn-if false no_more ∙ again-is (nat_lt again places) refl)
+            within (omega (arith, after, again_low, low)) again after (turn-if full false no_more ∙ again-is (nat_lt again places) refl)
           where
             again-is : (b : Bool) → nat_lt again places ≡ b → again ≡ (if b then again else 0)
             again-is true e = refl
@@ -370,7 +399,7 @@ starts-next old new places start next again from size count mid filled rising ma
             let last = (first_last filled_first).some some t at_mid in
             let here = one-place (sender_numbers old.course.setup) (next - 1) place t.packet.sender rising last.1 its in
             let after : next ≡ place + 1 = (let above = last.0 in omega (arith, here, above)) in
-            within (omega (arith, after, next_low)) next after (turn_is ∙ ap (λ n. if nat_lt next places then next else n) none)
+            within (omega (arith, after, next_low)) next after (turn-full full ∙ ap (λ n. if nat_lt next places then next else n) none)
           where
             positive : (0 < from) ⊎ (from ≤ 0) → slice_get mid (from - 1) ≡ Some t → filled ≡ mid → 0 < from
             positive (inl lt) e f = lt
@@ -385,17 +414,4 @@ starts-next old new places start next again from size count mid filled rising ma
           where
             none-filled : (0 < size) ⊎ (size ≤ 0) → starts_at new ≡ starts_at old
             none-filled (inl some) = let there = slice_get-get_or filled (count - 1) no_taken (omega (arith, some, full, sizes)) in let no : None ≡ Some (get_or filled (count - 1) no_taken) = sym e ∙ there in absurd (cc)
-            none-filled (inr none) =
-                let nothing_first : from ≡ size = omega (arith, none, up, most) in
-                let nothing_second : from ≡ count = omega (arith, none, up, full) in
-                let next_is : next ≡ start = (first_last nothing_first).none (omega (arith, none, nothing_first)) in
-                let again_is : again ≡ 0 = (second_last full).none nothing_second in
-                by_start start_low next_is again_is
-              where
-                by_start : (start < places) ⊎ (start ≡ 0) → next ≡ start → again ≡ 0 → starts_at new ≡ starts_at old
-                by_start (inl lt) n a = let below : nat_lt next places ≡ true = grind (arith, nat_tests) in at-turn start (turn-if true below ∙ n) (inl lt) ∙ start_is
-                by_start (inr z) n a = at-turn start (by_test (nat_lt next places) refl) (inr z) ∙ start_is
-                  where
-                    by_test : (b : Bool) → nat_lt next places ≡ b → new.turn ≡ start
-                    by_test true e = turn-if true e ∙ n
-                    by_test false e = turn-if false e ∙ a ∙ sym z
+            none-filled (inr none) = without-slots full (omega (arith, none, full))

@@ -103,9 +103,11 @@ abbrev pub after_place : ℕ → ℕ → ℕ
 after_place place many = if nat_lt (place + 1) many then place + 1 else 0
 
 -- After a round that filled all `places` slots, the last with `last`, the next round starts at the sender after the last packet's. After a
--- round that left slots free, the next starts where this one did.
+-- round that took packets and left slots free, the next starts one sender later than this one. After one that took none it starts where
+-- this one did.
 pub record StartsNext (old new : LiveState) (places count : ℕ) (last : Option Taken) : Type 0 where
-  pub same : count < places → starts_at new ≡ starts_at old
+  pub moves_on : 0 < count → count < places → starts_at new ≡ after_place (starts_at old) (length old.outlets)
+  pub stays : count ≡ 0 → starts_at new ≡ starts_at old
   pub next : count ≡ places → MatchOption last (starts_at new ≡ starts_at old) (λ t. (place : ℕ) → sender_at old.course.setup place ≡ Some t.packet.sender → starts_at new ≡ after_place place (length old.outlets))
 
 -- each of these packets was accepted without evicting another

@@ -19,6 +19,7 @@ impl Live {
     /// the places of their senders, as [`open`](Live::open) returned them.
     pub fn has_taken_all(&mut self, inlets: &mut [Inlet]) -> bool
         requires halves { AllZip AreHalves inlets.old self.old.outlets }
+        ensures ended { result ≡ true → AreAllEnded self.new.outlets }
         ensures taken { result ≡ true → (seen self.new).items ≡ map offered inlets.new }
         ensures no { result ≡ false → AreAllEnded self.old.outlets → ⊥ }
         ensures halves { AllZip AreHalves inlets.new self.new.outlets }
@@ -36,6 +37,8 @@ impl Live {
     /// returned them.
     pub fn is_settled(&mut self, inlets: &mut [Inlet]) -> bool
         requires halves { AllZip AreHalves inlets.old self.old.outlets }
+        ensures ended { result ≡ true → AreAllEnded self.new.outlets }
+        ensures drained { result ≡ true → IsDrained self.new.course }
         ensures outcome { result ≡ true → IsLiveOutcome self.new.course (map offered inlets.new) }
         ensures taken { result ≡ true → (seen self.new).items ≡ map offered inlets.new }
         ensures no { result ≡ false → AreAllEnded self.old.outlets → IsDrained self.old.course → ⊥ }

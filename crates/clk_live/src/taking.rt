@@ -247,6 +247,8 @@ impl Live {
 
     /// Takes packets from all inlets in one round over the senders, at most `each` from each, into the start of `taken`. Offers each to its
     /// sender's queue. Returns how many. The round ends early if `taken` is full, and the next one starts after the sender of its last packet.
+    /// Otherwise, if this one took a packet, the next one starts one sender later. So none of the senders of a queue is the first in each
+    /// round, but which of them gets a free place of a full queue depends on what else is taken.
     pub fn take_in(&mut self, each: usize, taken: &mut [Taken]) -> usize
         ensures taken { AreTaken (seen self.old) (seen self.new) taken.old taken.new result }
         ensures each { AreAtMost each (take result taken.new) }
@@ -258,8 +260,8 @@ impl Live {
         self.round(false, each, taken)
     }
 
-    /// Does what [`take_in`](Live::take_in) does, but leaves a packet in its inlet while its queue is full. So a full queue holds back its
-    /// senders: no packet is refused, and none is evicted.
+    /// Does what [`take_in`](Live::take_in) does, but leaves a packet, or the end, in its inlet while its queue is full. So a full queue
+    /// holds back its senders: no packet is refused, and none is evicted.
     pub fn take_in_fitting(&mut self, each: usize, taken: &mut [Taken]) -> usize
         ensures taken { AreTaken (seen self.old) (seen self.new) taken.old taken.new result }
         ensures each { AreAtMost each (take result taken.new) }
@@ -289,7 +291,13 @@ impl Live {
         let mut items = [NO_ITEM; RUN];
         let (count, next) = self.sweep(start, places, only_fitting, each, &mut items, taken, 0);
         let (count, again) = self.sweep(0, start, only_fitting, each, &mut items, taken, count);
-        self.turn = if next < places { next } else { again };
+        let after_last = if next < places { next } else { again };
+        let later = if count == 0 { start } else { start + 1 };
+        self.turn = if count < taken.len() {
+            later
+        } else {
+            after_last
+        };
         count
     }
 

@@ -152,6 +152,10 @@ impl Model {
             }
             self.turn = (self.turn + 1) % self.senders.len();
         }
+        // After a round that took packets and left places free, the next one starts one sender later.
+        if !taken.is_empty() && taken.len() < most {
+            self.turn = (self.turn + 1) % self.senders.len();
+        }
         taken
     }
 

@@ -54,7 +54,7 @@ pub extern "C" fn clk_raw_live_take(
 
 /// Takes packets in one round over the senders, at most `each` from each, as many as find a place, 64 at most. Offers each to its sender's
 /// queue. Fills in how many were taken, and each with its token and outcome. If the call takes as many as it may, the next round starts
-/// after the sender of its last packet.
+/// after the sender of its last packet, and otherwise, if this one took a packet, one sender later.
 #[unsafe(no_mangle)]
 pub extern "C" fn clk_raw_live_take_in(
     live: &mut LiveHandle,

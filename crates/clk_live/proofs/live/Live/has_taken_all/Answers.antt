@@ -13,12 +13,14 @@ invariant_of-self c =
     let same = taken-same i.outlets.items c.look_beside.new.outlets.items c.look_beside.ensures.popped in
     subst (λ (items : List (List Item)). IsKept i.router items i.tokens.items) (sym same) c.self.invariant
 
-pub returns-clause-taken : goal.returns-clause-taken
-returns-clause-taken c =
+pub returns-clause-ended : goal.returns-clause-ended
+returns-clause-ended c =
     let i = c.self.inside in
-    let looked = c.look_beside.new.outlets.items in
-    let ended = ended-same i.outlets.items looked c.look_beside.ensures.popped (subst (λ (l : LiveState). AreAllEnded l.outlets) (sym c.self.view_is) (c.if-not-is_ended.ensures.ended refl)) in
-    λ all. sym (all-same c.look_beside.new.inlets looked c.look_beside.ensures.met ended)
+    let ended = subst (λ (l : LiveState). AreAllEnded l.outlets) (sym c.self.view_is) (c.if-not-is_ended.ensures.ended refl) in
+    λ all. ended-same i.outlets.items c.look_beside.new.outlets.items c.look_beside.ensures.popped ended
+
+pub returns-clause-taken : goal.returns-clause-taken
+returns-clause-taken c = λ all. sym (all-same c.look_beside.new.inlets c.look_beside.new.outlets.items c.look_beside.ensures.met (returns-clause-ended c all))
 
 pub returns-clause-unchanged : goal.returns-clause-unchanged
 returns-clause-unchanged c =
