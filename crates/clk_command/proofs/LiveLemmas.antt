@@ -1,8 +1,8 @@
 -- What a run through inlets writes, and what its record means.
-use Rattle.std.proofs.Common.{◌≡◌, ◌++◌, ℕ, Bool, true, false, List, [], append-nil, append_assoc, Option, Some, None, Result, Ok, Err, IfSome, OnOk, refl, sym, ap, subst, ◌∙◌, inl, inr}
+use Rattle.std.proofs.Common.{◌≡◌, ◌⊎◌, ◌++◌, ℕ, Bool, true, false, List, [], append-nil, append_assoc, Option, Some, None, Result, Ok, Err, IfSome, OnOk, refl, sym, ap, subst, ◌∙◌, inl, inr}
 use Rattle.std.specs.Io.KnownBytes.{Appends}
 use Rattle.std.specs.List.{flat_map}
-use Rattle.std.proofs.KnownBytes.{Appends-nil, Appends-trans, Keeps-refl}
+use Rattle.std.proofs.KnownBytes.{Appends-nil, Appends-trans}
 use Rattle.clk_packet.specs.declared.fault.Fault.{Fault}
 use Rattle.clk_packet.specs.declared.fault.Fault.TheVariants.{Write}
 use Rattle.clk_packet.specs.declared.packet.Packet.{Packet}
@@ -22,7 +22,7 @@ use Rattle.clk_live_run.specs.Run.{LiveRunOf}
 use Rattle.clk_gate.specs.Known.{senders_in, first_unknown}
 use Rattle.clk_command.specs.Running.{EndsIn, HasRecord, LiveWrites, Tells}
 use Rattle.clk_command.proofs.TaskLemmas.{front-later}
-use Rattle.clk_command.specs.Tasks.{AreTogether, WroteBoth}
+use Rattle.clk_command.specs.Tasks.{AreTogether, WroteBetween, WroteBoth}
 use Rattle.clk_words.specs.declared.pace.Pace.{Pace}
 
 -- the record of what can happen over a plan, and of its closing, ends in the report of all
@@ -95,16 +95,29 @@ on-ok (Ok x) p = p
 on-ok (Err fault) p = tt
 
 -- a front of the text was written, or all of it, and no visits
-pub both-front : {T : Type 0} (Q : List ℕ → List ℕ → Type 0) (fault : Fault) (old new visits_old : Option (List ℕ)) (text visits : List ℕ) → Q text visits → fault ≡ Write → AppendsFront old new text → WroteBoth {T = T} Q old new (Err fault) visits_old visits_old
-both-front Q fault old new visits_old text visits means is front =
-    record { whole = tt; front = λ _. (text, visits, means, inl (front, Keeps-refl visits_old)); nothing = λ other. absurd (other is) }
+pub both-front : {T V : Type 0} (Q : List ℕ → List ℕ → Type 0) (fault : Fault) (old new : Option (List ℕ)) (taken : V → Option (List ℕ)) (before : V) (text visits : List ℕ) → Q text visits → fault ≡ Write → AppendsFront old new text
+    → WroteBoth {T = T} Q old new (Err fault) taken before before
+both-front Q fault old new taken before text visits means is front =
+    record { whole = tt; front = λ _. (text, visits, means, inl (front, refl)); nothing = λ other. absurd (other is) }
 
 -- the text was written, and then the visits as far as their sink took them
-pub both-last : (Q : List ℕ → List ℕ → Type 0) (result : Result (Unit {0}) Fault) (old new visits_old visits_new : Option (List ℕ)) (before after : ℕ) (text visits : List ℕ) → Q text visits → Appends old new text → Wrote visits_old visits_new before after result visits → WroteBoth Q old new result visits_old visits_new
-both-last Q (Ok x) old new visits_old visits_new before after text visits means all wrote =
+pub both-last : {V : Type 0} (Q : List ℕ → List ℕ → Type 0) (result : Result (Unit {0}) Fault) (old new : Option (List ℕ)) (taken : V → Option (List ℕ)) (before after : V) (failed fails : ℕ) (text visits : List ℕ)
+    → Q text visits → Appends old new text → Wrote (taken before) (taken after) failed fails result visits → WroteBoth Q old new result taken before after
+both-last Q (Ok x) old new taken before after failed fails text visits means all wrote =
     record { whole = (text, visits, means, all, wrote.whole); front = λ failed. absurd (cc); nothing = tt }
-both-last Q (Err fault) old new visits_old visits_new before after text visits means all wrote =
+both-last Q (Err fault) old new taken before after failed fails text visits means all wrote =
     record { whole = tt; front = λ _. (text, visits, means, inr (all, wrote.front)); nothing = λ other. absurd (other wrote.fault) }
+
+-- a script was begun after the first text, or not at all
+pub between-cut : {T R : Type 0} (script : List ℕ) (fault : Fault) (taken : R → Option (List ℕ)) (before after : R) (First Unbegun : Type 0) → AppendsFront (taken before) (taken after) script → (after ≡ before) ⊎ First → Unbegun
+    → WroteBetween {T = T} script (Err fault) taken before after First Unbegun
+between-cut script fault taken before after First Unbegun front follows unbegun = record { whole = tt; front = front; follows = follows; leads = inl unbegun }
+
+-- it was written whole, after the first text
+pub between-whole : {T R : Type 0} (script : List ℕ) (result : Result T Fault) (taken : R → Option (List ℕ)) (before after : R) (First Unbegun : Type 0) → Appends (taken before) (taken after) script → First
+    → WroteBetween script result taken before after First Unbegun
+between-whole script result taken before after First Unbegun all first =
+    record { whole = on-ok result all; front = front-whole _ _ _ all; follows = inr first; leads = inr all }
 
 -- what a run writes whose record was kept in memory, which had nothing before
 pub kept-writes : (plan : List Planned) (pace : Pace) (known : Option (List ℕ)) (traces : List (List Packet)) (course : Course) (failed : Bool) (start now : List ℕ) → start ≡ [] → failed ≡ false
@@ -116,12 +129,16 @@ kept-writes plan pace known traces course failed start now empty sound records t
     subst (λ (script : List ℕ). LiveWrites plan pace known true (ending_text course.setup (Some 0) course.events) script) (sym whole) w.1
 
 -- the report was written, its record, and then the visits to the sink of the report as far as it took them
-pub follow-last : (Q : List ℕ → List ℕ → List ℕ → Type 0) (result : Result (Unit {0}) Fault) (old mid new script_old script_new : Option (List ℕ)) (before after : ℕ) (lines text visits : List ℕ)
-    → Q lines text visits → Appends script_old script_new lines → Appends old mid text → Wrote mid new before after result visits
-    → WroteWhat (λ all. (l : List ℕ) × AreTogether (λ t rows. Q l t rows) all × OnOk result (Appends script_old script_new l) × AppendsFront script_old script_new l) result old new
-follow-last Q (Ok x) old mid new script_old script_new before after lines text visits means script all wrote =
-    let both : AreTogether (λ t rows. Q lines t rows) (text ++ visits) = record { answer = text; visits = visits; means = means; together = refl } in
-    wrote-whole _ _ _ _ (text ++ visits) (lines, both, script, front-whole _ _ _ script) (Appends-trans old mid new text visits all wrote.whole)
-follow-last Q (Err fault) old mid new script_old script_new before after lines text visits means script all wrote =
-    let both : AreTogether (λ t rows. Q lines t rows) (text ++ visits) = record { answer = text; visits = visits; means = means; together = refl } in
-    wrote-front _ _ _ _ (text ++ visits) wrote.fault (lines, both, tt, front-whole _ _ _ script) (front-later old mid new text visits all wrote.front)
+pub follow-last : {R : Type 0} (Q : List ℕ → List ℕ → List ℕ → Type 0) (result : Result (Unit {0}) Fault) (old mid new : Option (List ℕ)) (taken : R → Option (List ℕ)) (script after : R) (failed fails : ℕ) (lines text visits : List ℕ)
+    → Q lines text visits → Appends (taken script) (taken after) lines → Appends old mid text → Wrote mid new failed fails result visits
+    → WroteWhat (λ all. (l : List ℕ) × AreTogether (λ t rows. Q l t rows × WroteBetween l result taken script after ((front : List ℕ) × Appends old new (t ++ front)) (AppendsFront old new t)) all) result old new
+follow-last Q (Ok x) old mid new taken script after failed fails lines text visits means recorded all wrote =
+    let whole = Appends-trans old mid new text visits all wrote.whole in
+    wrote-whole _ _ _ _ (text ++ visits)
+    (lines, record { answer = text; visits = visits; means = (means, between-whole _ _ _ _ _ _ _ recorded (visits, whole)); together = refl })
+    whole
+follow-last Q (Err fault) old mid new taken script after failed fails lines text visits means recorded all wrote =
+    let cut = wrote.front in
+    wrote-front _ _ _ _ (text ++ visits) wrote.fault
+    (lines, record { answer = text; visits = visits; means = (means, between-whole _ _ _ _ _ _ _ recorded (cut.0, Appends-trans old mid new text cut.0 all cut.3)); together = refl })
+    (front-later old mid new text visits all cut)

@@ -1,7 +1,7 @@
 -- What is read of a tree's text, and what follows for what is done over it.
 use Rattle.std.proofs.Common.{◌+◌, ◌≡◌, ◌≢◌, if◌then◌else◌, Decides, ℕ, Bool, true, false, nat_lt, List, [], ◌++◌, append_assoc, length, take, option_map, Option, Some, None, Result, Ok, Err, IfErr, IfSome, OnOk, refl, sym, ap, subst, ◌∙◌, inl, inr, arith}
 use Rattle.std.specs.Io.KnownBytes.{Appends}
-use Rattle.std.proofs.KnownBytes.{Appends-trans, Keeps-refl}
+use Rattle.std.proofs.KnownBytes.{Appends-trans}
 use Rattle.std.proofs.lemmas.Bool.Decides.{nat_tests}
 use Rattle.std.proofs.lemmas.List.{take_all, length-take}
 use Rattle.std.proofs.lemmas.Slice.Eq.{bytes_eq-Decides}
@@ -78,22 +78,22 @@ takes-none most None = tt
 takes-none most (Some all) = ([], refl, omega arith)
 
 -- writing the text failed; `R` is what else is known of the visits
-pub both-first : {T U : Type 0} (R : List ℕ → Type 0) (Q : List ℕ → List ℕ → Type 0) (fault : Fault) (old new visits_old : Option (List ℕ))
-    → WroteWhat {T = T} (λ text. (visits : List ℕ) × R visits × Q text visits) (Err fault) old new → WroteBoth {T = U} Q old new (Err fault) visits_old visits_old
-both-first R Q fault old new visits_old w =
+pub both-first : {T U V : Type 0} (R : List ℕ → Type 0) (Q : List ℕ → List ℕ → Type 0) (fault : Fault) (old new : Option (List ℕ)) (taken : V → Option (List ℕ)) (before : V)
+    → WroteWhat {T = T} (λ text. (visits : List ℕ) × R visits × Q text visits) (Err fault) old new → WroteBoth {T = U} Q old new (Err fault) taken before before
+both-first R Q fault old new taken before w =
     record {
       whole = tt;
-      front = λ failed. let front = w.front (cc) in (front.0, front.1.0, front.1.2, inl (front.2, Keeps-refl visits_old));
-      nothing = λ other. (w.nothing other, Keeps-refl visits_old);
+      front = λ failed. let front = w.front (cc) in (front.0, front.1.0, front.1.2, inl (front.2, refl));
+      nothing = λ other. (w.nothing other, refl);
     }
 
 -- the text was written, and then the visits as far as their sink took them
-pub both-second : {T : Type 0} (Q : List ℕ → List ℕ → Type 0) (x : T) (result : Result (Unit {0}) Fault) (old new visits_old visits_new : Option (List ℕ)) (before after : ℕ) (visits : List ℕ)
-    → WroteWhat (λ text. (rows : List ℕ) × (visits ≡ rows) × Q text rows) (Ok x) old new → Wrote visits_old visits_new before after result visits → WroteBoth Q old new result visits_old visits_new
-both-second Q x (Ok y) old new visits_old visits_new before after visits w wrote =
+pub both-second : {T V : Type 0} (Q : List ℕ → List ℕ → Type 0) (x : T) (result : Result (Unit {0}) Fault) (old new : Option (List ℕ)) (taken : V → Option (List ℕ)) (before after : V) (failed fails : ℕ) (visits : List ℕ)
+    → WroteWhat (λ text. (rows : List ℕ) × (visits ≡ rows) × Q text rows) (Ok x) old new → Wrote (taken before) (taken after) failed fails result visits → WroteBoth Q old new result taken before after
+both-second Q x (Ok y) old new taken before after failed fails visits w wrote =
     let all = w.whole in
     record { whole = (all.0, visits, subst (Q all.0) (sym all.1.1) all.1.2, all.2, wrote.whole); front = λ failed. absurd (cc); nothing = tt }
-both-second Q x (Err fault) old new visits_old visits_new before after visits w wrote =
+both-second Q x (Err fault) old new taken before after failed fails visits w wrote =
     let all = w.whole in
     record {
       whole = tt;
@@ -148,6 +148,10 @@ pub out-alone : {T : Type 0} (result : Result T Fault) (follows : Bool) (P R : L
     → OnOk result ((all : List ℕ) × GoesOut follows P Q all × R all)
 out-alone (Ok x) follows P R Q is h = (h.0, goes-alone follows P Q h.0 is h.1, h.2)
 out-alone (Err fault) follows P R Q is h = tt
+
+-- what an answer and its visits mean together may be weakened
+pub together-weaker : (P Q : List ℕ → List ℕ → Type 0) (all : List ℕ) → ((text rows : List ℕ) → P text rows → Q text rows) → AreTogether P all → AreTogether Q all
+together-weaker P Q all weaker h = record { answer = h.answer; visits = h.visits; means = weaker h.answer h.visits h.means; together = h.together }
 
 -- what is written with visits is written without them too
 pub writes-over : (tree input : Option (List ℕ)) (text visits : List ℕ) → WritesWithVisits tree input text visits → WritesOver tree input text

@@ -77,13 +77,22 @@ abbrev pub LivesWithVisits : (tree trace : Option (List ℕ)) → (pace : Pace) 
 LivesWithVisits tree trace pace text lines visits =
     OverPlan tree (λ plan. LiveWrites plan pace trace true text lines × (logs : List (List Visit)) × EndsIn plan lines text logs × (visits ≡ visits_text logs))
 
--- A call writes a text and then a visit file to a sink of its own. If it succeeded, it wrote both. If a sink failed, it wrote a front of
--- the text and no visits, or the text and a front of the visits. At any other fault it wrote nothing.
-pub record WroteBoth {T : Type 0} (Means : List ℕ → List ℕ → Type 0) (old new : Option (List ℕ)) (result : Result T Fault) (visits_old visits_new : Option (List ℕ)) : Type 0 where
-  pub whole : OnOk result ((text : List ℕ) × (visits : List ℕ) × Means text visits × Appends old new text × Appends visits_old visits_new visits)
+-- A call writes a text and then a visit file to a sink of its own, of which `taken` says what it took. If it succeeded, it wrote both. If
+-- a sink failed, it wrote a front of the text and left the other sink as it was, or the text and a front of the visits. At any other fault
+-- it wrote nothing.
+pub record WroteBoth {T V : Type 0} (Means : List ℕ → List ℕ → Type 0) (old new : Option (List ℕ)) (result : Result T Fault) (taken : V → Option (List ℕ)) (before after : V) : Type 0 where
+  pub whole : OnOk result ((text : List ℕ) × (visits : List ℕ) × Means text visits × Appends old new text × Appends (taken before) (taken after) visits)
   pub front : IsErrOf result Write → (text : List ℕ) × (visits : List ℕ) × Means text visits
-      × ((AppendsFront old new text × Keeps visits_old visits_new) ⊎ (Appends old new text × AppendsFront visits_old visits_new visits))
-  pub nothing : IfErr result (λ fault. fault ≢ Write → Keeps old new × Keeps visits_old visits_new)
+      × ((AppendsFront old new text × (after ≡ before)) ⊎ (Appends old new text × AppendsFront (taken before) (taken after) visits))
+  pub nothing : IfErr result (λ fault. fault ≢ Write → Keeps old new × (after ≡ before))
+
+-- A call writes a script to a sink of its own, after a first text and before a last. If it succeeded, it wrote the script whole. The
+-- script's sink is as it was unless the first is whole (`First`), and the last isn't begun (`Unbegun`) unless the script is whole.
+pub record WroteBetween {T R : Type 0} (script : List ℕ) (result : Result T Fault) (taken : R → Option (List ℕ)) (before after : R) (First Unbegun : Type 0) : Type 0 where
+  pub whole : OnOk result (Appends (taken before) (taken after) script)
+  pub front : AppendsFront (taken before) (taken after) script
+  pub follows : (after ≡ before) ⊎ First
+  pub leads : Unbegun ⊎ Appends (taken before) (taken after) script
 
 -- The text of the built-in tree.
 abbrev pub builtin_text : List ℕ

@@ -1,6 +1,6 @@
 //! The whole program, over values that stand for standard input, output and error.
 
-ghost use Rattle.std.specs.Prelude.{◌≡◌, ◌≢◌, ◌+◌, ◌⊎◌, [], Ok, Err, None, Some, true, false, map, IfOk, IfErr, IsErr, OnOk};
+ghost use Rattle.std.specs.Prelude.{◌≡◌, ◌≢◌, ◌+◌, ◌≤◌, ◌⊎◌, [], Ok, Err, None, Some, true, false, map, IfOk, IfErr, IsErr, OnOk};
 ghost use Rattle.std.specs.String.{string_bytes};
 ghost use Rattle.std.specs.Io.KnownBytes.{Appends, Keeps};
 ghost use Rattle.clap.specs.Faults.{fault_of};
@@ -99,10 +99,14 @@ pub fn command<
         ⊎ (W.Sink.failures writer.new + E.Sink.failures errors.new ≡ write_failures result (W.Sink.failures writer.old + E.Sink.failures errors.old)))
         ⊎ ((is_explained (map string_bytes words.items) ≡ true) × IsErr result × (E.Sink.failures errors.new ≡ E.Sink.failures errors.old + 1)
         × ((W.Sink.failures writer.new ≡ W.Sink.failures writer.old) ⊎ (W.Sink.failures writer.new ≡ write_failures result (W.Sink.failures writer.old)))) }
+    // If the words are wrong or ask for help or the version, the fault is 20 exactly if `writer` or `errors` failed.
+    ensures told { (fault_of program_words (map string_bytes words.items) ≡ [] → ⊥)
+        → W.Sink.failures writer.new + E.Sink.failures errors.new ≡ write_failures result (W.Sink.failures writer.old + E.Sink.failures errors.old) }
     // If the words are right and all that is written goes to `writer`, the fault is 20 exactly if `writer` failed, whatever `errors` does.
     ensures alone { fault_of program_words (map string_bytes words.items) ≡ [] → answers_alone (task_in (map string_bytes words.items)) ≡ true
         → (MayClash (task_in (map string_bytes words.items)) → ⊥) → W.Sink.failures writer.new ≡ write_failures result (W.Sink.failures writer.old) }
-    // If there are no words, a read of `reader` failed exactly if the fault is 19. If `reader` is no input, it is unchanged.
+    // If `reader` failed, the fault is 19. If there are no words, it failed exactly if the fault is 19. If it is no input, it is unchanged.
+    ensures read { (reader.new ≡ reader.old) ⊎ (R.Source.failures reader.new ≤ read_failures result (R.Source.failures reader.old)) }
     ensures read_failures { task_in (map string_bytes words.items) ≡ builtin → R.Source.failures reader.new ≡ read_failures result (R.Source.failures reader.old) }
     ensures unread { (reads_input (task_in (map string_bytes words.items)) ≡ true) ⊎ (reader.new ≡ reader.old) }
     // At most one byte past its limit is read from `reader`.
@@ -210,6 +214,7 @@ fn perform<'a, H: Files + AllocGlobal + Threads + Wait, P: Wait + Sync, R: Sourc
         ⊎ (W.Sink.failures writer.new ≡ write_failures result (W.Sink.failures writer.old)) }
     ensures alone { answers_alone (task asked.entry) ≡ true → W.Sink.failures writer.new ≡ write_failures result (W.Sink.failures writer.old) }
     ensures read_failures { task asked.entry ≡ builtin → R.Source.failures reader.new ≡ read_failures result (R.Source.failures reader.old) }
+    ensures read { (reader.new ≡ reader.old) ⊎ (R.Source.failures reader.new ≤ read_failures result (R.Source.failures reader.old)) }
     ensures unread { (reads_input (task asked.entry) ≡ true) ⊎ (reader.new ≡ reader.old) }
     ensures limit { Takes (most_of_input (task asked.entry) + 1) (R.Source.remaining reader.old) (R.Source.remaining reader.new) }
 {

@@ -51,6 +51,9 @@ pub fn do_job<
     ensures done { OnOk result (DoesWork (work job.entry) (T.Source.remaining tree.old) (S.Source.remaining input.old) (λ text. Appends (W.Sink.taken writer.old) (W.Sink.taken writer.new) text)) }
     ensures fault { IfErr result (ExplainsWork (work job.entry) (T.Source.remaining tree.old) (S.Source.remaining input.old)) }
     ensures nothing { IfErr result (λ fault. fault ≢ Write → Keeps (W.Sink.taken writer.old) (W.Sink.taken writer.new)) }
+    // A read of one of the two failed exactly if the fault is 19.
+    ensures read_failures { T.Source.failures tree.new + S.Source.failures input.new
+        ≡ read_failures result (T.Source.failures tree.old + S.Source.failures input.old) }
     ensures write_failures { (W.Sink.failures writer.new ≡ W.Sink.failures writer.old)
         ⊎ (W.Sink.failures writer.new ≡ write_failures result (W.Sink.failures writer.old)) }
     ensures alone { writes_output_alone (work job.entry) ≡ true → W.Sink.failures writer.new ≡ write_failures result (W.Sink.failures writer.old) }
@@ -97,6 +100,9 @@ fn script_job<'a, H: Files + AllocGlobal, T: Source, S: Source, W: Sink>(
         (WritesWithVisits (T.Source.remaining tree.old) (S.Source.remaining script.old)) all × Appends (W.Sink.taken writer.old) (W.Sink.taken writer.new) all) }
     ensures fault { IfErr result (ExplainsOver (T.Source.remaining tree.old) (λ plan. ExplainsPlan plan (S.Source.remaining script.old))) }
     ensures nothing { IfErr result (λ fault. fault ≢ Write → Keeps (W.Sink.taken writer.old) (W.Sink.taken writer.new)) }
+    // A read of one of the two failed exactly if the fault is 19.
+    ensures read_failures { T.Source.failures tree.new + S.Source.failures script.new
+        ≡ read_failures result (T.Source.failures tree.old + S.Source.failures script.old) }
     ensures write_failures { (W.Sink.failures writer.new ≡ W.Sink.failures writer.old)
         ⊎ (W.Sink.failures writer.new ≡ write_failures result (W.Sink.failures writer.old)) }
     ensures alone { not (go_to_file (option_map text_of visits.entry)) ≡ true → W.Sink.failures writer.new ≡ write_failures result (W.Sink.failures writer.old) }
@@ -134,6 +140,9 @@ fn run_job<
         (ReportsWithVisits (T.Source.remaining tree.old) (S.Source.remaining trace.old) pace) all × Appends (W.Sink.taken writer.old) (W.Sink.taken writer.new) all) }
     ensures fault { IfErr result (ExplainsOver (T.Source.remaining tree.old) (λ plan. ExplainsRun plan (S.Source.remaining trace.old))) }
     ensures nothing { IfErr result (λ fault. fault ≢ Write → Keeps (W.Sink.taken writer.old) (W.Sink.taken writer.new)) }
+    // A read of one of the two failed exactly if the fault is 19.
+    ensures read_failures { T.Source.failures tree.new + S.Source.failures trace.new
+        ≡ read_failures result (T.Source.failures tree.old + S.Source.failures trace.old) }
     ensures write_failures { (W.Sink.failures writer.new ≡ W.Sink.failures writer.old)
         ⊎ (W.Sink.failures writer.new ≡ write_failures result (W.Sink.failures writer.old)) }
     ensures alone { not (go_to_file (option_map text_of visits.entry)) ≡ true → W.Sink.failures writer.new ≡ write_failures result (W.Sink.failures writer.old) }
@@ -176,6 +185,9 @@ fn live_job<
         × Appends (W.Sink.taken writer.old) (W.Sink.taken writer.new) all) }
     ensures fault { IfErr result (ExplainsOver (T.Source.remaining tree.old) (λ plan. ExplainsLive plan (S.Source.remaining trace.old) pace.limit (is_recorded (option_map text_of script.entry) (option_map text_of visits.entry)))) }
     ensures nothing { IfErr result (λ fault. fault ≢ Write → Keeps (W.Sink.taken writer.old) (W.Sink.taken writer.new)) }
+    // A read of one of the two failed exactly if the fault is 19.
+    ensures read_failures { T.Source.failures tree.new + S.Source.failures trace.new
+        ≡ read_failures result (T.Source.failures tree.old + S.Source.failures trace.old) }
     ensures write_failures { (W.Sink.failures writer.new ≡ W.Sink.failures writer.old)
         ⊎ (W.Sink.failures writer.new ≡ write_failures result (W.Sink.failures writer.old)) }
     ensures tree_limit { Takes (MAX_TREE_BYTES + 1) (T.Source.remaining tree.old) (T.Source.remaining tree.new) }
@@ -239,6 +251,9 @@ fn live_to<
     ensures written { OnOk result ((text : _) × (lines : _) × LivesOver (T.Source.remaining tree.old) (S.Source.remaining trace.old) pace recording text lines × Appends (W.Sink.taken writer.old) (W.Sink.taken writer.new) text) }
     ensures fault { IfErr result (ExplainsOver (T.Source.remaining tree.old) (λ plan. ExplainsLive plan (S.Source.remaining trace.old) pace.limit recording)) }
     ensures nothing { IfErr result (λ fault. fault ≢ Write → Keeps (W.Sink.taken writer.old) (W.Sink.taken writer.new)) }
+    // A read of one of the two failed exactly if the fault is 19.
+    ensures read_failures { T.Source.failures tree.new + S.Source.failures trace.new
+        ≡ read_failures result (T.Source.failures tree.old + S.Source.failures trace.old) }
     ensures write_failures { (W.Sink.failures writer.new ≡ W.Sink.failures writer.old)
         ⊎ (W.Sink.failures writer.new ≡ write_failures result (W.Sink.failures writer.old)) }
     ensures tree_limit { Takes (MAX_TREE_BYTES + 1) (T.Source.remaining tree.old) (T.Source.remaining tree.new) }
@@ -276,6 +291,9 @@ fn live_visits_to<
         × Appends (W.Sink.taken writer.old) (W.Sink.taken writer.new) all) }
     ensures fault { IfErr result (ExplainsOver (T.Source.remaining tree.old) (λ plan. ExplainsLive plan (S.Source.remaining trace.old) pace.limit true)) }
     ensures nothing { IfErr result (λ fault. fault ≢ Write → Keeps (W.Sink.taken writer.old) (W.Sink.taken writer.new)) }
+    // A read of one of the two failed exactly if the fault is 19.
+    ensures read_failures { T.Source.failures tree.new + S.Source.failures trace.new
+        ≡ read_failures result (T.Source.failures tree.old + S.Source.failures trace.old) }
     ensures write_failures { (W.Sink.failures writer.new ≡ W.Sink.failures writer.old)
         ⊎ (W.Sink.failures writer.new ≡ write_failures result (W.Sink.failures writer.old)) }
     ensures tree_limit { Takes (MAX_TREE_BYTES + 1) (T.Source.remaining tree.old) (T.Source.remaining tree.new) }

@@ -19,7 +19,7 @@ pub use clk_files::{Heard, Recalled, Recalls};
 pub use clk_script::run_script;
 pub use clk_words::Pace;
 pub use commands::command;
-pub use examples::{tree_examples, visits_examples};
+pub use examples::{record_examples, tree_examples, visits_examples};
 pub use faults::fault_line;
 pub use linting::{lint_over, lint_trace, lint_tree};
 pub use live::live_trace;

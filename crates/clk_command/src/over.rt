@@ -11,7 +11,7 @@ ghost use Rattle.clk_script.specs.Meaning.{ExplainsPlan, ending_text};
 ghost use Rattle.clk_script.specs.declared.limits.TheConstants.{MAX_SCRIPT_BYTES};
 ghost use Rattle.clk_syntax.specs.declared.limits.TheConstants.{MAX_TREE_BYTES};
 ghost use Rattle.clk_packet.specs.Written.{WroteWhat};
-ghost use Rattle.clk_command.specs.Tasks.{IsPlanIn, IsCanonicalOf, ExplainsTree, WritesOver, WritesWithVisits, ReportsOver, ReportsWithVisits, LivesOver, LivesWithVisits, WasTreeRead, WroteBoth, ExplainsOver};
+ghost use Rattle.clk_command.specs.Tasks.{IsPlanIn, IsCanonicalOf, ExplainsTree, WritesOver, WritesWithVisits, ReportsOver, ReportsWithVisits, LivesOver, LivesWithVisits, WasTreeRead, WroteBetween, WroteBoth, ExplainsOver};
 ghost use Rattle.clk_command.specs.Running.{ExplainsRun, ExplainsLive, HasRecord};
 
 use crate::live::{Replayed, live_trace, replayed_trace};
@@ -106,7 +106,7 @@ pub fn script_with_visits<T: Source, S: Source, W: Sink, V: Sink>(
     visits: &mut V,
 ) -> Result<(), Fault>
     ensures wrote { WroteBoth (WritesWithVisits (T.Source.remaining tree.old) (S.Source.remaining script.old))
-        (W.Sink.taken writer.old) (W.Sink.taken writer.new) result (V.Sink.taken visits.old) (V.Sink.taken visits.new) }
+        (W.Sink.taken writer.old) (W.Sink.taken writer.new) result V.Sink.taken visits.old visits.new }
     ensures fault { IfErr result (ExplainsOver (T.Source.remaining tree.old) (λ plan. ExplainsPlan plan (S.Source.remaining script.old))) }
     // A read of one of the two failed exactly if the fault is 19.
     ensures read_failures { T.Source.failures tree.new + S.Source.failures script.new
@@ -197,7 +197,7 @@ pub fn run_with_visits<H: Threads + Wait, P: Wait + Sync, T: Source, S: Source, 
     visits: &mut V,
 ) -> Result<(), Fault>
     ensures wrote { WroteBoth (ReportsWithVisits (T.Source.remaining tree.old) (S.Source.remaining trace.old) pace)
-        (W.Sink.taken writer.old) (W.Sink.taken writer.new) result (V.Sink.taken visits.old) (V.Sink.taken visits.new) }
+        (W.Sink.taken writer.old) (W.Sink.taken writer.new) result V.Sink.taken visits.old visits.new }
     ensures fault { IfErr result (ExplainsOver (T.Source.remaining tree.old) (λ plan. ExplainsRun plan (S.Source.remaining trace.old))) }
     // A read of one of the two failed exactly if the fault is 19.
     ensures read_failures { T.Source.failures tree.new + S.Source.failures trace.new
@@ -260,8 +260,10 @@ pub fn live_over<H: Threads + Wait, P: Wait + Sync, T: Source, S: Source, W: Sin
     recording: bool,
     sink: R,
 ) -> Result<R, Fault>
+    // At fault 20 the writer failed, or has the whole report.
     ensures wrote { WroteWhat (λ text. (script : _) × LivesOver (T.Source.remaining tree.old) (S.Source.remaining trace.old) pace recording text script
-        × IfOk result (λ answer. HasRecord recording false (R.Sink.taken sink) (R.Sink.taken answer) script))
+        × IfOk result (λ answer. HasRecord recording false (R.Sink.taken sink) (R.Sink.taken answer) script)
+        × ((W.Sink.failures writer.new ≡ write_failures result (W.Sink.failures writer.old)) ⊎ Appends (W.Sink.taken writer.old) (W.Sink.taken writer.new) text))
         result (W.Sink.taken writer.old) (W.Sink.taken writer.new) }
     ensures fault { IfErr result (ExplainsOver (T.Source.remaining tree.old) (λ plan. ExplainsLive plan (S.Source.remaining trace.old) pace.limit recording)) }
     // A read of one of the two failed exactly if the fault is 19.
@@ -289,8 +291,8 @@ pub fn live_over<H: Threads + Wait, P: Wait + Sync, T: Source, S: Source, W: Sin
 ///
 /// # Errors
 ///
-/// Those of `live_over` for a run that is recorded. Fault 20 also if `visits` fails, after the whole report and the whole script. At any
-/// other fault than 20 nothing is written.
+/// Those of `live_over` for a run that is recorded. Fault 20 also if `script` fails, after the whole report, or `visits`, after the whole
+/// report and the whole script. At any other fault than 20 nothing is written.
 pub fn live_with_visits<
     H: Threads + Wait,
     P: Wait + Sync,
@@ -311,9 +313,8 @@ pub fn live_with_visits<
     visits: &mut V,
 ) -> Result<(), Fault>
     ensures wrote { WroteBoth (λ text rows. (lines : _) × LivesWithVisits (T.Source.remaining tree.old) (S.Source.remaining trace.old) pace text lines rows
-        × OnOk result (Appends (R.Sink.taken script.old) (R.Sink.taken script.new) lines)
-        × AppendsFront (R.Sink.taken script.old) (R.Sink.taken script.new) lines)
-        (W.Sink.taken writer.old) (W.Sink.taken writer.new) result (V.Sink.taken visits.old) (V.Sink.taken visits.new) }
+        × WroteBetween lines result R.Sink.taken script.old script.new (Appends (W.Sink.taken writer.old) (W.Sink.taken writer.new) text) (visits.new ≡ visits.old))
+        (W.Sink.taken writer.old) (W.Sink.taken writer.new) result V.Sink.taken visits.old visits.new }
     ensures unrecorded { IfErr result (λ fault. fault ≢ Write → script.new ≡ script.old) }
     ensures fault { IfErr result (ExplainsOver (T.Source.remaining tree.old) (λ plan. ExplainsLive plan (S.Source.remaining trace.old) pace.limit true)) }
     // A read of one of the two failed exactly if the fault is 19.

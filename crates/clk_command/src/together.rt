@@ -1,6 +1,6 @@
 //! Tasks whose visits follow the answer, in the same sink.
 
-ghost use Rattle.std.specs.Prelude.{◌≡◌, ◌≢◌, ◌+◌, ◌⊎◌, true, IfErr, OnOk};
+ghost use Rattle.std.specs.Prelude.{◌≡◌, ◌≢◌, ◌+◌, ◌++◌, ◌⊎◌, true, IfErr};
 ghost use Rattle.std.specs.Io.KnownBytes.{Appends};
 ghost use Rattle.clk_packet.specs.Bytes.{AppendsFront, Takes, read_failures, write_failures};
 ghost use Rattle.clk_packet.specs.declared.limits.TheConstants.{MAX_TRACE_BYTES};
@@ -8,7 +8,7 @@ ghost use Rattle.clk_packet.specs.declared.fault.Fault.TheVariants.{Write};
 ghost use Rattle.clk_script.specs.declared.limits.TheConstants.{MAX_SCRIPT_BYTES};
 ghost use Rattle.clk_syntax.specs.declared.limits.TheConstants.{MAX_TREE_BYTES};
 ghost use Rattle.clk_packet.specs.Written.{WroteWhat};
-ghost use Rattle.clk_command.specs.Tasks.{AreTogether, LivesWithVisits, ReportsWithVisits, WasTreeRead, WritesWithVisits, ExplainsOver};
+ghost use Rattle.clk_command.specs.Tasks.{AreTogether, LivesWithVisits, ReportsWithVisits, WasTreeRead, WritesWithVisits, WroteBetween, ExplainsOver};
 ghost use Rattle.clk_script.specs.Meaning.{ExplainsPlan};
 ghost use Rattle.clk_command.specs.Running.{ExplainsRun, ExplainsLive};
 
@@ -98,9 +98,9 @@ pub fn live_then_visits<H: Threads + Wait, P: Wait + Sync, T: Source, S: Source,
     pace: Pace,
     script: &mut R,
 ) -> Result<(), Fault>
-    ensures wrote { WroteWhat (λ all. (lines : _) × AreTogether (λ text rows. LivesWithVisits (T.Source.remaining tree.old) (S.Source.remaining trace.old) pace text lines rows) all
-        × OnOk result (Appends (R.Sink.taken script.old) (R.Sink.taken script.new) lines)
-        × AppendsFront (R.Sink.taken script.old) (R.Sink.taken script.new) lines)
+    ensures wrote { WroteWhat (λ all. (lines : _) × AreTogether (λ text rows. LivesWithVisits (T.Source.remaining tree.old) (S.Source.remaining trace.old) pace text lines rows
+        × WroteBetween lines result R.Sink.taken script.old script.new ((front : _) × Appends (W.Sink.taken writer.old) (W.Sink.taken writer.new) (text ++ front))
+        (AppendsFront (W.Sink.taken writer.old) (W.Sink.taken writer.new) text)) all)
         result (W.Sink.taken writer.old) (W.Sink.taken writer.new) }
     ensures unrecorded { IfErr result (λ fault. fault ≢ Write → script.new ≡ script.old) }
     ensures fault { IfErr result (ExplainsOver (T.Source.remaining tree.old) (λ plan. ExplainsLive plan (S.Source.remaining trace.old) pace.limit true)) }

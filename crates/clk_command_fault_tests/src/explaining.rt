@@ -1,7 +1,8 @@
 //! Faults that are explained.
 
+use clk_command::command;
 use clk_command_fixtures::{AMPLE, answer, write_all};
-use clk_packet::Fault;
+use clk_packet::{FailingSink, Fault, FromRead};
 use std::alloc::{AllocError, Global};
 use std::fs;
 use std::process::Abort;
@@ -60,7 +61,7 @@ expected a link, as in 'uplink :: ToDevice(eth0);'
         "live - none.trace --explain",
         "?",
         Fault::BadText { offset: 0 },
-        "standard input:1:1: no word or mark begins with '?'
+        "standard input:1:1: no word or mark begins here
     ?
     ^
 expected a name
@@ -379,6 +380,44 @@ fn large_traces_are_explained(rt: HostRuntime) {
     let text = many(rt.alloc(), "0,1\n", 1_000_001).expect(&rt, "memory");
     let words = "live --explain out/told.click - --visits -";
     assert_explained(&rt, words, &text, Fault::TooLarge, told);
+}
+
+// A reader may keep nothing. Then all limits are told that may have been passed.
+#[test]
+fn large_texts_that_are_not_kept_are_explained(rt: HostRuntime) {
+    write_all(&rt, FILES).expect(&rt, "files");
+    let lines = many(rt.alloc(), "\n", 1_000_001).expect(&rt, "memory");
+    let told = told_unkept(&rt, &["--explain"], lines.as_bytes()).expect(&rt, "memory");
+    assert_eq!(rt;
+        told.as_slice(),
+        "standard input: the script has more than 33554432 bytes, or more than 1000000 lines\nexpected no more than that\n".as_bytes()
+    );
+    let records = many(rt.alloc(), "0,1\n", 1_000_001).expect(&rt, "memory");
+    let words = ["live", "--explain", "out/told.click", "-", "--visits", "-"];
+    let told = told_unkept(&rt, &words, records.as_bytes()).expect(&rt, "memory");
+    assert_eq!(rt;
+        told.as_slice(),
+        "the tree is too large, or the trace has more than 33554432 bytes, or more than 1000000 records, or the record of its run could have more than 1000000 lines\nexpected no more than that\n".as_bytes()
+    );
+}
+
+/// What words tell of this text, which is too large, by a reader that keeps nothing. Fault 1 if an allocation fails.
+fn told_unkept(
+    rt: &(impl Files + AllocGlobal + Threads + Wait + Sync + Abort),
+    words: &[&str],
+    text: &[u8],
+) -> Result<Vec<u8>, Fault> {
+    let alloc = rt.alloc();
+    let mut list = Vec::new(alloc);
+    for word in words {
+        list.push(String::from_str(alloc, word)?)?;
+    }
+    let mut reader = FromRead::new(text);
+    let mut writer = FailingSink::new(Vec::new(alloc));
+    let mut errors = FailingSink::new(vec![in alloc; 0; AMPLE]?);
+    let outcome = command(rt, rt, list, &mut reader, &mut writer, &mut errors);
+    assert_eq!(rt; outcome, Err(Fault::TooLarge));
+    Ok(errors.taken().to_vec(alloc)?)
 }
 
 /// So many times a text.

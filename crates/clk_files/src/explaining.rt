@@ -22,9 +22,9 @@ pub struct TaskInputs<'a> {
     pub input: Option<&'a Heard>,
 }
 
-/// Writes what explains the fault of a task: in which file and where in it, the line with a caret, what is wrong, and what was expected.
-/// The fault of a file has the system's reason. If a script or a trace wasn't kept, no line of it is shown; if a tree wasn't, nothing is
-/// written of its fault. Fault 20 if the sink fails.
+/// Writes what explains the fault of a task: what is wrong and, where that is known, in which file and where in it, the line with a
+/// caret, and what was expected. The fault of a file has the system's reason. If a script or a trace wasn't kept in memory, no line of it
+/// is shown; if a tree wasn't, nothing is written of its fault. Fault 20 if the sink fails.
 pub fn explain_fault<E: Sink>(
     alloc: Global,
     asked: Asked<'_>,
@@ -125,7 +125,19 @@ fn explain_input<E: Sink>(
             return explain_text(asked, path, &text, fault, errors);
         }
     }
-    write_at(path, ": ", &explain(&[], fault), errors)
+    // Without what was read of it, the tree may be what is too large, unless that is the built-in one.
+    let is_its_own = input.is_some() || matches!(asked, Asked::Builtin);
+    match fault {
+        Fault::TooLarge if is_its_own => {
+            let page = beyond_limits(asked, Words::of(""));
+            write_at(path, ": ", &page, errors)
+        }
+        Fault::TooLarge => {
+            let page = beyond_limits(asked, Words::of("the tree is too large, or "));
+            write_all(errors, page.as_slice())
+        }
+        _ => write_at(path, ": ", &explain(&[], fault), errors),
+    }
 }
 
 /// Explains the fault of the text of a script or a trace.
@@ -178,15 +190,18 @@ fn has_script(asked: Asked<'_>) -> bool {
 
 /// Whether the record of a run is what is too large, and not its trace.
 fn is_record(asked: Asked<'_>, trace: &[u8]) -> bool {
-    let Asked::Over {
-        job: Job::Live { record, visits, .. },
-        ..
-    } = asked
-    else {
-        return false;
-    };
-    let is_recorded = record.is_some() || visits.is_some();
-    is_recorded && trace.len() <= MAX_TRACE_BYTES && !has_too_many_records(trace)
+    may_record(asked) && trace.len() <= MAX_TRACE_BYTES && !has_too_many_records(trace)
+}
+
+/// Whether a task records a run.
+fn may_record(asked: Asked<'_>) -> bool {
+    match asked {
+        Asked::Over {
+            job: Job::Live { record, visits, .. },
+            ..
+        } => record.is_some() || visits.is_some(),
+        _ => false,
+    }
 }
 
 /// The path of the tree of a task.
@@ -274,30 +289,55 @@ fn write_failure<E: Sink>(
     write_all(errors, b"\n")
 }
 
-/// What is too large about a script or a trace, and the limit.
-fn too_large(asked: Asked<'_>, text: &[u8]) -> Explanation {
-    let (name, bytes, rows, of_rows) = if has_script(asked) {
+/// What a script or a trace may have at most: its name in a sentence, bytes, and lines or records, with the word for these.
+fn limits_of(asked: Asked<'_>) -> (&'static str, usize, usize, &'static str) {
+    if has_script(asked) {
         (
             "the script has more than ",
             MAX_SCRIPT_BYTES,
-            MAX_LINES,
+            MAX_LINES as usize,
             " lines",
         )
     } else {
         (
             "the trace has more than ",
             MAX_TRACE_BYTES,
-            MAX_RECORDS,
+            MAX_RECORDS as usize,
             " records",
         )
-    };
+    }
+}
+
+/// What is too large about a script or a trace, and the limit.
+fn too_large(asked: Asked<'_>, text: &[u8]) -> Explanation {
+    let (name, bytes, rows, of_rows) = limits_of(asked);
     let (most, unit) = if text.len() > bytes {
         (bytes, " bytes")
     } else {
-        (rows as usize, of_rows)
+        (rows, of_rows)
     };
     tell(
         &Words::of(name).and_number(most).and(unit),
         &Words::of("expected no more than that"),
     )
+}
+
+/// What may be too large about a script or a trace that wasn't kept, and the limits. `wrong` has the words before.
+fn beyond_limits(asked: Asked<'_>, wrong: Words) -> Explanation {
+    let (name, bytes, rows, of_rows) = limits_of(asked);
+    let wrong = wrong
+        .and(name)
+        .and_number(bytes)
+        .and(" bytes, or more than ")
+        .and_number(rows)
+        .and(of_rows);
+    let wrong = if may_record(asked) {
+        wrong
+            .and(", or the record of its run could have more than ")
+            .and_number(MAX_LINES as usize)
+            .and(" lines")
+    } else {
+        wrong
+    };
+    tell(&wrong, &Words::of("expected no more than that"))
 }

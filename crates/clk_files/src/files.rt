@@ -3,7 +3,7 @@
 ghost use Rattle.std.specs.Prelude.{◌≡◌, ◌≤◌, length, IfOk};
 
 use crate::heard::{Heard, Recalled};
-use clk_packet::{FromRead, ToWrite};
+use clk_packet::{FromRead, Source, ToWrite};
 use std::cell::Cell;
 use std::fs;
 use std::io::{Error, Read, Result, Write};
@@ -44,13 +44,17 @@ pub struct Opener<'a, H: Files> {
 type Text<'a, H> = Recalled<'a, FromRead<FileToRead<'a, H>>>;
 
 impl<'a, H: Files> Opener<'a, H> {
-    /// A source of the tree at a path.
-    pub fn tree_at(&self, path: &'a str) -> Text<'a, H> {
+    /// A source of the tree at a path. It has not failed yet.
+    pub fn tree_at(&self, path: &'a str) -> Text<'a, H>
+        ensures { ⟦<Recalled<'a, FromRead<FileToRead<'a, H>>> as Source>⟧.failures result ≡ 0 }
+    {
         Recalled::new(self.source(path, Purpose::Tree), self.tree)
     }
 
-    /// A source of the script or the trace at a path.
-    pub fn input_at(&self, path: &'a str) -> Text<'a, H> {
+    /// A source of the script or the trace at a path. It has not failed yet.
+    pub fn input_at(&self, path: &'a str) -> Text<'a, H>
+        ensures { ⟦<Recalled<'a, FromRead<FileToRead<'a, H>>> as Source>⟧.failures result ≡ 0 }
+    {
         Recalled::new(self.source(path, Purpose::Input), self.input)
     }
 
@@ -64,7 +68,9 @@ impl<'a, H: Files> Opener<'a, H> {
         self.sink(path, Purpose::Visits)
     }
 
-    fn source(&self, path: &'a str, purpose: Purpose) -> FromRead<FileToRead<'a, H>> {
+    fn source(&self, path: &'a str, purpose: Purpose) -> FromRead<FileToRead<'a, H>>
+        ensures { ⟦<FromRead<FileToRead<'a, H>> as Source>⟧.failures result ≡ 0 }
+    {
         FromRead::new(FileToRead {
             rt: self.rt,
             notes: self.notes(purpose),

@@ -1,7 +1,7 @@
-use Rattle.std.proofs.Common.{refl, inl, inr, arith}
+use Rattle.std.proofs.Common.{[], append-nil, refl, inl, inr, arith}
 use Rattle.std.proofs.lemmas.Result.{err_from_is_err_and}
 use Rattle.clk_packet.proofs.Callers.Written.{wrote-front}
-use Rattle.clk_command.proofs.LiveLemmas.{follow-last, front-none, front-whole}
+use Rattle.clk_command.proofs.LiveLemmas.{between-cut, follow-last, front-none, front-whole}
 use Rattle.clk_command.proofs.TaskLemmas.{front-longer}
 use Rattle.clk_command.proofs.together.live_then_visits.Goals as goal
 
@@ -9,14 +9,14 @@ pub returns-in_err-report_accounts-clause-wrote : goal.returns-in_err-report_acc
 returns-in_err-report_accounts-clause-wrote g c =
     let p = err_from_is_err_and c.from_residual-in_err-report_accounts.result c.from_residual-in_err-report_accounts.ensures.1 in
     let cut = rw c.router.ensures.course at c.in_err-report_accounts.ensures.wrote in
-    rw (p.1, p.2) (wrote-front _ _ _ _ _ cut.fault (_, record { answer = _; visits = _; means = c.in_ok-run.ensures.lives; together = refl }, tt, front-none _ _) (front-longer _ _ _ _ cut.front))
+    rw (p.1, p.2) (wrote-front _ _ _ _ _ cut.fault (_, record { answer = _; visits = _; means = (c.in_ok-run.ensures.lives, between-cut _ _ _ _ _ _ _ (front-none _ _) (inl refl) cut.front); together = refl }) (front-longer _ _ _ _ cut.front))
 
 pub returns-in_err-write_all-clause-wrote : goal.returns-in_err-write_all-clause-wrote
 returns-in_err-write_all-clause-wrote g c =
     let p = err_from_is_err_and c.from_residual-in_err-write_all.result c.from_residual-in_err-write_all.ensures.1 in
     let all = rw c.router.ensures.course at c.in_ok-report_accounts.ensures.wrote in
     let cut = rw c.deref.ensures.value at c.in_err-write_all.ensures in
-    rw (p.1, p.2) (wrote-front _ _ _ _ _ cut.fault (_, record { answer = _; visits = _; means = c.in_ok-run.ensures.lives; together = refl }, tt, cut.front) (front-longer _ _ _ _ (front-whole _ _ _ all.whole)))
+    rw (p.1, p.2) (wrote-front _ _ _ _ _ cut.fault (_, record { answer = _; visits = _; means = (c.in_ok-run.ensures.lives, between-cut _ _ _ _ _ _ _ cut.front (inr ([], rw (append-nil _) all.whole)) (front-whole _ _ _ all.whole)); together = refl }) (front-longer _ _ _ _ (front-whole _ _ _ all.whole)))
 
 pub returns-in_err-report_accounts-clause-fault : goal.returns-in_err-report_accounts-clause-fault
 returns-in_err-report_accounts-clause-fault g c =
@@ -65,4 +65,4 @@ pub returns-clause-wrote : goal.returns-clause-wrote
 returns-clause-wrote g c =
     let all = rw c.router.ensures.course at c.in_ok-report_accounts.ensures.wrote in
     let script = rw c.deref.ensures.value at c.in_ok-write_all.ensures.whole in
-    follow-last _ _ _ _ _ _ _ _ _ _ _ _ c.in_ok-run.ensures.lives script all.whole c.write.ensures
+    follow-last _ _ _ _ _ _ _ _ _ _ _ _ _ c.in_ok-run.ensures.lives script all.whole c.write.ensures
